@@ -1,0 +1,6 @@
+pub mod Closest
+pub mod Snap
+pub mod Rint
+pub mod Pack
+pub mod Fields
+pub mod Narrow

@@ -1,0 +1,3 @@
+pub mod RowWithin
+pub mod RowOfBeat
+pub mod RowsKeepOrder

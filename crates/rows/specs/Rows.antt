@@ -1,0 +1,20 @@
+-- Rows and beats, 48 rows to a beat. Definitions only.
+use lib.IntN.{ℤ, pos}
+use lib.Ieee.{Float, Format, binary32, mul, div, ofInt}
+use Rattle.ieee.specs.Rounding.{rint, hold}
+use Rattle.ieee.specs.Narrowing.{narrow}
+
+-- the row of a beat: 48 times the beat, rounded, at the width f
+abbrev pub row : Format → Float → ℤ
+row f beat = hold (rint (mul f beat (ofInt f (pos 48))))
+
+-- the beat of a row: a 48th of it, at the width f
+abbrev pub beatOf : Format → ℤ → Float
+beatOf f r = div f (ofInt f r) (ofInt f (pos 48))
+
+-- a beat moved to the nearest row: an f32 through its row and back, and an f64 by way of f32
+abbrev pub quantized32 : Float → Float
+quantized32 beat = beatOf binary32 (row binary32 beat)
+
+abbrev pub quantized : Float → Float
+quantized beat = quantized32 (narrow beat)
