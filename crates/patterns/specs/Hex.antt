@@ -1,0 +1,18 @@
+-- A number as upper-case hexadecimal digits. Definitions only.
+use Prim.Native.Nat.{ℕ, zero, suc, _+_, _-_, _*_, _%_}
+use mathlib.Core.List.{List}
+use lib.Dec.{ltb, leb}
+use lib.ListN.{getD}
+use Rattle.picks.specs.Pick.{pick}
+
+-- what a byte stands for: '0' to '9' and 'A' to 'F' are 0 to 15, and 16 says that it is no digit
+unfoldable pub hexValue : ℕ → ℕ
+hexValue byte =
+    pick (ltb byte 48) 16
+    (pick (leb byte 57) (byte - 48)
+    (pick (ltb byte 65) 16
+    (pick (leb byte 70) (byte - 55) 16)))
+
+-- the digit of a number below 16, as a byte
+unfoldable pub hexDigit : ℕ → ℕ
+hexDigit value = pick (ltb value 10) (value + 48) (value + 55)
