@@ -4,3 +4,4 @@ pub mod Rint
 pub mod Pack
 pub mod Fields
 pub mod Narrow
+pub mod NearestWhole
