@@ -5,3 +5,4 @@ pub mod Pack
 pub mod Fields
 pub mod Narrow
 pub mod NearestWhole
+pub mod Held
