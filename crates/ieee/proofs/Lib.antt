@@ -6,3 +6,6 @@ pub mod Fields
 pub mod Narrow
 pub mod NearestWhole
 pub mod Held
+pub mod Distance
+pub mod Units
+pub mod Overflow

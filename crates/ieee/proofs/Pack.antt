@@ -90,7 +90,7 @@ shape-at (suc P) k q Z hi lo = shape-is P k q hi (λ z. subst (λ (x : ℕ). 2 ^
 lt-back : (a b : ℕ) → 2 ^ a < 2 ^ b → a < b
 lt-back a b h = lt-of-not-le (λ (g : b ≤ a). not-le-of-lt h (pow-mono g))
 
-le-back : (a b : ℕ) → 2 ^ a ≤ 2 ^ b → a ≤ b
+pub le-back : (a b : ℕ) → 2 ^ a ≤ 2 ^ b → a ≤ b
 le-back a b h = le-of-suc-le-suc (lt-of-not-le (λ (g : suc b ≤ a). not-le-of-lt (pow-lt g) h))
 
 module _ (p m k q : ℕ) (P : 2 ≤ p) (M : 1 ≤ m) (hi : q ≤ 2 ^ p) (lo : 0 < k → 2 ^ (p - 1) ≤ q) where
