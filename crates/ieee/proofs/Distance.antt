@@ -16,12 +16,12 @@ use Rattle.ieee.proofs.Closest.{tri}
 
 -- ---- |±a - ±b|
 abbrev pub apart : Bool → ℕ → Bool → ℕ → ℕ
-apart s a t b = cond (Bool·beq s t) (gap a b) (a + b)
+apart s a t b = cond (Bool·beq s t) (gap b a) (a + b)
 
-abs-sub : (a b : ℕ) → natAbs (subℕ a b) ≡ gap a b
+abs-sub : (a b : ℕ) → natAbs (subℕ a b) ≡ gap b a
 abs-sub a b = go (ltb a b) (ltb→lt a b) (nltb→le a b)
   where
-    go : (t : Bool) → (T t → a < b) → (T (not t) → b ≤ a) → natAbs (cond t (negsuc (b - suc a)) (pos (a - b))) ≡ gap a b
+    go : (t : Bool) → (T t → a < b) → (T (not t) → b ≤ a) → natAbs (cond t (negsuc (b - suc a)) (pos (a - b))) ≡ gap b a
     go true l g = let h = l tt in omega arith
     go false l g = let h = g tt in omega arith
 
@@ -65,10 +65,10 @@ gap-mul a b c = elim (tri a b) [
         rw (i, m) (omega arith)
 
 apart-mul : (s : Bool) (a : ℕ) (t : Bool) (b c : ℕ) → apart s (a * c) t (b * c) ≡ apart s a t b * c
-apart-mul false a false b c = gap-mul a b c
+apart-mul false a false b c = gap-mul b a c
 apart-mul false a true b c = omega arith
 apart-mul true a false b c = omega arith
-apart-mul true a true b c = gap-mul a b c
+apart-mul true a true b c = gap-mul b a c
 
 -- ---- from num / den to a float of n units, both in units
 module _ (s : Bool) (num den L : ℕ) where
@@ -112,3 +112,17 @@ module _ (s : Bool) (num den L : ℕ) (y z : Float) (t u : Bool) (n w : ℕ) (Y 
 
   pub as-far : AsFar (fraction s num den) (valueOf y) (valueOf z) → apart s (num * L) t (n * den) ≡ apart s (num * L) u (w * den)
   as-far h = cross-eq _ _ (valueOf y .bottom) (valueOf z .bottom) L _ _ (bottom-pos y) (bottom-pos z) (to-units s num den L y t n Y) (to-units s num den L z u w Z) h
+
+-- ---- the nearest by size alone is the nearest, whatever the others' signs are
+pub apart-least : (s t : Bool) (x y z : ℕ) → gap y x ≤ gap z x → gap y x ≤ x → apart s x s y ≤ apart s x t z
+apart-least false false x y z h k = h
+apart-least false true x y z h k = le-trans k (le-add-right x z)
+apart-least true false x y z h k = le-trans k (le-add-right x z)
+apart-least true true x y z h k = h
+
+-- and one that is as near has the same sign, or is 0
+pub apart-tie : (s t : Bool) (x y z : ℕ) → gap y x ≤ x → apart s x s y ≡ apart s x t z → ((t ≡ s) × (gap y x ≡ gap z x)) ⊎ ((z ≡ 0) × (gap y x ≡ x))
+apart-tie false false x y z k e = inl (refl, e)
+apart-tie false true x y z k e = inr (omega arith, omega arith)
+apart-tie true false x y z k e = inr (omega arith, omega arith)
+apart-tie true true x y z k e = inl (refl, e)

@@ -9,3 +9,4 @@ pub mod Held
 pub mod Distance
 pub mod Units
 pub mod Overflow
+pub mod NearestValue

@@ -11,10 +11,11 @@ use lib.Pow.{pow-add, pow-pos, pow-mono, pow-lt}
 use lib.Ieee.{Float, nan, inf, fin, Format, binary32, binary64, prec, emax, low, hid, ones, top, up, down, size, nearest, odd, units, round, toBits, ofBits}
 use lib.Ieee.Digits.{size-lt, size-le, size-reaches}
 use lib.Ieee.Fits.{round-is, round-fits, two, reach, kept-lt, nearest-le, down-pos}
-use lib.Ieee.Exact.{HasValue, odd-sign}
+use lib.Ieee.Exact.{HasValue, units-val}
 use lib.Ieee.Bits.{ofBits-toBits}
 use lib.Ieee.Nearest.{closest, nearest-ge}
 use lib.Ieee.Order.{drop, kept}
+use borrow.Author.Tests.{le-ltb}
 use Rattle.ieee.proofs.Closest.{tri}
 use Rattle.ieee.proofs.Snap.{size-gt}
 
@@ -151,20 +152,24 @@ module _ (f : Format) (num den : ℕ) where
       let a : 2 ^ (prec f - 1) * 2 ^ dropped ≤ w = le-trans (le-of-eq (sym (pow-add 2 (prec f - 1) dropped))) (size-reaches w (prec f - 1 + dropped) (omega arith)) in
       le-trans (subst (λ (x : ℕ). 2 ^ (prec f - 1) ≤ x) (div-div-eq-div-mul n den (2 ^ dropped)) (le-div-iff-mul-le (pow-pos dropped) .1 a)) (nearest-ge (n / u) (compare (n % u * 2) u))
 
+  pub pattern-below : (s : Bool) → held * 2 ^ dropped < 2 ^ (low f + suc (emax f)) → toBits f (round f s num den) ≡ cond s (top f) 0 + (dropped * hid f + held)
+  pattern-below s h =
+      ap (toBits f) (round-is f s num den)
+      ∙ toBits-of f (units f s held dropped) s (held * 2 ^ dropped) (units-val f s held dropped h)
+      ∙ ap (λ (x : ℕ). cond s (top f) 0 + x) (shape-at (prec f) dropped held (omega (arith, two f)) held-le held-ge)
+
   pattern : (s : Bool) → toBits f (round f s num den) ≡ cond s (top f) 0 + min (dropped * hid f + held) (ones f * hid f)
   unfolding units toBits
-  pattern s =
-      let e = 2 ^ (low f + suc (emax f)) in
-      ap (toBits f) (round-is f s num den) ∙ go (ltb (held * 2 ^ dropped) e) (ltb→lt (held * 2 ^ dropped) e) (nltb→le (held * 2 ^ dropped) e)
-    where
-      go : (b : Bool) → (T b → held * 2 ^ dropped < 2 ^ (low f + suc (emax f))) → (T (not b) → 2 ^ (low f + suc (emax f)) ≤ held * 2 ^ dropped)
-          → toBits f (cond b (odd (suc (prec f)) s held dropped (low f)) (inf s)) ≡ cond s (top f) 0 + min (dropped * hid f + held) (ones f * hid f)
-      go true a b =
-          toBits-of f (odd (suc (prec f)) s held dropped (low f)) s (held * 2 ^ dropped) (odd-sign (suc (prec f)) s held dropped (low f))
-          ∙ ap (λ (x : ℕ). cond s (top f) 0 + x)
-          (shape-at (prec f) dropped held (omega (arith, two f)) held-le held-ge
-          ∙ sym (min-eq-left (in-range (prec f) (emax f) dropped held (two f) (omega (arith, two f, reach f)) held-le held-ge (a tt))))
-      go false a b = ap (λ (x : ℕ). cond s (top f) 0 + x) (sym (min-eq-right (past-range (prec f) (emax f) dropped held (two f) (omega (arith, two f, reach f)) held-le held-ge (b tt))))
+  pattern s = elim (tri (held * 2 ^ dropped) (2 ^ (low f + suc (emax f)))) [
+    | inl l ↦
+        pattern-below s l
+        ∙ ap (λ (x : ℕ). cond s (top f) 0 + x) (sym (min-eq-left (in-range (prec f) (emax f) dropped held (two f) (omega (arith, two f, reach f)) held-le held-ge l)))
+    | inr g ↦
+        let past : 2 ^ (low f + suc (emax f)) ≤ held * 2 ^ dropped = elim g [ inl e ↦ le-of-eq (sym e) | inr l ↦ le-of-lt l ] in
+        ap (toBits f) (round-is f s num den)
+        ∙ ap (λ (b : Bool). toBits f (cond b (odd (suc (prec f)) s held dropped (low f)) (inf s))) (le-ltb (held * 2 ^ dropped) (2 ^ (low f + suc (emax f))) past)
+        ∙ ap (λ (x : ℕ). cond s (top f) 0 + x) (sym (min-eq-right (past-range (prec f) (emax f) dropped held (two f) (omega (arith, two f, reach f)) held-le held-ge past)))
+  ]
 
   -- so the pattern stands for the rounded value
   pub packed : (s : Bool) → ofBits f (cond s (top f) 0 + min (dropped * hid f + held) (ones f * hid f)) ≡ round f s num den
