@@ -10,3 +10,4 @@ pub mod Distance
 pub mod Units
 pub mod Overflow
 pub mod NearestValue
+pub mod Convert

@@ -1,6 +1,6 @@
 -- `round` delivers what IEEE 754 says (4.3.1, roundTiesToEven): the nearest value of the format, a tie to the one with an even last digit, an infinity from 2 ^ emax * (2 - 2 ^ -prec) on, and the sign. Over the format. Assumes nothing.
 use mathlib.Core.Path.{_≡_, refl, sym, ap, _∙_, subst}
-use mathlib.Core.Logic.{_⊎_, _≢_, inl, inr}
+use mathlib.Core.Logic.{_⊎_, _≢_, _↔_, inl, inr}
 use Prim.Native.Nat.{ℕ, suc, _+_, _-_, _*_, _/_, _%_, _^_, _≤_, _<_}
 use native.Mathlib.Nat.{le-refl, le-trans, le-of-eq, le-of-lt, lt-of-lt-of-le, lt-of-le-of-lt, lt-of-not-le, mul-pos, mul-assoc, mul-le-mul-right, mul-lt-mul-of-pos-right, le-div-iff-mul-le, eq-of-mul-eq-mul-right, zero-mul, pow-suc}
 use native.Mathlib.Omega.{arith}
@@ -166,3 +166,13 @@ round-ties-to-even f s num den D =
       infinite = λ h. round-past f s num den (overflows-past f num den D h);
       sign = round-sign f s num den;
     }
+
+-- an infinity just where the number is that large
+pub round-infinite : (f : Format) (s : Bool) (num den : ℕ) → 0 < den → (round f s num den ≡ inf s) ↔ Overflows f num den
+round-infinite f s num den D = (back, round-ties-to-even f s num den D .infinite)
+  where
+    back : round f s num den ≡ inf s → Overflows f num den
+    back e = elim (tri (grid f num den) (overflow f)) [
+      | inl l ↦ absurd (subst (λ (y : Float). HasValue y s (grid f num den) (2 ^ low f)) e (round-units f s num den l))
+      | inr g ↦ past-overflows f num den D (elim g [ inl i ↦ le-of-eq (sym i) | inr l ↦ le-of-lt l ])
+    ]
