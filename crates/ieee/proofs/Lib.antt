@@ -11,3 +11,4 @@ pub mod Units
 pub mod Overflow
 pub mod NearestValue
 pub mod Convert
+pub mod NearestValueUnique

@@ -2,7 +2,7 @@
 use mathlib.Core.Path.{_≡_, refl, sym, ap, _∙_, subst}
 use mathlib.Core.Logic.{_⊎_, _≢_, _↔_, inl, inr}
 use Prim.Native.Nat.{ℕ, suc, _+_, _-_, _*_, _/_, _%_, _^_, _≤_, _<_}
-use native.Mathlib.Nat.{le-refl, le-trans, le-of-eq, le-of-lt, lt-of-lt-of-le, lt-of-le-of-lt, lt-of-not-le, mul-pos, mul-assoc, mul-le-mul-right, mul-lt-mul-of-pos-right, le-div-iff-mul-le, eq-of-mul-eq-mul-right, zero-mul, pow-suc}
+use native.Mathlib.Nat.{le-refl, le-trans, le-of-eq, le-of-lt, lt-of-lt-of-le, lt-of-le-of-lt, lt-of-not-le, lt-irrefl, mul-pos, mul-assoc, mul-le-mul-right, mul-lt-mul-of-pos-right, le-div-iff-mul-le, eq-of-mul-eq-mul-right, zero-mul, pow-suc}
 use native.Mathlib.Omega.{arith}
 use mathlib.Core.Bool.{Bool, true, false, not, _&&_, _||_, Bool·beq, cond}
 use lib.Dec.{T, eqb}
@@ -16,7 +16,7 @@ use Rattle.ieee.specs.Nearest.{gap, NearestWhole, fraction, valueOf, AsF
 use Rattle.ieee.proofs.Closest.{tri}
 use Rattle.ieee.proofs.NearestWhole.{closest-nearest, none-nearer, even-of-tie}
 use Rattle.ieee.proofs.Distance.{apart-least, apart-tie, no-farther, as-far}
-use Rattle.ieee.proofs.Pack.{dropped, held, pattern-below}
+use Rattle.ieee.proofs.Pack.{dropped, held, held-le, held-ge, pattern-of}
 use Rattle.ieee.proofs.Units.{in-units, round-units, round-past, round-sign}
 use Rattle.ieee.proofs.Overflow.{past-overflows, overflows-past}
 
@@ -25,46 +25,62 @@ record Beats (n den u kept w : ℕ) : Type 0 where
   near : gap (kept * u * den) n ≤ gap (w * den) n
   tie : w ≢ kept * u → gap (kept * u * den) n ≡ gap (w * den) n → kept % 2 ≡ 0
 
-module _ (n den u kept : ℕ) (nearest : NearestWhole n (den * u) kept) where
-  flat : (c : ℕ) → c * (den * u) ≡ c * u * den
-  flat c = omega arith
+pub by-steps : (den u c : ℕ) → c * (den * u) ≡ c * u * den
+by-steps den u c = omega arith
 
-  -- a whole number of steps
+module _ (n den u kept : ℕ) (nearest : NearestWhole n (den * u) kept) where
   beats-step : (c : ℕ) → Beats n den u kept (c * u)
   beats-step c =
       record {
-        near = rw (flat kept, flat c) at (none-nearer n (den * u) kept c nearest);
-        tie = λ d e. even-of-tie n (den * u) kept c nearest (λ i. d (ap (λ (x : ℕ). x * u) i)) (rw (flat kept, flat c) e);
+        near = rw (by-steps den u kept, by-steps den u c) at (none-nearer n (den * u) kept c nearest);
+        tie = λ d e. even-of-tie n (den * u) kept c nearest (λ i. d (ap (λ (x : ℕ). x * u) i)) (rw (by-steps den u kept, by-steps den u c) e);
       }
 
-  -- one that c steps part from the fraction
-  beats-lower : (c w : ℕ) → 0 < den → w < c * u → c * u * den ≤ n → Beats n den u kept w
-  beats-lower c w D l h =
+  -- past c steps, seen from the fraction
+  farther : (c w : ℕ) → 0 < den → w < c * u → c * u * den ≤ n → gap (kept * u * den) n < gap (w * den) n
+  farther c w D l h =
       let a = beats-step c .near in
       let b = mul-lt-mul-of-pos-right l D in
       let less : gap (c * u * den) n < gap (w * den) n = omega arith in
-      record { near = omega arith; tie = λ d e. absurd (omega arith) }
+      omega arith
 
 module _ (f : Format) (num den : ℕ) (D : 0 < den) where
-  -- every value of f is one or the other
-  beats : (q j : ℕ) → q < 2 ^ prec f → Beats (num * 2 ^ low f) den (2 ^ dropped f num den) (held f num den) (q * 2 ^ j)
-  beats q j few =
-      let n = num * 2 ^ low f in
+  pub steps-nearest : NearestWhole (num * 2 ^ low f) (den * 2 ^ dropped f num den) (held f num den)
+  steps-nearest = closest-nearest (num * 2 ^ low f) (den * 2 ^ dropped f num den) (mul-pos D (pow-pos (dropped f num den)))
+
+  -- where digits are dropped, the fraction has all that the format keeps
+  pub full : 0 < dropped f num den → 2 ^ (prec f - 1) * 2 ^ dropped f num den * den ≤ num * 2 ^ low f
+  full K =
+      let p = prec f - 1 in
       let k = dropped f num den in
-      let nearest = closest-nearest n (den * 2 ^ k) (mul-pos D (pow-pos k)) in
+      let t = two f in
+      le-trans (le-of-eq (ap (λ (x : ℕ). x * den) (sym (pow-add 2 p k)))) (le-div-iff-mul-le D .0 (size-reaches (num * 2 ^ low f / den) (p + k) (omega arith)))
+
+  -- so a value of f is a whole number of steps, or it has fewer digits dropped, and is farther away
+  pub step-or-farther : (q j : ℕ) → q < 2 ^ prec f
+      → ((c : ℕ) × (q * 2 ^ j ≡ c * 2 ^ dropped f num den)) ⊎ (gap (held f num den * 2 ^ dropped f num den * den) (num * 2 ^ low f) < gap (q * 2 ^ j * den) (num * 2 ^ low f))
+  step-or-farther q j few =
+      let k = dropped f num den in
       elim (tri j k) [
         | inl l ↦
             let p = prec f - 1 in
             let t = two f in
             let a : q * 2 ^ j < 2 ^ p * 2 ^ k =
             lt-of-lt-of-le (mul-lt-mul-of-pos-right few (pow-pos j)) (le-trans (le-of-eq (sym (pow-add 2 (prec f) j))) (le-trans (pow-mono {j = p + k} (omega arith)) (le-of-eq (pow-add 2 p k)))) in
-            let b : 2 ^ p * 2 ^ k * den ≤ n = le-trans (le-of-eq (ap (λ (x : ℕ). x * den) (sym (pow-add 2 p k)))) (le-div-iff-mul-le D .0 (size-reaches (n / den) (p + k) (omega arith))) in
-            beats-lower n den (2 ^ k) (held f num den) nearest (2 ^ p) (q * 2 ^ j) D a b
+            inr (farther (num * 2 ^ low f) den (2 ^ k) (held f num den) steps-nearest (2 ^ p) (q * 2 ^ j) D a (full (omega arith)))
         | inr g ↦
             let l : k ≤ j = elim g [ inl e ↦ le-of-eq (sym e) | inr x ↦ le-of-lt x ] in
             let i : j - k + k ≡ j = omega arith in
-            let e : q * 2 ^ (j - k) * 2 ^ k ≡ q * 2 ^ j = mul-assoc q (2 ^ (j - k)) (2 ^ k) ∙ ap (λ (x : ℕ). q * x) (sym (pow-add 2 (j - k) k) ∙ ap (λ (x : ℕ). 2 ^ x) i) in
-            subst (λ (w : ℕ). Beats n den (2 ^ k) (held f num den) w) e (beats-step n den (2 ^ k) (held f num den) nearest (q * 2 ^ (j - k)))
+            inl (q * 2 ^ (j - k), ap (λ (x : ℕ). q * x) (ap (λ (x : ℕ). 2 ^ x) (sym i) ∙ pow-add 2 (j - k) k) ∙ sym (mul-assoc q (2 ^ (j - k)) (2 ^ k)))
+      ]
+
+  beats : (q j : ℕ) → q < 2 ^ prec f → Beats (num * 2 ^ low f) den (2 ^ dropped f num den) (held f num den) (q * 2 ^ j)
+  beats q j few =
+      let n = num * 2 ^ low f in
+      let u = 2 ^ dropped f num den in
+      elim (step-or-farther q j few) [
+        | inl c ↦ subst (λ (w : ℕ). Beats n den u (held f num den) w) (sym (c .1)) (beats-step n den u (held f num den) steps-nearest (c .0))
+        | inr l ↦ record { near = le-of-lt l; tie = λ d e. absurd (lt-irrefl _ (subst (λ (x : ℕ). x < gap (q * 2 ^ j * den) n) e l)) }
       ]
 
 -- ---- the last digit
@@ -72,14 +88,13 @@ even-fields : (s : Bool) (g o k q : ℕ) → (cond s (g * 2 * suc o) 0 + (k * (g
 even-fields true g o k q = omega arith
 even-fields false g o k q = omega arith
 
-pub last-digit : (f : Format) (s : Bool) (num den : ℕ) → grid f num den < overflow f → toBits f (round f s num den) % 2 ≡ held f num den % 2
-last-digit f s num den h =
+pub last-digit : (f : Format) (y : Float) (s : Bool) (q k : ℕ) → HasValue y s (q * 2 ^ k) (2 ^ low f) → q ≤ 2 ^ prec f → (0 < k → 2 ^ (prec f - 1) ≤ q) → toBits f y % 2 ≡ q % 2
+last-digit f y s q k v hi lo =
     let t = two f in
     let i : suc (prec f - 2) ≡ prec f - 1 = omega arith in
     let g : 2 ^ (prec f - 2) * 2 ≡ hid f = sym (pow-suc 2 (prec f - 2)) ∙ ap (λ (x : ℕ). 2 ^ x) i in
-    ap (λ (x : ℕ). x % 2) (pattern-below f num den s h)
-    ∙ subst (λ (x : ℕ). (cond s (x * suc (ones f)) 0 + (dropped f num den * x + held f num den)) % 2 ≡ held f num den % 2) g
-    (even-fields s (2 ^ (prec f - 2)) (ones f) (dropped f num den) (held f num den))
+    ap (λ (x : ℕ). x % 2) (pattern-of f y s q k v hi lo)
+    ∙ subst (λ (x : ℕ). (cond s (x * suc (ones f)) 0 + (k * x + q)) % 2 ≡ q % 2) g (even-fields s (2 ^ (prec f - 2)) (ones f) k q)
 
 -- ---- floats by their units
 finite-of : (y : Float) (s : Bool) (n c : ℕ) → HasValue y s n c → T (finite y)
@@ -156,7 +171,7 @@ round-nearest f s num den D small =
           let Z = in-units f z val in
           let w = Z .digits * 2 ^ Z .power in
           no-farther s num den L y z s (signOf z) v w Y (Z .is) (pow-pos (low f)) (apart-least s (signOf z) (num * L) (v * den) (w * den) (beats f num den D (Z .digits) (Z .power) (Z .few) .near) (steps-near f s num den D below));
-      tie = λ z val d e. last-digit f s num den below ∙ kept-even f s num den D below z val d e;
+      tie = λ z val d e. last-digit f y s (held f num den) (dropped f num den) Y (held-le f num den) (held-ge f num den) ∙ kept-even f s num den D below z val d e;
     }
 
 pub round-ties-to-even : (f : Format) (s : Bool) (num den : ℕ) → 0 < den → TiesToEven f s num den (round f s num den)

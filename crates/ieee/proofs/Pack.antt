@@ -87,6 +87,10 @@ shape-at : (p k q : ℕ) → 0 < p → q ≤ 2 ^ p → (0 < k → 2 ^ (p - 1) �
 shape-at zero k q Z hi lo = absurd (omega arith)
 shape-at (suc P) k q Z hi lo = shape-is P k q hi (λ z. subst (λ (x : ℕ). 2 ^ x ≤ q) (omega arith) (lo z))
 
+-- so the pattern of q * 2 ^ k units
+pub pattern-of : (f : Format) (y : Float) (s : Bool) (q k : ℕ) → HasValue y s (q * 2 ^ k) (2 ^ low f) → q ≤ 2 ^ prec f → (0 < k → 2 ^ (prec f - 1) ≤ q) → toBits f y ≡ cond s (top f) 0 + (k * hid f + q)
+pattern-of f y s q k v hi lo = toBits-of f y s (q * 2 ^ k) v ∙ ap (λ (x : ℕ). cond s (top f) 0 + x) (shape-at (prec f) k q (omega (arith, two f)) hi lo)
+
 -- ---- the end of the range, m the largest exponent: 2 ^ (m + 1), which is an infinity's pattern
 lt-back : (a b : ℕ) → 2 ^ a < 2 ^ b → a < b
 lt-back a b h = lt-of-not-le (λ (g : b ≤ a). not-le-of-lt h (pow-mono g))
@@ -152,17 +156,12 @@ module _ (f : Format) (num den : ℕ) where
       let a : 2 ^ (prec f - 1) * 2 ^ dropped ≤ w = le-trans (le-of-eq (sym (pow-add 2 (prec f - 1) dropped))) (size-reaches w (prec f - 1 + dropped) (omega arith)) in
       le-trans (subst (λ (x : ℕ). 2 ^ (prec f - 1) ≤ x) (div-div-eq-div-mul n den (2 ^ dropped)) (le-div-iff-mul-le (pow-pos dropped) .1 a)) (nearest-ge (n / u) (compare (n % u * 2) u))
 
-  pub pattern-below : (s : Bool) → held * 2 ^ dropped < 2 ^ (low f + suc (emax f)) → toBits f (round f s num den) ≡ cond s (top f) 0 + (dropped * hid f + held)
-  pattern-below s h =
-      ap (toBits f) (round-is f s num den)
-      ∙ toBits-of f (units f s held dropped) s (held * 2 ^ dropped) (units-val f s held dropped h)
-      ∙ ap (λ (x : ℕ). cond s (top f) 0 + x) (shape-at (prec f) dropped held (omega (arith, two f)) held-le held-ge)
-
   pattern : (s : Bool) → toBits f (round f s num den) ≡ cond s (top f) 0 + min (dropped * hid f + held) (ones f * hid f)
   unfolding units toBits
   pattern s = elim (tri (held * 2 ^ dropped) (2 ^ (low f + suc (emax f)))) [
     | inl l ↦
-        pattern-below s l
+        ap (toBits f) (round-is f s num den)
+        ∙ pattern-of f (units f s held dropped) s held dropped (units-val f s held dropped l) held-le held-ge
         ∙ ap (λ (x : ℕ). cond s (top f) 0 + x) (sym (min-eq-left (in-range (prec f) (emax f) dropped held (two f) (omega (arith, two f, reach f)) held-le held-ge l)))
     | inr g ↦
         let past : 2 ^ (low f + suc (emax f)) ≤ held * 2 ^ dropped = elim g [ inl e ↦ le-of-eq (sym e) | inr l ↦ le-of-lt l ] in
