@@ -12,3 +12,4 @@ pub mod Overflow
 pub mod NearestValue
 pub mod Convert
 pub mod NearestValueUnique
+pub mod KeepsOrder
