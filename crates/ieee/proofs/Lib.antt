@@ -3,6 +3,7 @@ pub mod Snap
 pub mod Rint
 pub mod Pack
 pub mod Fields
+pub mod NarrowedPattern
 pub mod Narrow
 pub mod NearestWhole
 pub mod Held

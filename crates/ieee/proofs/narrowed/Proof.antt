@@ -1,6 +1,6 @@
--- `ieee::narrowed` meets its contract, by the four laws of `Narrow.antt`, one for each way. Assumes nothing.
+-- `ieee::narrowed` meets its contract, by the four laws of `NarrowedPattern.antt`, one for each way. Assumes nothing.
 use borrow.Author.Needs.{needs}
-use Rattle.ieee.proofs.Narrow.{huge, large, tiny, little}
+use Rattle.ieee.proofs.NarrowedPattern.{huge, large, tiny, little}
 use Rattle.ieee.proofs.narrowed.Statement.{statement}
 use Rattle.ieee.proofs.narrowed.Tie as tie
 use Rattle.ieee.proofs.narrowed.Reads as reads
