@@ -1,5 +1,5 @@
 -- A float at another format, IEEE 754's convertFormat (5.4.2), over the format: it is rounded as 4.3.1 says, a NaN and an infinity stay what they are, and so does what the format holds. Assumes nothing.
-use mathlib.Core.Path.{_≡_, refl, sym, ap, _∙_, subst}
+use mathlib.Core.Path.{_≡_, refl, ap, _∙_, subst}
 use mathlib.Core.Logic.{_↔_}
 use Prim.Native.Nat.{ℕ, _*_, _^_, _<_}
 use mathlib.Core.Bool.{Bool}
@@ -8,7 +8,7 @@ use lib.Dec.{T}
 use lib.Pow.{pow-pos}
 use lib.Ieee.{Float, nan, inf, fin, Format, low, up, down, fits, round}
 use lib.Ieee.Fits.{down-pos, nan-fits, inf-fits, round-fits}
-use lib.Ieee.Exact.{round-exact}
+use lib.Ieee.Exact.{HasValue, round-exact}
 use lib.Ieee.Scale.{finite, round-same}
 use Rattle.ieee.specs.Narrowing.{convert}
 use Rattle.ieee.specs.Nearest.{valueOf, NearestValue, Overflows, TiesToEven}
@@ -28,6 +28,13 @@ module _ (f : Format) where
   convert-nearest nan t u = absurd t
   convert-nearest (inf s) t u = absurd t
   convert-nearest (fin s m e) t u = convert-ties-to-even s m e .nearest (λ o. subst (λ (y : Float). T (finite y)) (convert-ties-to-even s m e .infinite o) u)
+
+  -- by any fraction that the float equals
+  pub convert-value : (x : Float) (s : Bool) (num den : ℕ) → 0 < den → HasValue x s num den → convert f x ≡ round f s num den
+  unfolding convert
+  convert-value nan s num den D v = absurd v
+  convert-value (inf t) s num den D v = absurd v
+  convert-value (fin t m e) s num den D v = ap (λ (b : Bool). round f b (m * up e) (down e)) (v .0) ∙ round-same f s (m * up e) (down e) num den (down-pos e) D (v .1)
 
   pub convert-nan : convert f nan ≡ nan
   unfolding convert

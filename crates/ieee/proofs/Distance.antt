@@ -5,13 +5,13 @@ use Prim.Native.Nat.{ℕ, zero, suc, _+_, _-_, _*_, _≤_, _<_}
 use native.Mathlib.Nat.{le-trans, le-of-eq, le-of-lt, le-dest, le-add-right, mul-pos, mul-le-mul-right, le-of-mul-le-mul-right, eq-of-mul-eq-mul-right, zero-mul}
 use native.Mathlib.Omega.{arith}
 use mathlib.Core.Bool.{Bool, true, false, not, Bool·beq, cond}
-use lib.IntN.{ℤ, pos, negsuc, negℤ, natAbs, subℕ, _-ℤ_, _*ℤ_}
+use lib.IntN.{pos, negsuc, natAbs, subℕ, _-ℤ_, _*ℤ_}
 use lib.Dec.{T, ltb, ltb→lt, nltb→le}
 use lib.Ieee.{Float, nan, inf, fin, up, down}
 use lib.Ieee.Fits.{down-pos}
 use lib.Ieee.Exact.{HasValue}
 use Rattle.ieee.specs.Rounding.{signed}
-use Rattle.ieee.specs.Nearest.{gap, Fraction, fraction, valueOf, distance, NoFarther, AsFar}
+use Rattle.ieee.specs.Nearest.{gap, fraction, valueOf, distance, NoFarther, AsFar}
 use Rattle.ieee.proofs.Closest.{tri}
 
 -- ---- |±a - ±b|

@@ -1,22 +1,20 @@
 -- Rounding keeps the order of numbers of either sign, over the format: of two fractions, and of two floats at another format. Assumes nothing.
 use mathlib.Core.Path.{_≡_, refl, sym, ap, _∙_, subst}
-use mathlib.Core.Logic.{inl, inr}
-use Prim.Native.Nat.{ℕ, zero, suc, _+_, _*_, _^_, _≤_, _<_, zero-le}
-use native.Mathlib.Nat.{le-of-eq, le-of-lt, eq-or-lt-of-le, eq-zero-or-pos, eq-of-mul-eq-mul-right, zero-mul, zero-lt-suc}
+use Prim.Native.Nat.{ℕ, zero, suc, _*_, _^_, _≤_, _<_, zero-le}
+use native.Mathlib.Nat.{eq-of-mul-eq-mul-right, zero-mul, zero-lt-suc}
 use native.Mathlib.Omega.{arith}
-use mathlib.Core.Bool.{Bool, true, false, not, _&&_, _||_, cond, true≢false}
-use lib.IntN.{ℤ, pos, negsuc, negℤ}
+use mathlib.Core.Bool.{Bool, true, false, not, _||_, cond, true≢false}
+use lib.IntN.{pos, negℤ}
 use lib.Signed.{leZ, _≤ℤ_}
-use lib.Dec.{T, ltb, leb, eqb, ltb→lt, lt→ltb, leb→le, le→leb, eqb→eq}
-use lib.Pow.{pow-pos}
-use lib.Ieee.{Float, nan, inf, fin, Format, binary32, binary64, prec, low, up, down, below, level, fits, odd, units, round, neg, le, isNan}
-use lib.Ieee.Fits.{down-pos, eq→eqb, round-is}
+use lib.Dec.{T, ltb, leb→le, le→leb}
+use lib.Ieee.{Float, nan, inf, fin, Format, prec, low, up, down, below, level, fits, odd, units, round, neg, le, isNan}
+use lib.Ieee.Fits.{down-pos, round-is}
 use lib.Ieee.Order.{round-mono}
 use lib.Ieee.Scale.{grid, overflow, round-same}
 use Rattle.ieee.specs.Rounding.{signed}
 use Rattle.ieee.specs.Narrowing.{convert}
 use Rattle.ieee.specs.Nearest.{signOf}
-use Rattle.ieee.proofs.Rint.{or-eq, eq-or}
+use Rattle.ieee.proofs.Tests.{or-eq, eq-or, zeros, or-false, at-most, at-least, not-above}
 use Rattle.ieee.proofs.Pack.{dropped, held}
 use Rattle.ieee.proofs.Units.{round-sign}
 use Rattle.ieee.proofs.Convert.{round-own}
@@ -43,14 +41,6 @@ pos-neg a zero h = let l = leb→le a 0 h in (omega arith, refl)
 pos-neg a (suc b) h = absurd h
 
 -- ---- `<=` of two finite floats is the order of their numbers
-zeros : (a b : ℕ) → T (eqb a b && (false || eqb a 0)) → (a ≡ 0) × (b ≡ 0)
-zeros a b h = go (eqb a b) (eqb a 0) (eqb→eq a b) (eqb→eq a 0) h
-  where
-    go : (x y : Bool) → (T x → a ≡ b) → (T y → a ≡ 0) → T (x && (false || y)) → (a ≡ 0) × (b ≡ 0)
-    go true true p q h = (q tt, sym (p tt) ∙ q tt)
-    go true false p q h = absurd h
-    go false y p q h = absurd h
-
 signed-le : (s : Bool) (a : ℕ) (t : Bool) (b : ℕ) → T (below s a t b || level s a t b) → T (leZ (signed s a) (signed t b))
 signed-le false a false b h = le→leb a b (or-eq a b true h)
 signed-le false a true b h = let z = zeros a b h in rw (z .0, z .1) tt
@@ -75,33 +65,6 @@ round-neg : (f : Format) (num den : ℕ) → round f true num den ≡ neg (round
 round-neg f num den = round-is f true num den ∙ units-neg f (held f num den) (dropped f num den) ∙ ap neg (sym (round-is f false num den))
 
 -- ---- and the order, turned round
-or-left : (x y : Bool) → T x → T (x || y)
-or-left true y t = tt
-or-left false y t = absurd t
-
-or-right : (x y : Bool) → T y → T (x || (y && true))
-or-right true y t = tt
-or-right false true t = tt
-or-right false false t = t
-
-or-false : (x : Bool) → T (x || false) → T x
-or-false true t = tt
-or-false false t = t
-
--- ±a ≤ ±b as `le` tests it
-module _ (a b : ℕ) where
-  at-most : a ≤ b → T (ltb a b || (eqb a b && true))
-  at-most h = elim (eq-or-lt-of-le h) [ inl e ↦ or-right (ltb a b) (eqb a b) (eq→eqb e) | inr l ↦ or-left (ltb a b) (eqb a b && true) (lt→ltb a b l) ]
-
-  at-least : b ≤ a → T (ltb b a || (eqb a b && true))
-  at-least h = elim (eq-or-lt-of-le h) [ inl e ↦ or-right (ltb b a) (eqb a b) (eq→eqb (sym e)) | inr l ↦ or-left (ltb b a) (eqb a b && true) (lt→ltb b a l) ]
-
-  not-above : T (ltb 0 (a + b) || (eqb a b && (false || eqb a 0)))
-  not-above = elim (eq-zero-or-pos (a + b)) [
-    | inl e ↦ let x : a ≡ 0 = omega arith in let y : b ≡ 0 = omega arith in rw (x, y) tt
-    | inr l ↦ or-left (ltb 0 (a + b)) (eqb a b && (false || eqb a 0)) (lt→ltb 0 (a + b) l)
-  ]
-
 turn : (s : Bool) (a : ℕ) (t : Bool) (b : ℕ) → T (below t b s a || level t b s a) → T (below (not s) a (not t) b || level (not s) a (not t) b)
 turn false a false b h = at-least a b (or-eq b a true h)
 turn false a true b h = not-above a b

@@ -1,15 +1,16 @@
 -- `narrow`, in IEEE 754's words: the laws of `Convert.antt` and `KeepsOrder.antt` at binary32. Assumes nothing.
 use mathlib.Core.Path.{_≡_}
 use mathlib.Core.Logic.{_↔_}
-use Prim.Native.Nat.{ℕ, _*_}
+use Prim.Native.Nat.{ℕ, _*_, _<_}
 use mathlib.Core.Bool.{Bool}
 use lib.IntN.{ℤ}
 use lib.Dec.{T}
-use lib.Ieee.{Float, nan, inf, fin, binary32, up, down, fits, le}
+use lib.Ieee.{Float, nan, inf, fin, binary32, up, down, fits, round, le}
+use lib.Ieee.Exact.{HasValue}
 use lib.Ieee.Scale.{finite}
 use Rattle.ieee.specs.Narrowing.{narrow}
 use Rattle.ieee.specs.Nearest.{valueOf, NearestValue, Overflows, TiesToEven}
-use Rattle.ieee.proofs.Convert.{convert-ties-to-even, convert-nearest, convert-infinite, convert-nan, convert-inf, convert-fits, convert-own, convert-twice}
+use Rattle.ieee.proofs.Convert.{convert-ties-to-even, convert-nearest, convert-infinite, convert-value, convert-nan, convert-inf, convert-fits, convert-own, convert-twice}
 use Rattle.ieee.proofs.KeepsOrder.{convert-keeps-order}
 
 -- a finite float: all that the standard says, and by parts
@@ -24,6 +25,10 @@ narrow-nearest = convert-nearest binary32
 pub narrow-infinite : (s : Bool) (m : ℕ) (e : ℤ) → (narrow (fin s m e) ≡ inf s) ↔ Overflows binary32 (m * up e) (down e)
 unfolding narrow
 narrow-infinite = convert-infinite binary32
+
+pub narrow-value : (x : Float) (s : Bool) (num den : ℕ) → 0 < den → HasValue x s num den → narrow x ≡ round binary32 s num den
+unfolding narrow
+narrow-value = convert-value binary32
 
 -- any float
 pub narrow-nan : narrow nan ≡ nan

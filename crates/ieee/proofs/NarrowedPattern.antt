@@ -2,31 +2,22 @@
 use mathlib.Core.Path.{_≡_, refl, sym, ap, _∙_, subst}
 use mathlib.Core.Logic.{inl, inr}
 use Prim.Native.Nat.{ℕ, suc, _+_, _-_, _*_, _/_, _%_, _^_, _≤_, _<_, min}
-use native.Mathlib.Nat.{le-trans, le-of-eq, lt-of-lt-of-le, mul-one, mul-assoc, mul-comm, mul-le-mul-right, mul-lt-mul-of-pos-right, div-lt-iff-lt-mul, mul-pos, zero-mul, zero-add, eq-or-lt-of-le, eq-zero-or-pos}
+use native.Mathlib.Nat.{le-trans, le-of-eq, lt-of-lt-of-le, mul-assoc, mul-le-mul-right, mul-lt-mul-of-pos-right, div-lt-iff-lt-mul, mul-pos, zero-mul, zero-add, eq-or-lt-of-le, eq-zero-or-pos}
 use native.Mathlib.Omega.{arith}
 use mathlib.Core.Bool.{Bool, true, false, cond}
 use lib.Dec.{leb}
 use borrow.Author.Tests.{le-leb, lt-leb}
 use lib.Pow.{pow-add, pow-pos, pow-mono}
-use lib.Ieee.{Float, nan, inf, fin, binary32, binary64, up, down, size, round, ofBits}
+use lib.Ieee.{binary32, binary64, ofBits}
 use lib.Ieee.Digits.{size-le}
-use lib.Ieee.Fits.{down-pos}
 use lib.Ieee.Exact.{HasValue}
 use lib.Ieee.Nearest.{closest, closest-same}
-use lib.Ieee.Scale.{round-same}
 use Rattle.ieee.specs.Narrowing.{narrow, Narrowed}
-use Rattle.ieee.proofs.Closest.{below-half, closest-add}
+use Rattle.ieee.proofs.Closest.{below-half}
+use Rattle.ieee.proofs.ClosestLaws.{closest-le, closest-add}
 use Rattle.ieee.proofs.Pack.{size-quot, dropped, held, held-le, held-ge, packed}
+use Rattle.ieee.proofs.Narrow.{narrow-value}
 use Rattle.ieee.proofs.Fields.{normal-bits, small-bits}
-use Rattle.ieee.proofs.Rint.{closest-le}
-
--- a value by any fraction that it equals
-pub narrow-value : (x : Float) (s : Bool) (num den : ℕ) → 0 < den → HasValue x s num den → narrow x ≡ round binary32 s num den
-unfolding narrow
-narrow-value nan s num den D v = absurd v
-narrow-value (inf t) s num den D v = absurd v
-narrow-value (fin t m e) s num den D v =
-    ap (λ (b : Bool). round binary32 b (m * up e) (down e)) (v .0) ∙ round-same binary32 s (m * up e) (down e) num den (down-pos e) D (v .1)
 
 -- powers of two, joined
 three : (a b c d e : ℕ) → a + b ≡ c + d + e → 2 ^ a * 2 ^ b ≡ 2 ^ c * 2 ^ d * 2 ^ e

@@ -1,19 +1,19 @@
 -- `round` delivers what IEEE 754 says (4.3.1, roundTiesToEven): the nearest value of the format, a tie to the one with an even last digit, an infinity from 2 ^ emax * (2 - 2 ^ -prec) on, and the sign. Over the format. Assumes nothing.
-use mathlib.Core.Path.{_≡_, refl, sym, ap, _∙_, subst}
+use mathlib.Core.Path.{_≡_, sym, ap, _∙_, subst}
 use mathlib.Core.Logic.{_⊎_, _≢_, _↔_, inl, inr}
 use Prim.Native.Nat.{ℕ, suc, _+_, _-_, _*_, _/_, _%_, _^_, _≤_, _<_}
-use native.Mathlib.Nat.{le-refl, le-trans, le-of-eq, le-of-lt, lt-of-lt-of-le, lt-of-le-of-lt, lt-of-not-le, lt-irrefl, mul-pos, mul-assoc, mul-le-mul-right, mul-lt-mul-of-pos-right, le-div-iff-mul-le, eq-of-mul-eq-mul-right, zero-mul, pow-suc}
+use native.Mathlib.Nat.{le-trans, le-of-eq, le-of-lt, lt-of-lt-of-le, lt-of-not-le, lt-irrefl, mul-pos, mul-assoc, mul-lt-mul-of-pos-right, le-div-iff-mul-le, eq-of-mul-eq-mul-right, zero-mul, pow-suc}
 use native.Mathlib.Omega.{arith}
 use mathlib.Core.Bool.{Bool, true, false, not, _&&_, _||_, Bool·beq, cond}
 use lib.Dec.{T, eqb}
 use lib.Pow.{pow-add, pow-pos, pow-mono}
-use lib.Ieee.{Float, nan, inf, fin, Format, prec, low, hid, ones, top, size, up, down, eq, ne, round, toBits}
+use lib.Ieee.{Float, nan, inf, fin, Format, prec, low, hid, ones, up, down, eq, ne, round, toBits}
 use lib.Ieee.Digits.{size-reaches}
 use lib.Ieee.Fits.{two, eq→eqb, round-fits}
 use lib.Ieee.Exact.{HasValue}
 use lib.Ieee.Scale.{grid, overflow, finite}
 use Rattle.ieee.specs.Nearest.{gap, NearestWhole, fraction, valueOf, AsFar, IsValue, NearestValue, Overflows, signOf, TiesToEven}
-use Rattle.ieee.proofs.Closest.{tri}
+use Rattle.ieee.proofs.Closest.{lt-or-ge}
 use Rattle.ieee.proofs.NearestWhole.{closest-nearest, none-nearer, even-of-tie}
 use Rattle.ieee.proofs.Distance.{apart-least, apart-tie, no-farther, as-far}
 use Rattle.ieee.proofs.Pack.{dropped, held, held-le, held-ge, pattern-of}
@@ -61,15 +61,14 @@ module _ (f : Format) (num den : ℕ) (D : 0 < den) where
       → ((c : ℕ) × (q * 2 ^ j ≡ c * 2 ^ dropped f num den)) ⊎ (gap (held f num den * 2 ^ dropped f num den * den) (num * 2 ^ low f) < gap (q * 2 ^ j * den) (num * 2 ^ low f))
   step-or-farther q j few =
       let k = dropped f num den in
-      elim (tri j k) [
+      elim (lt-or-ge j k) [
         | inl l ↦
             let p = prec f - 1 in
             let t = two f in
             let a : q * 2 ^ j < 2 ^ p * 2 ^ k =
             lt-of-lt-of-le (mul-lt-mul-of-pos-right few (pow-pos j)) (le-trans (le-of-eq (sym (pow-add 2 (prec f) j))) (le-trans (pow-mono {j = p + k} (omega arith)) (le-of-eq (pow-add 2 p k)))) in
             inr (farther (num * 2 ^ low f) den (2 ^ k) (held f num den) steps-nearest (2 ^ p) (q * 2 ^ j) D a (full (omega arith)))
-        | inr g ↦
-            let l : k ≤ j = elim g [ inl e ↦ le-of-eq (sym e) | inr x ↦ le-of-lt x ] in
+        | inr l ↦
             let i : j - k + k ≡ j = omega arith in
             inl (q * 2 ^ (j - k), ap (λ (x : ℕ). q * x) (ap (λ (x : ℕ). 2 ^ x) (sym i) ∙ pow-add 2 (j - k) k) ∙ sym (mul-assoc q (2 ^ (j - k)) (2 ^ k)))
       ]
@@ -187,7 +186,7 @@ pub round-infinite : (f : Format) (s : Bool) (num den : ℕ) → 0 < den → (ro
 round-infinite f s num den D = (back, round-ties-to-even f s num den D .infinite)
   where
     back : round f s num den ≡ inf s → Overflows f num den
-    back e = elim (tri (grid f num den) (overflow f)) [
+    back e = elim (lt-or-ge (grid f num den) (overflow f)) [
       | inl l ↦ absurd (subst (λ (y : Float). HasValue y s (grid f num den) (2 ^ low f)) e (round-units f s num den l))
-      | inr g ↦ past-overflows f num den D (elim g [ inl i ↦ le-of-eq (sym i) | inr l ↦ le-of-lt l ])
+      | inr g ↦ past-overflows f num den D g
     ]

@@ -1,18 +1,18 @@
 -- What IEEE 754 says of rounding (`TiesToEven`) leaves one value, which is that of `round`, over the format. Assumes nothing.
 use mathlib.Core.Path.{_≡_, refl, sym, ap, _∙_, subst}
 use mathlib.Core.Logic.{_≢_, inl, inr}
-use Prim.Native.Nat.{ℕ, suc, _+_, _-_, _*_, _/_, _%_, _^_, _≤_, _<_}
-use native.Mathlib.Nat.{le-trans, le-of-eq, le-of-lt, le-antisymm, lt-of-not-le, lt-irrefl, not-le-of-lt, ne-of-lt, ne-of-gt, mul-pos, mul-le-mul-right, div-lt-iff-lt-mul, div-div-eq-div-mul, eq-of-mul-eq-mul-right}
+use Prim.Native.Nat.{ℕ, suc, _-_, _*_, _/_, _%_, _^_, _≤_, _<_}
+use native.Mathlib.Nat.{le-trans, le-of-eq, le-antisymm, lt-of-not-le, lt-irrefl, not-le-of-lt, ne-of-lt, ne-of-gt, mul-pos, mul-le-mul-right, div-lt-iff-lt-mul, div-div-eq-div-mul, eq-of-mul-eq-mul-right}
 use native.Mathlib.Omega.{arith}
-use mathlib.Core.Bool.{Bool, true, false, not, _&&_}
+use mathlib.Core.Bool.{Bool, true, false, _&&_}
 use lib.Dec.{T, eqb, eqb→eq, not-T}
 use lib.Pow.{pow-pos}
 use lib.Ieee.{Float, nan, inf, fin, Format, prec, emax, low, up, down, eq, ne, round, toBits}
 use lib.Ieee.Fits.{and-l, kept-lt, down-pos, round-fits}
 use lib.Ieee.Exact.{HasValue}
 use lib.Ieee.Scale.{grid, overflow}
-use Rattle.ieee.specs.Nearest.{gap, NearestWhole, fraction, valueOf, AsFar, NearestValue, Overflows, signOf, TiesToEven}
-use Rattle.ieee.proofs.Closest.{tri}
+use Rattle.ieee.specs.Nearest.{gap, fraction, valueOf, AsFar, NearestValue, Overflows, signOf, TiesToEven}
+use Rattle.ieee.proofs.Closest.{tri, lt-or-ge}
 use Rattle.ieee.proofs.NearestWhole.{nearest-unique}
 use Rattle.ieee.proofs.Distance.{apart, as-far}
 use Rattle.ieee.proofs.Pack.{dropped, held}
@@ -43,18 +43,10 @@ apart-same false x y = refl
 
 -- ---- what is within half a step d of n lies between the whole steps that n lies between
 near-le : (n d c b : ℕ) → 0 < d → gap (c * d) n * 2 ≤ d → n < b * d → c ≤ b
-near-le n d c b D h l = elim (tri c b) [
-  | inl g ↦ le-of-lt g
-  | inr (inl e) ↦ le-of-eq e
-  | inr (inr g) ↦ let m = mul-le-mul-right d g in absurd (omega arith)
-]
+near-le n d c b D h l = elim (lt-or-ge b c) [ inl g ↦ let m = mul-le-mul-right d g in absurd (omega arith) | inr g ↦ g ]
 
 near-ge : (n d c b : ℕ) → 0 < d → gap (c * d) n * 2 ≤ d → b * d ≤ n → b ≤ c
-near-ge n d c b D h l = elim (tri b c) [
-  | inl g ↦ le-of-lt g
-  | inr (inl e) ↦ le-of-eq e
-  | inr (inr g) ↦ let m = mul-le-mul-right d g in absurd (omega arith)
-]
+near-ge n d c b D h l = elim (lt-or-ge c b) [ inl g ↦ let m = mul-le-mul-right d g in absurd (omega arith) | inr g ↦ g ]
 
 -- ---- below the range's end
 module _ (f : Format) (s : Bool) (num den : ℕ) (D : 0 < den) (small : ¬ Overflows f num den) (y : Float) (Y : NearestValue f (fraction s num den) y) where
@@ -120,9 +112,7 @@ module _ (f : Format) (s : Bool) (num den : ℕ) (D : 0 < den) (small : ¬ Overf
       ]
 
 pub round-is-only : (f : Format) (s : Bool) (num den : ℕ) (y : Float) → 0 < den → TiesToEven f s num den y → y ≡ round f s num den
-round-is-only f s num den y D p = elim (tri (num * 2 ^ prec f) (2 ^ emax f * (2 ^ suc (prec f) - 1) * den)) [
+round-is-only f s num den y D p = elim (lt-or-ge (num * 2 ^ prec f) (2 ^ emax f * (2 ^ suc (prec f) - 1) * den)) [
   | inl l ↦ let small : ¬ Overflows f num den = not-le-of-lt l in is-rounded f s num den D small y (p .nearest small) (p .sign)
-  | inr g ↦
-      let large : Overflows f num den = elim g [ inl e ↦ le-of-eq (sym e) | inr l ↦ le-of-lt l ] in
-      p .infinite large ∙ sym (round-ties-to-even f s num den D .infinite large)
+  | inr large ↦ p .infinite large ∙ sym (round-ties-to-even f s num den D .infinite large)
 ]

@@ -1,5 +1,5 @@
 -- The whole number nearest to a fraction, a tie to the even one, as IEEE 754 says it: `closest` gives it, only one number is it, no whole number is nearer, and `rint` gives it of a finite float. Assumes nothing.
-use mathlib.Core.Path.{_≡_, refl, sym, ap, _∙_, subst}
+use mathlib.Core.Path.{_≡_, refl, sym, ap, subst}
 use mathlib.Core.Logic.{_⊎_, _≢_, inl, inr}
 use Prim.Native.Nat.{ℕ, suc, _+_, _*_, _/_, _%_, _≤_, _<_}
 use native.Mathlib.Nat.{mul-le-mul-right, mod-lt, div-add-mod'}

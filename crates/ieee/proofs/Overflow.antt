@@ -4,7 +4,7 @@ use mathlib.Core.Logic.{inl, inr}
 use Prim.Native.Nat.{ℕ, suc, _+_, _-_, _*_, _/_, _^_, _≤_, _<_}
 use native.Mathlib.Nat.{le-trans, le-of-eq, mul-le-mul-right, mul-le-mul-left, mul-pos, le-of-mul-le-mul-right, le-div-iff-mul-le, sub-le, pow-suc, two-pow-succ, eq-or-lt-of-le}
 use native.Mathlib.Omega.{arith}
-use mathlib.Core.Bool.{Bool, true, false}
+use mathlib.Core.Bool.{Bool, false}
 use lib.Dec.{T, lit≤}
 use lib.Pow.{pow-add, pow-pos}
 use lib.Ieee.{Float, nan, inf, fin, Format, binary32, binary64, prec, emax, low, size, round, le}
@@ -14,7 +14,7 @@ use lib.Ieee.Exact.{HasValue}
 use lib.Ieee.Order.{round-mono}
 use lib.Ieee.Scale.{grid, overflow}
 use Rattle.ieee.specs.Nearest.{Overflows}
-use Rattle.ieee.proofs.Closest.{tri}
+use Rattle.ieee.proofs.Closest.{lt-or-ge}
 use Rattle.ieee.proofs.NearestWhole.{closest-err}
 use Rattle.ieee.proofs.Pack.{dropped, held, held-le, le-back}
 use Rattle.ieee.proofs.Units.{round-units, round-past}
@@ -72,12 +72,11 @@ above-inf (inf t) s n c h v = v
 above-inf (fin t m e) s n c h v = h
 
 pub overflows-past : (f : Format) (num den : ℕ) → 0 < den → Overflows f num den → overflow f ≤ grid f num den
-overflows-past f num den D h = elim (tri (grid f num den) (overflow f)) [
+overflows-past f num den D h = elim (lt-or-ge (grid f num den) (overflow f)) [
   | inl l ↦
       absurd
       (above-inf (round f false num den) false (grid f num den) (2 ^ low f)
       (subst (λ (x : Float). T (le x (round f false num den))) (round-past f false (2 ^ emax f * (2 ^ suc (prec f) - 1)) (2 ^ prec f) (edge f)) (round-mono f (2 ^ emax f * (2 ^ suc (prec f) - 1)) (2 ^ prec f) num den (pow-pos (prec f)) D h))
       (round-units f false num den l))
-  | inr (inl e) ↦ le-of-eq (sym e)
-  | inr (inr g) ↦ omega arith
+  | inr g ↦ g
 ]

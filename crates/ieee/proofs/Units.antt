@@ -1,18 +1,17 @@
 -- A format's values in units of its smallest one, over the format: each finite value is a number of at most prec digits, times a power of two; a sign and a number of units leave one value; and what `round` makes, in units. Assumes nothing.
 use mathlib.Core.Path.{_≡_, refl, sym, ap, _∙_, subst}
-use mathlib.Core.Logic.{inl, inr}
 use Prim.Native.Nat.{ℕ, zero, suc, _+_, _-_, _*_, _%_, _^_, _≤_, _<_}
-use native.Mathlib.Nat.{le-trans, le-of-eq, lt-of-lt-of-le, lt-of-mul-lt-mul-right, mul-lt-mul-of-pos-right, mul-one}
+use native.Mathlib.Nat.{le-of-eq, lt-of-lt-of-le, lt-of-mul-lt-mul-right, mul-lt-mul-of-pos-right}
 use native.Mathlib.Omega.{arith}
-use mathlib.Core.Bool.{Bool, true, false, not, _&&_, cond}
+use mathlib.Core.Bool.{Bool, true, false, _&&_, cond}
 use lib.IntN.{ℤ, pos, negsuc}
 use lib.Dec.{T, ltb, leb, eqb, ltb→lt, leb→le}
 use lib.Pow.{pow-add, pow-pos}
-use lib.Ieee.{Float, nan, inf, fin, Format, prec, emax, low, up, down, fits, odd, units, round, toBits, ofBits}
-use lib.Ieee.Fits.{and-l, and-r, down-pos, round-is}
+use lib.Ieee.{Float, nan, inf, fin, Format, prec, emax, low, up, down, fits, odd, units, round, ofBits}
+use lib.Ieee.Fits.{and-l, and-r, round-is}
 use lib.Ieee.Exact.{HasValue, odd-sign, units-val}
 use lib.Ieee.Bits.{ofBits-toBits}
-use lib.Ieee.Scale.{grid, overflow, finite}
+use lib.Ieee.Scale.{grid, overflow}
 use borrow.Author.Tests.{le-ltb}
 use Rattle.ieee.specs.Nearest.{IsValue, signOf}
 use Rattle.ieee.proofs.Pack.{dropped, held, toBits-of, le-back}

@@ -1,12 +1,12 @@
 -- `ieee::narrow_f64` meets its contract: a NaN by itself, and of any other value the bits, taken apart into the sign and the magnitude's. Assumes nothing.
-use mathlib.Core.Path.{_≡_, refl, sym, ap, _∙_, subst}
-use Prim.Native.Nat.{ℕ, _+_, _*_, _/_, _%_, _^_, _≤_, _<_}
+use mathlib.Core.Path.{_≡_, sym, ap, _∙_, subst}
+use Prim.Native.Nat.{ℕ, _+_, _*_, _/_, _%_, _≤_, _<_}
 use native.Mathlib.Omega.{arith}
 use mathlib.Core.Bool.{Bool, true, false, not, cond}
-use lib.Dec.{T, leb, ltb, leb→le, nleb→lt, nltb→le, lt→ltb, not-T, T-not, ltb→lt}
+use lib.Dec.{T, leb, ltb, leb→le, nleb→lt, nltb→le, not-T, ltb→lt}
 use lib.Ieee.{Float, nan, inf, fin, binary32, binary64, isNan, fits, ne, div, ofBits, toBits, nanBits}
 use lib.Ieee.Bits.{ofBits-toBits, toBits-lt, nanBits-is, nanBits-above}
-use lib.Ieee.Compare.{differs-from-itself, nan-differs}
+use lib.Ieee.Compare.{differs-from-itself}
 use Rattle.ieee.specs.Narrowing.{narrow, Narrowed}
 use Rattle.ieee.proofs.narrow_f64.Statement.{statement}
 use Rattle.ieee.proofs.narrow_f64.Tie as tie

@@ -3,9 +3,6 @@ use borrow.Author.Needs.{needs}
 use Rattle.ieee.proofs.NarrowedPattern.{huge, large, tiny, little}
 use Rattle.ieee.proofs.narrowed.Statement.{statement}
 use Rattle.ieee.proofs.narrowed.Tie as tie
-use Rattle.ieee.proofs.narrowed.Reads as reads
-use Rattle.ieee.proofs.narrowed.Lts as lts
-use Rattle.ieee.proofs.shifted.Reads as shifted-reads
 
 returns : tie.Need-returns
 returns c = huge (c .before .args .a) (c .before .pre) (c .if1 .taken)

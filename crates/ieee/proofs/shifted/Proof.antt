@@ -1,12 +1,12 @@
--- `ieee::shifted` meets its contract: half the divisor less one is added, and one more where the whole part is odd (`Closest.antt`'s `closest-bias`). Assumes nothing.
+-- `ieee::shifted` meets its contract: half the divisor less one is added, and one more where the whole part is odd (`closest-bias`). Assumes nothing.
 use mathlib.Core.Path.{_≡_, sym, ap, _∙_, subst}
-use Prim.Native.Nat.{ℕ, suc, _+_, _-_, _*_, _/_, _%_, _^_, _≤_, _<_}
+use Prim.Native.Nat.{ℕ, _+_, _-_, _*_, _/_, _%_, _^_, _≤_, _<_}
 use native.Mathlib.Nat.{one-mul, mod-eq-of-lt, two-pow-succ}
 use native.Mathlib.Omega.{arith}
 use lib.Pow.{pow-pos, pow-mono}
 use lib.Ieee.Nearest.{closest}
 use borrow.Author.Needs.{needs}
-use Rattle.ieee.proofs.Closest.{closest-bias}
+use Rattle.ieee.proofs.ClosestLaws.{closest-bias}
 use Rattle.ieee.proofs.shifted.Statement.{statement}
 use Rattle.ieee.proofs.shifted.Tie as tie
 
