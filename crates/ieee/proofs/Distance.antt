@@ -2,7 +2,7 @@
 use mathlib.Core.Path.{_≡_, refl, sym, ap, _∙_}
 use mathlib.Core.Logic.{_⊎_, inl, inr}
 use Prim.Native.Nat.{ℕ, zero, suc, _+_, _-_, _*_, _≤_, _<_}
-use native.Mathlib.Nat.{le-trans, le-of-eq, le-of-lt, le-dest, le-add-right, mul-pos, mul-le-mul-right, le-of-mul-le-mul-right, eq-of-mul-eq-mul-right, zero-mul}
+use native.Mathlib.Nat.{le-trans, le-of-lt, le-dest, le-add-right, mul-pos, mul-le-mul-right, le-of-mul-le-mul-right, eq-of-mul-eq-mul-right, zero-mul}
 use native.Mathlib.Omega.{arith}
 use mathlib.Core.Bool.{Bool, true, false, not, Bool·beq, cond}
 use lib.IntN.{pos, negsuc, natAbs, subℕ, _-ℤ_, _*ℤ_}
@@ -12,7 +12,7 @@ use lib.Ieee.Fits.{down-pos}
 use lib.Ieee.Exact.{HasValue}
 use Rattle.ieee.specs.Rounding.{signed}
 use Rattle.ieee.specs.Nearest.{gap, fraction, valueOf, distance, NoFarther, AsFar}
-use Rattle.ieee.proofs.Closest.{tri}
+use Rattle.ieee.proofs.Closest.{lt-or-ge}
 
 -- ---- |±a - ±b|
 abbrev pub apart : Bool → ℕ → Bool → ℕ → ℕ
@@ -49,20 +49,19 @@ distance-is s a b t c d = rw (signed-mul s a d, signed-mul t c b) (abs-signed s 
 
 -- ---- times a number
 gap-mul : (a b c : ℕ) → gap (a * c) (b * c) ≡ gap a b * c
-gap-mul a b c = elim (tri a b) [
-  | inl l ↦ above a b (le-of-lt l) (le-dest (le-of-lt l))
-  | inr (inl e) ↦ above a b (le-of-eq e) (le-dest (le-of-eq e))
-  | inr (inr g) ↦
-      let i : gap (a * c) (b * c) ≡ gap (b * c) (a * c) = omega arith in
-      let j : gap b a ≡ gap a b = omega arith in
-      i ∙ above b a (le-of-lt g) (le-dest (le-of-lt g)) ∙ ap (λ (x : ℕ). x * c) j
+gap-mul a b c = elim (lt-or-ge a b) [
+  | inl l ↦ above a b (le-dest (le-of-lt l))
+  | inr g ↦ swap (b * c) (a * c) ∙ above b a (le-dest g) ∙ ap (λ (x : ℕ). x * c) (swap a b)
 ]
   where
-    above : (a b : ℕ) → a ≤ b → (k : ℕ) × (a + k ≡ b) → gap (a * c) (b * c) ≡ gap a b * c
-    above a b l (k, e) =
+    swap : (a b : ℕ) → gap b a ≡ gap a b
+    swap a b = omega arith
+
+    above : (a b : ℕ) → (k : ℕ) × (a + k ≡ b) → gap (a * c) (b * c) ≡ gap a b * c
+    above a b (k, e) =
         let i : gap a b ≡ k = omega arith in
-        let m : b * c ≡ a * c + k * c = ap (λ (x : ℕ). x * c) (sym e) ∙ omega arith in
-        rw (i, m) (omega arith)
+        let m = ap (λ (x : ℕ). x * c) e in
+        rw i (omega arith)
 
 apart-mul : (s : Bool) (a : ℕ) (t : Bool) (b c : ℕ) → apart s (a * c) t (b * c) ≡ apart s a t b * c
 apart-mul false a false b c = gap-mul b a c
@@ -86,7 +85,7 @@ module _ (s : Bool) (num den L : ℕ) where
       ∙ ap (λ (b : Bool). apart s (num * L * d) b (n * den * d)) (v .0)
       ∙ apart-mul s (num * L) t (n * den) d
 
--- a / c and b / d, by the same in units
+-- two distances over the floats' bottoms c and d, by the same in units
 cross-le : (a b c d L p q : ℕ) → 0 < L → a * L ≡ p * c → b * L ≡ q * d → p ≤ q → a * d ≤ b * c
 cross-le a b c d L p q P e g h =
     let i = ap (λ (x : ℕ). x * d) e in

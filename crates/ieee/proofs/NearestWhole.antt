@@ -4,11 +4,13 @@ use mathlib.Core.Logic.{_⊎_, _≢_, inl, inr}
 use Prim.Native.Nat.{ℕ, suc, _+_, _*_, _/_, _%_, _≤_, _<_}
 use native.Mathlib.Nat.{mul-le-mul-right, mod-lt, div-add-mod'}
 use native.Mathlib.Omega.{arith}
-use mathlib.Core.Bool.{Bool}
+use mathlib.Core.Bool.{Bool, not}
 use lib.IntN.{ℤ, pos}
-use lib.Ieee.{nan, inf, fin, up, down}
+use lib.Dec.{T}
+use lib.Ieee.{Float, nan, inf, fin, up, down}
 use lib.Ieee.Fits.{down-pos}
 use lib.Ieee.Nearest.{closest}
+use lib.Ieee.Scale.{finite}
 use Rattle.ieee.specs.Rounding.{signed, rint}
 use Rattle.ieee.specs.Nearest.{gap, NearestWhole}
 use Rattle.ieee.proofs.Closest.{tri, below-half, at-half, above-half}
@@ -30,26 +32,24 @@ pub closest-nearest : (num den : ℕ) → 0 < den → NearestWhole num den (clos
 closest-nearest num den D = subst (λ (x : ℕ). NearestWhole x den (closest x den)) (div-add-mod' num den) (nearest-at (num / den) den (num % den) D (mod-lt num D))
 
 -- ---- only one number is it
-next-or-past : (num den n k : ℕ) → 0 < den → NearestWhole num den n → NearestWhole num den k → n < k → ⊥
-next-or-past num den n k D p q l =
+not-both : (num den n k : ℕ) → 0 < den → NearestWhole num den n → NearestWhole num den k → n < k → ⊥
+not-both num den n k D p q l =
     let m = mul-le-mul-right den l in
     elim (tri k (suc n)) [
       | inl g ↦ omega arith
       | inr (inl e) ↦
           let i = ap (λ (x : ℕ). x * den) e in
-          let a = p .near in
-          let b = q .near in
-          let x = p .tie (omega arith) in
-          let y = q .tie (omega arith) in
+          let even = p .tie (omega arith) in
+          let even' = q .tie (omega arith) in
           omega arith
-      | inr (inr g) ↦ let i = mul-le-mul-right den g in let a = p .near in let b = q .near in omega arith
+      | inr (inr g) ↦ let i = mul-le-mul-right den g in omega arith
     ]
 
 pub nearest-unique : (num den n k : ℕ) → 0 < den → NearestWhole num den n → NearestWhole num den k → n ≡ k
 nearest-unique num den n k D p q = elim (tri n k) [
-  | inl l ↦ absurd (next-or-past num den n k D p q l)
+  | inl l ↦ absurd (not-both num den n k D p q l)
   | inr (inl e) ↦ e
-  | inr (inr g) ↦ absurd (next-or-past num den k n D q p g)
+  | inr (inr g) ↦ absurd (not-both num den k n D q p g)
 ]
 
 pub closest-is : (num den n : ℕ) → 0 < den → NearestWhole num den n → closest num den ≡ n
@@ -58,16 +58,16 @@ closest-is num den n D p = nearest-unique num den (closest num den) n D (closest
 -- ---- no whole number is nearer, and where another is as near it is even
 pub none-nearer : (num den n k : ℕ) → NearestWhole num den n → gap (n * den) num ≤ gap (k * den) num
 none-nearer num den n k p = elim (tri n k) [
-  | inl l ↦ let m = mul-le-mul-right den l in let a = p .near in omega arith
-  | inr (inl e) ↦ subst (λ (x : ℕ). gap (n * den) num ≤ gap (x * den) num) e (omega arith)
-  | inr (inr g) ↦ let m = mul-le-mul-right den g in let a = p .near in omega arith
+  | inl l ↦ let m = mul-le-mul-right den l in omega arith
+  | inr (inl e) ↦ let m = ap (λ (x : ℕ). x * den) e in omega arith
+  | inr (inr g) ↦ let m = mul-le-mul-right den g in omega arith
 ]
 
 pub even-of-tie : (num den n k : ℕ) → NearestWhole num den n → k ≢ n → gap (n * den) num ≡ gap (k * den) num → n % 2 ≡ 0
 even-of-tie num den n k p d e = elim (tri n k) [
-  | inl l ↦ let m = mul-le-mul-right den l in let a = p .near in p .tie (omega arith)
+  | inl l ↦ let m = mul-le-mul-right den l in p .tie (omega arith)
   | inr (inl i) ↦ absurd (d (sym i))
-  | inr (inr g) ↦ let m = mul-le-mul-right den g in let a = p .near in p .tie (omega arith)
+  | inr (inr g) ↦ let m = mul-le-mul-right den g in p .tie (omega arith)
 ]
 
 -- ---- the same as bounds on either side
@@ -83,10 +83,8 @@ pub rint-is : (s : Bool) (m : ℕ) (e : ℤ) (n : ℕ) → NearestWhole (m * up 
 unfolding rint
 rint-is s m e n p = ap (signed s) (closest-is (m * up e) (down e) n (down-pos e) p)
 
-pub rint-nan : rint nan ≡ pos 0
+pub rint-not-finite : (x : Float) → T (not (finite x)) → rint x ≡ pos 0
 unfolding rint
-rint-nan = refl
-
-pub rint-inf : (s : Bool) → rint (inf s) ≡ pos 0
-unfolding rint
-rint-inf s = refl
+rint-not-finite nan h = refl
+rint-not-finite (inf s) h = refl
+rint-not-finite (fin s m e) h = absurd h

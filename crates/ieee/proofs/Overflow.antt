@@ -37,12 +37,12 @@ module _ (p m num den : ℕ) (P : 2 ≤ p) (M : 1 ≤ m) where
   just-past k q e past near =
       let a : 2 ^ p ≤ q = le-of-mul-le-mul-right (le-trans (le-of-eq (sym (pow-add 2 p k) ∙ ap (λ (x : ℕ). 2 ^ x) (sym e))) past) (pow-pos k) in
       let b = mul-le-mul-right (den * 2 ^ k) a in
-      let T = 2 ^ suc p - 1 in
-      let c : T + 1 ≡ 2 ^ p + 2 ^ p = let t = two-pow-succ p in let z = pow-pos p in omega arith in
+      let odd = 2 ^ suc p - 1 in
+      let c : odd + 1 ≡ 2 ^ p + 2 ^ p = let t = two-pow-succ p in let z = pow-pos p in omega arith in
       let d = ap (λ (x : ℕ). x * (den * 2 ^ k)) c in
       let j : m + (m - 1) ≡ k = omega arith in
       let l : suc (m + p - 2) ≡ p + (m - 1) = omega arith in
-      let u = ap (λ (x : ℕ). T * den * x) (sym (pow-add 2 m (m - 1)) ∙ ap (λ (x : ℕ). 2 ^ x) j) in
+      let u = ap (λ (x : ℕ). odd * den * x) (sym (pow-add 2 m (m - 1)) ∙ ap (λ (x : ℕ). 2 ^ x) j) in
       let v = ap (λ (x : ℕ). num * x) (sym (pow-suc 2 (m + p - 2)) ∙ ap (λ (x : ℕ). 2 ^ x) l ∙ pow-add 2 p (m - 1)) in
       le-of-mul-le-mul-right {k = 2 ^ (m - 1)} (omega arith) (pow-pos (m - 1))
 

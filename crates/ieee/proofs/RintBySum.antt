@@ -28,7 +28,7 @@ abbrev pub biasFloat : Float
 biasFloat = fin false 3 (pos 51)
 
 abbrev pub bias : ℕ
-bias = 6755399441055744
+bias = 3 * 2 ^ 51
 
 -- ---- within an i32; n is what the sum is
 pub record Rounds (x : Float) (n : ℕ) : Type 0 where
@@ -45,7 +45,7 @@ sub-neg n zero e = let z = le-ltb n bias (omega arith) in rw z (ap pos (omega ar
 sub-neg n (suc c) e = let z = lt-ltb n bias (omega arith) in rw z (ap negsuc (omega arith))
 
 -- from 2 ^ 52 up and below 2 ^ 53 a sum is rounded to a whole number
-whole-sum : (num d n : ℕ) → 0 < d → 4503599627370496 * d ≤ num → num < 9007199254740992 * d → closest num d ≡ n → 4503599627370496 ≤ n → n < 9007199254740992 → round binary64 false num d ≡ round binary64 false n 1
+whole-sum : (num d n : ℕ) → 0 < d → 2 ^ 52 * d ≤ num → num < 2 ^ 53 * d → closest num d ≡ n → 2 ^ 52 ≤ n → n < 2 ^ 53 → round binary64 false num d ≡ round binary64 false n 1
 whole-sum num d n D lo hi e l h =
     snap-whole binary64 false num d D lo hi (omega arith) (omega arith) ∙ ap (λ (x : ℕ). round binary64 false x 1) e
 

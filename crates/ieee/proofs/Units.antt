@@ -1,4 +1,4 @@
--- A format's values in units of its smallest one, over the format: each finite value is a number of at most prec digits, times a power of two; a sign and a number of units leave one value; and what `round` makes, in units. Assumes nothing.
+-- A format's values in units of its smallest one, over the format: each is a number of at most prec digits, times a power of two; a sign and a number of units leave one value; and what `round` makes. Assumes nothing.
 use mathlib.Core.Path.{_≡_, refl, sym, ap, _∙_, subst}
 use Prim.Native.Nat.{ℕ, zero, suc, _+_, _-_, _*_, _%_, _^_, _≤_, _<_}
 use native.Mathlib.Nat.{le-of-eq, lt-of-lt-of-le, lt-of-mul-lt-mul-right, mul-lt-mul-of-pos-right}
@@ -16,6 +16,7 @@ use borrow.Author.Tests.{le-ltb}
 use Rattle.ieee.specs.Nearest.{IsValue, signOf}
 use Rattle.ieee.proofs.Pack.{dropped, held, toBits-of, le-back}
 
+-- y is so many digits, no more than the format keeps, times a power of two, in units
 pub record InUnits (f : Format) (y : Float) : Type 0 where
   pub digits : ℕ
   pub power : ℕ

@@ -1,6 +1,6 @@
 -- What IEEE 754 means by nearest, a tie to the even one (4.3.1, roundTiesToEven): among the whole numbers, and among the values of a format. Definitions only.
 use Prim.Native.Nat.{ℕ, suc, _+_, _-_, _*_, _%_, _^_, _≤_}
-use mathlib.Core.Bool.{Bool}
+use mathlib.Core.Bool.{Bool, false}
 use mathlib.Core.Path.{_≡_}
 use lib.IntN.{ℤ, pos, natAbs, _-ℤ_, _*ℤ_}
 use lib.Dec.{T}
@@ -63,7 +63,7 @@ Overflows f num den = 2 ^ emax f * (2 ^ suc (prec f) - 1) * den ≤ num * 2 ^ pr
 
 -- negative, or -0: the sign of what is a NaN is never asked
 abbrev pub signOf : Float → Bool
-signOf nan = Bool.false
+signOf nan = false
 signOf (inf s) = s
 signOf (fin s m e) = s
 

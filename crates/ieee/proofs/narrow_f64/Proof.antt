@@ -19,31 +19,31 @@ no-nan (inf s) h = tt
 no-nan (fin s m e) h = tt
 
 module _ (x : Float) (F : T (fits binary64 x)) where
-  bits-lt : toBits binary64 x < 18446744073709551616
+  bits-lt : toBits binary64 x < 0x1_0000_0000_0000_0000
   bits-lt = toBits-lt binary64 x F
 
-  magnitude-le : ne x x ≡ false → toBits binary64 x % 9223372036854775808 ≤ 9218868437227405312
+  magnitude-le : ne x x ≡ false → toBits binary64 x % 0x8000_0000_0000_0000 ≤ 0x7ff0_0000_0000_0000
   magnitude-le h =
       let b = toBits binary64 x in
-      nltb→le 9218868437227405312 (b % 9223372036854775808)
+      nltb→le 0x7ff0_0000_0000_0000 (b % 0x8000_0000_0000_0000)
       (subst (λ (t : Bool). T (not t)) (sym (ap isNan (ofBits-toBits binary64 x F)) ∙ sym (nanBits-is binary64 b) ∙ nanBits-above binary64 b) (no-nan x h))
 
 -- a pattern by its sign
-halves : (b : ℕ) → b < 18446744073709551616 → (b / 9223372036854775808 * 2147483648 ≡ cond (leb 9223372036854775808 b) 2147483648 0) × (cond (leb 9223372036854775808 b) 9223372036854775808 0 + b % 9223372036854775808 ≡ b)
-halves b h = go (leb 9223372036854775808 b) (leb→le 9223372036854775808 b) (nleb→lt 9223372036854775808 b)
+halves : (b : ℕ) → b < 0x1_0000_0000_0000_0000 → (b / 0x8000_0000_0000_0000 * 0x8000_0000 ≡ cond (leb 0x8000_0000_0000_0000 b) 0x8000_0000 0) × (cond (leb 0x8000_0000_0000_0000 b) 0x8000_0000_0000_0000 0 + b % 0x8000_0000_0000_0000 ≡ b)
+halves b h = go (leb 0x8000_0000_0000_0000 b) (leb→le 0x8000_0000_0000_0000 b) (nleb→lt 0x8000_0000_0000_0000 b)
   where
-    go : (t : Bool) → (T t → 9223372036854775808 ≤ b) → (T (not t) → b < 9223372036854775808)
-        → (b / 9223372036854775808 * 2147483648 ≡ cond t 2147483648 0) × (cond t 9223372036854775808 0 + b % 9223372036854775808 ≡ b)
+    go : (t : Bool) → (T t → 0x8000_0000_0000_0000 ≤ b) → (T (not t) → b < 0x8000_0000_0000_0000)
+        → (b / 0x8000_0000_0000_0000 * 0x8000_0000 ≡ cond t 0x8000_0000 0) × (cond t 0x8000_0000_0000_0000 0 + b % 0x8000_0000_0000_0000 ≡ b)
     go true p q = let l = p tt in (omega arith, omega arith)
     go false p q = let l = q tt in (omega arith, omega arith)
 
-no-nan-bits : (n : ℕ) → n % 2147483648 ≤ 2139095040 → T (not (nanBits binary32 n))
-no-nan-bits n h = subst (λ (t : Bool). T (not t)) (sym (nanBits-above binary32 n)) (not-T (ltb 2139095040 (n % 2147483648)) (λ u. let l = ltb→lt 2139095040 (n % 2147483648) u in omega arith))
+no-nan-bits : (n : ℕ) → n % 0x8000_0000 ≤ 0x7f80_0000 → T (not (nanBits binary32 n))
+no-nan-bits n h = subst (λ (t : Bool). T (not t)) (sym (nanBits-above binary32 n)) (not-T (ltb 0x7f80_0000 (n % 0x8000_0000)) (λ u. let l = ltb→lt 0x7f80_0000 (n % 0x8000_0000) u in omega arith))
 
-value : (x : Float) → T (fits binary64 x) → (r : ℕ) → Narrowed (toBits binary64 x % 9223372036854775808) r → ofBits binary32 (toBits binary64 x / 9223372036854775808 * 2147483648 + r) ≡ narrow x
+value : (x : Float) → T (fits binary64 x) → (r : ℕ) → Narrowed (toBits binary64 x % 0x8000_0000_0000_0000) r → ofBits binary32 (toBits binary64 x / 0x8000_0000_0000_0000 * 0x8000_0000 + r) ≡ narrow x
 value x F r n =
     let b = toBits binary64 x in
-    let s = leb 9223372036854775808 b in
+    let s = leb 0x8000_0000_0000_0000 b in
     let h = halves b (bits-lt x F) in
     ap (λ (z : ℕ). ofBits binary32 (z + r)) (h .0) ∙ n .same s ∙ ap (λ (z : ℕ). narrow (ofBits binary64 z)) (h .1) ∙ ap narrow (ofBits-toBits binary64 x F)
 
@@ -72,7 +72,7 @@ cast-result c = omega (arith, bits-lt (c .before .before .args .x) (held (c .bef
 float-from-bits-result : tie.Need-float-from-bits-result
 float-from-bits-result c =
     let l = c .narrowed .ensures .small in
-    no-nan-bits (toBits binary64 (c .before .before .args .x) / 9223372036854775808 * 2147483648 + c .narrowed .result) (omega arith)
+    no-nan-bits (toBits binary64 (c .before .before .args .x) / 0x8000_0000_0000_0000 * 0x8000_0000 + c .narrowed .result) (omega arith)
 
 returns-2 : tie.Need-returns-2
 returns-2 c = value (c .before .before .args .x) (held (c .before .before)) (c .narrowed .result) (c .narrowed .ensures)

@@ -12,19 +12,19 @@ use Rattle.ieee.proofs.shifted.Tie as tie
 
 -- the code's `half`, and what it is
 abbrev half : ℕ → ℕ
-half k = 1 * 2 ^ (k - 1) % 18446744073709551616
+half k = 1 * 2 ^ (k - 1) % 2 ^ 64
 
 module _ (k : ℕ) (K : 1 ≤ k) (L : k < 64) where
-  bound : 2 ^ (k - 1) ≤ 4611686018427387904
+  bound : 2 ^ (k - 1) ≤ 2 ^ 62
   bound = pow-mono {j = 62} (omega arith)
 
   half-is : half k ≡ 2 ^ (k - 1)
-  half-is = let b = bound in ap (λ (x : ℕ). x % 18446744073709551616) (one-mul (2 ^ (k - 1))) ∙ mod-eq-of-lt (omega arith)
+  half-is = let b = bound in ap (λ (x : ℕ). x % 2 ^ 64) (one-mul (2 ^ (k - 1))) ∙ mod-eq-of-lt (omega arith)
 
   half-pos : 1 ≤ half k
   half-pos = let p = pow-pos (k - 1) in let e = half-is in omega arith
 
-  half-le : half k ≤ 4611686018427387904
+  half-le : half k ≤ 2 ^ 62
   half-le = let b = bound in let e = half-is in omega arith
 
   twice : half k + half k ≡ 2 ^ k
