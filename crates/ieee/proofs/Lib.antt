@@ -8,9 +8,11 @@ pub mod RintBySum
 pub mod Rint
 pub mod Pack
 pub mod Fields
+pub mod Values
 pub mod Units
 pub mod Distance
 pub mod Overflow
+pub mod Steps
 pub mod NearestValue
 pub mod NearestValueUnique
 pub mod Convert

@@ -4,11 +4,10 @@ use mathlib.Core.Logic.{_≢_, inl, inr}
 use Prim.Native.Nat.{ℕ, suc, _-_, _*_, _/_, _%_, _^_, _≤_, _<_}
 use native.Mathlib.Nat.{le-trans, le-of-eq, le-antisymm, lt-of-not-le, lt-irrefl, not-le-of-lt, ne-of-lt, ne-of-gt, mul-pos, mul-le-mul-right, div-lt-iff-lt-mul, div-div-eq-div-mul, eq-of-mul-eq-mul-right}
 use native.Mathlib.Omega.{arith}
-use mathlib.Core.Bool.{Bool, true, false, _&&_}
-use lib.Dec.{T, eqb, eqb→eq, not-T}
+use mathlib.Core.Bool.{Bool, true, false}
 use lib.Pow.{pow-pos}
-use lib.Ieee.{Float, nan, inf, fin, Format, prec, emax, low, up, down, eq, ne, round, toBits}
-use lib.Ieee.Fits.{and-l, kept-lt, down-pos, round-fits}
+use lib.Ieee.{Float, Format, prec, emax, low, round, toBits}
+use lib.Ieee.Fits.{kept-lt, round-fits}
 use lib.Ieee.Exact.{HasValue}
 use lib.Ieee.Scale.{grid, overflow}
 use Rattle.ieee.specs.Nearest.{gap, fraction, valueOf, AsFar, NearestValue, Overflows, signOf, TiesToEven}
@@ -18,24 +17,9 @@ use Rattle.ieee.proofs.Distance.{apart, as-far}
 use Rattle.ieee.proofs.Pack.{dropped, held}
 use Rattle.ieee.proofs.Units.{in-units, same-units, round-units}
 use Rattle.ieee.proofs.Overflow.{past-overflows}
-use Rattle.ieee.proofs.NearestValue.{by-steps, steps-nearest, full, step-or-farther, last-digit, round-nearest, round-ties-to-even}
-
--- two that are not as large differ as numbers
-unlike-sizes : (y z : Float) (s t : Bool) (n w c : ℕ) → HasValue y s n c → HasValue z t w c → w ≢ n → T (ne z y)
-unfolding ne eq
-unlike-sizes nan z s t n w c v x d = absurd v
-unlike-sizes (inf u) z s t n w c v x d = absurd v
-unlike-sizes (fin u m e) nan s t n w c v x d = absurd x
-unlike-sizes (fin u m e) (inf b) s t n w c v x d = absurd x
-unlike-sizes (fin u m e) (fin b k l) s t n w c v x d =
-    let a = k * up l * down e in
-    let g = m * up e * down l in
-    not-T (eqb a g && _)
-    (λ h.
-    let p = ap (λ (z : ℕ). z * down e) (x .1) in
-    let q = ap (λ (z : ℕ). z * down l) (v .1) in
-    let r = ap (λ (z : ℕ). z * c) (eqb→eq a g (and-l (eqb a g) _ h)) in
-    d (eq-of-mul-eq-mul-right (down e * down l) (mul-pos (down-pos e) (down-pos l)) w n (omega arith)))
+use Rattle.ieee.proofs.Steps.{by-steps, steps-nearest, full, step-or-farther, last-digit}
+use Rattle.ieee.proofs.Values.{differ-by-size}
+use Rattle.ieee.proofs.NearestValue.{round-nearest, round-ties-to-even}
 
 apart-same : (s : Bool) (x y : ℕ) → apart s x s y ≡ gap y x
 apart-same true x y = refl
@@ -65,7 +49,7 @@ module _ (f : Format) (s : Bool) (num den : ℕ) (D : 0 < den) (small : ¬ Overf
     even d =
         let k = dropped f num den in
         Y .tie (round f s num den) (rounded .value)
-        (unlike-sizes y (round f s num den) s s (c * 2 ^ k) (grid f num den) (2 ^ low f) v value-of-round (λ e. d (sym (eq-of-mul-eq-mul-right (2 ^ k) (pow-pos k) (held f num den) c e)))) as-near
+        (differ-by-size y (round f s num den) s s (c * 2 ^ k) (grid f num den) (2 ^ low f) v value-of-round (λ e. d (sym (eq-of-mul-eq-mul-right (2 ^ k) (pow-pos k) (held f num den) c e)))) as-near
 
     as-many : gap (c * 2 ^ dropped f num den * den) (num * 2 ^ low f) ≡ gap (grid f num den * den) (num * 2 ^ low f) → c ≡ held f num den
     as-many e =

@@ -14,6 +14,7 @@ use lib.Ieee.Bits.{ofBits-toBits}
 use lib.Ieee.Scale.{grid, overflow}
 use borrow.Author.Tests.{le-ltb}
 use Rattle.ieee.specs.Nearest.{IsValue, signOf}
+use Rattle.ieee.proofs.Values.{sign-of}
 use Rattle.ieee.proofs.Pack.{dropped, held, toBits-of, le-back}
 
 -- y is so many digits, no more than the format keeps, times a power of two, in units
@@ -67,11 +68,6 @@ pub same-units : (f : Format) (x y : Float) (s : Bool) (n : ℕ) → T (fits f x
 same-units f x y s n F G v w = sym (ofBits-toBits f x F) ∙ ap (ofBits f) (toBits-of f x s n v ∙ sym (toBits-of f y s n w)) ∙ ofBits-toBits f y G
 
 -- ---- what `round` makes
-sign-of : (x : Float) (s : Bool) (n c : ℕ) → HasValue x s n c → signOf x ≡ s
-sign-of nan s n c v = absurd v
-sign-of (inf t) s n c v = absurd v
-sign-of (fin t m e) s n c v = v .0
-
 units-sign : (f : Format) (s : Bool) (q k : ℕ) → signOf (units f s q k) ≡ s
 unfolding units
 units-sign f s q k = go (ltb (q * 2 ^ k) (overflow f))
