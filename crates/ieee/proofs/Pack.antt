@@ -37,7 +37,7 @@ toBits-of f (fin t m e) s n v =
     ∙ ap (λ (b : Bool). cond b (top f) 0 + (size n - prec f) * hid f + n / 2 ^ (size n - prec f)) (v .0)
     ∙ add-assoc (cond s (top f) 0) ((size n - prec f) * hid f) (n / 2 ^ (size n - prec f))
 
--- ---- q * 2 ^ k, with q of p digits where k is above 0; P is p - 1
+-- ---- its digits, of q * 2 ^ k units: with all p digits, P + 1 of them; with one more, from a carry; and with fewer, where none is dropped
 abbrev shape : ℕ → ℕ → ℕ
 shape p n = (size n - p) * 2 ^ (p - 1) + n / 2 ^ (size n - p)
 
@@ -90,7 +90,7 @@ shape-at (suc P) k q Z hi lo = shape-is P k q hi (λ z. subst (λ (x : ℕ). 2 ^
 pub pattern-of : (f : Format) (y : Float) (s : Bool) (q k : ℕ) → HasValue y s (q * 2 ^ k) (2 ^ low f) → q ≤ 2 ^ prec f → (0 < k → 2 ^ (prec f - 1) ≤ q) → toBits f y ≡ cond s (top f) 0 + (k * hid f + q)
 pattern-of f y s q k v hi lo = toBits-of f y s (q * 2 ^ k) v ∙ ap (λ (x : ℕ). cond s (top f) 0 + x) (shape-at (prec f) k q (omega (arith, two f)) hi lo)
 
--- ---- the end of the range, m the largest exponent: 2 ^ (m + 1), which is an infinity's pattern
+-- ---- the range's end, m the largest exponent: below 2 ^ (m + 1) the pattern is at most an infinity's, and from there on at least
 lt-back : (a b : ℕ) → 2 ^ a < 2 ^ b → a < b
 lt-back a b h = lt-of-not-le (λ (g : b ≤ a). not-le-of-lt h (pow-mono g))
 
