@@ -1,6 +1,7 @@
 pub mod Closest
 pub mod NearestWhole
 pub mod ClosestLaws
+pub mod ShiftRounds
 pub mod Held
 pub mod Tests
 pub mod Snap
@@ -19,3 +20,4 @@ pub mod Convert
 pub mod KeepsOrder
 pub mod Narrow
 pub mod NarrowedPattern
+pub mod SignAndMagnitude

@@ -11,9 +11,13 @@ use lib.Ieee.{Float, nan, inf, fin, binary64, up, down, round, sum, add, ofInt, 
 use lib.Ieee.Fits.{down-pos}
 use lib.Ieee.Back.{positive-back}
 use lib.Ieee.Nearest.{closest}
+use mir.Syntax.{w32, w64}
+use mir.Val.{SFits, toZ, ofZ}
+use mir.ValLaws.{toZ-ofZ}
 use borrow.Author.Tests.{lt-ltb, le-ltb}
 use Rattle.ieee.specs.Rounding.{rint, hold}
 use Rattle.ieee.proofs.ClosestLaws.{closest-ge, closest-le, closest-add, closest-sub}
+use Rattle.ieee.proofs.Held.{held-within}
 use Rattle.ieee.proofs.Tests.{or-eq, eq-or, not-or}
 use Rattle.ieee.proofs.Snap.{snap-whole}
 
@@ -31,11 +35,11 @@ abbrev pub bias : ℕ
 bias = 3 * 2 ^ 51
 
 -- ---- within an i32; n is what the sum is
-pub record Rounds (x : Float) (n : ℕ) : Type 0 where
-  pub sums : add binary64 x biasFloat ≡ ofInt binary64 (pos n)
-  pub near : pos n -ℤ pos bias ≡ rint x
-  pub small : mag (rint x) < 2 ^ 31
-  pub few : n < 2 ^ 53
+record Rounds (x : Float) (n : ℕ) : Type 0 where
+  sums : add binary64 x biasFloat ≡ ofInt binary64 (pos n)
+  near : pos n -ℤ pos bias ≡ rint x
+  small : mag (rint x) < 2 ^ 31
+  few : n < 2 ^ 53
 
 sub-pos : (n c : ℕ) → n ≡ bias + c → subℕ n bias ≡ pos c
 sub-pos n c e = let z = le-ltb n bias (omega arith) in rw z (ap pos (omega arith))
@@ -96,7 +100,7 @@ within-neg m e h =
     }
 
 -- what the sum is: bias and the result
-abbrev pub biased : Float → ℕ
+abbrev biased : Float → ℕ
 biased nan = 0
 biased (inf s) = 0
 biased (fin false m e) = bias + closest (m * up e) (down e)
@@ -110,7 +114,7 @@ above-least : (m : ℕ) (e : ℤ) → T (le leastFloat (fin true m e)) → m * u
 unfolding le
 above-least m e h = let z = eq-or (m * up e * 1) (2147483648 * down e) true h in omega arith
 
-pub within : (x : Float) → T (le leastFloat x) → T (le x mostFloat) → Rounds x (biased x)
+within : (x : Float) → T (le leastFloat x) → T (le x mostFloat) → Rounds x (biased x)
 unfolding le
 within nan h k = absurd h
 within (inf true) h k = absurd h
@@ -119,7 +123,7 @@ within (fin false m e) h k = within-pos m e (below-most m e k)
 within (fin true m e) h k = within-neg m e (above-least m e h)
 
 -- so it casts to an integer
-pub casts : (x : Float) → T (le leastFloat x) → T (le x mostFloat) → T (inSigned binary64 63 (add binary64 x biasFloat)) × (toSigned 63 (add binary64 x biasFloat) ≡ pos (biased x))
+casts : (x : Float) → T (le leastFloat x) → T (le x mostFloat) → T (inSigned binary64 63 (add binary64 x biasFloat)) × (toSigned 63 (add binary64 x biasFloat) ≡ pos (biased x))
 unfolding inFloat
 casts x h k =
     let r = within x h k in
@@ -127,6 +131,36 @@ casts x h k =
     let l = r .few in
     subst (λ (y : Float). T (inSigned binary64 63 y) × (toSigned 63 y ≡ pos n)) (sym (r .sums))
     (positive-back binary64 63 n (le→leb n (2 ^ 53) (omega arith)) (omega arith))
+
+-- as the machine's integers: the cast loses nothing, the difference is the result, and it is an i32
+module _ (x : Float) (h : le leastFloat x ≡ true) (k : le x mostFloat ≡ true) where
+  rounds : Rounds x (biased x)
+  rounds = within x (subst T (sym h) tt) (subst T (sym k) tt)
+
+  pub sum-casts : T (inSigned binary64 63 (add binary64 x biasFloat))
+  sum-casts = casts x (subst T (sym h) tt) (subst T (sym k) tt) .0
+
+  difference : toZ w64 (ofZ w64 (toSigned 63 (add binary64 x biasFloat))) -ℤ pos bias ≡ rint x
+  difference =
+      let l = rounds .few in
+      ap (λ (z : ℤ). toZ w64 (ofZ w64 z) -ℤ pos bias) (casts x (subst T (sym h) tt) (subst T (sym k) tt) .1)
+      ∙ ap (λ (z : ℤ). z -ℤ pos bias) (toZ-ofZ w64 (pos (biased x)) (record { sfits = omega arith }))
+      ∙ rounds .near
+
+  in64 : SFits w64 (rint x)
+  in64 = let l = rounds .small in record { sfits = omega arith }
+
+  pub difference-in64 : SFits w64 (toZ w64 (ofZ w64 (toSigned 63 (add binary64 x biasFloat))) -ℤ pos bias)
+  difference-in64 = subst (λ (z : ℤ). SFits w64 z) (sym difference) in64
+
+  difference64 : toZ w64 (ofZ w64 (toZ w64 (ofZ w64 (toSigned 63 (add binary64 x biasFloat))) -ℤ pos bias)) ≡ rint x
+  difference64 = ap (λ (z : ℤ). toZ w64 (ofZ w64 z)) difference ∙ toZ-ofZ w64 (rint x) in64
+
+  pub difference-in32 : SFits w32 (toZ w64 (ofZ w64 (toZ w64 (ofZ w64 (toSigned 63 (add binary64 x biasFloat))) -ℤ pos bias)))
+  difference-in32 = subst (λ (z : ℤ). SFits w32 z) (sym difference64) (record { sfits = rounds .small })
+
+  pub difference32 : toZ w32 (ofZ w32 (toZ w64 (ofZ w64 (toZ w64 (ofZ w64 (toSigned 63 (add binary64 x biasFloat))) -ℤ pos bias)))) ≡ hold (rint x)
+  difference32 = ap (λ (z : ℤ). toZ w32 (ofZ w32 z)) difference64 ∙ toZ-ofZ w32 (rint x) (record { sfits = rounds .small }) ∙ sym (held-within (rint x) (rounds .small))
 
 -- ---- above and below, and what is not finite
 clash : {X : Type 0} → _≡_ {A = Bool} true false → X
@@ -137,10 +171,10 @@ unfolding hold
 hold-neg zero h = absurd (omega arith)
 hold-neg (suc n) h = ap negsuc (omega arith)
 
-pub over-most : (x : Float) → T (le leastFloat x) → le x mostFloat ≡ false → lt x (inf false) ≡ true → hold (rint x) ≡ pos 2147483647
+pub over-most : (x : Float) → le leastFloat x ≡ true → le x mostFloat ≡ false → lt x (inf false) ≡ true → hold (rint x) ≡ pos 2147483647
 unfolding le lt rint hold
-over-most nan h k l = absurd h
-over-most (inf true) h k l = absurd h
+over-most nan h k l = clash (sym h)
+over-most (inf true) h k l = clash (sym h)
 over-most (inf false) h k l = clash (sym l)
 over-most (fin true m e) h k l = let z = not-or 0 (m * up e * 1 + 2147483647 * 1 * down e) _ k in absurd (omega (arith, down-pos e))
 over-most (fin false m e) h k l =
@@ -158,9 +192,9 @@ under-least (fin true m e) h l =
     let z = not-or (m * up e * 1) (2147483648 * down e) (eqb (2147483648 * down e) (m * up e * 1) && true) h in
     hold-neg (closest (m * up e) (down e)) (closest-ge 2147483648 (m * up e) (down e) (down-pos e) (omega arith))
 
-pub not-below-inf : (x : Float) → T (le leastFloat x) → lt x (inf false) ≡ false → hold (rint x) ≡ pos 0
+pub not-below-inf : (x : Float) → le leastFloat x ≡ true → lt x (inf false) ≡ false → hold (rint x) ≡ pos 0
 unfolding le lt rint hold
-not-below-inf nan h l = absurd h
+not-below-inf nan h l = clash (sym h)
 not-below-inf (inf s) h l = refl
 not-below-inf (fin s m e) h l = clash l
 
