@@ -11,7 +11,7 @@ use lib.Ieee.{Float, nan, inf, fin, up, down}
 use lib.Ieee.Fits.{down-pos}
 use lib.Ieee.Exact.{HasValue}
 use Rattle.ieee.specs.Rounding.{signed}
-use Rattle.ieee.specs.Nearest.{gap, fraction, valueOf, distance, NoFarther, AsFar}
+use Rattle.ieee.specs.Nearest.{gap, ratio, valueOf, distance, NoFarther, AsFar}
 use Rattle.ieee.proofs.Closest.{lt-or-ge}
 
 -- ---- |±a - ±b|
@@ -44,7 +44,7 @@ signed-mul false a c = refl
 signed-mul true zero c = rw zero-mul
 signed-mul true (suc a) c = refl
 
-distance-is : (s : Bool) (a b : ℕ) (t : Bool) (c d : ℕ) → distance (fraction s a b) (fraction t c d) ≡ apart s (a * d) t (c * b)
+distance-is : (s : Bool) (a b : ℕ) (t : Bool) (c d : ℕ) → distance (ratio s a b) (ratio t c d) ≡ apart s (a * d) t (c * b)
 distance-is s a b t c d = rw (signed-mul s a d, signed-mul t c b) (abs-signed s (a * d) t (c * b))
 
 -- ---- times a number
@@ -71,7 +71,7 @@ apart-mul true a true b c = gap-mul b a c
 
 -- ---- from num / den to a float of n units, both in units
 module _ (s : Bool) (num den L : ℕ) where
-  to-units : (y : Float) (t : Bool) (n : ℕ) → HasValue y t n L → distance (fraction s num den) (valueOf y) * L ≡ apart s (num * L) t (n * den) * valueOf y .bottom
+  to-units : (y : Float) (t : Bool) (n : ℕ) → HasValue y t n L → distance (ratio s num den) (valueOf y) * L ≡ apart s (num * L) t (n * den) * valueOf y .bottom
   to-units nan t n v = absurd v
   to-units (inf u) t n v = absurd v
   to-units (fin u m e) t n v =
@@ -106,10 +106,10 @@ bottom-pos (inf s) = omega arith
 bottom-pos (fin s m e) = down-pos e
 
 module _ (s : Bool) (num den L : ℕ) (y z : Float) (t u : Bool) (n w : ℕ) (Y : HasValue y t n L) (Z : HasValue z u w L) where
-  pub no-farther : 0 < L → apart s (num * L) t (n * den) ≤ apart s (num * L) u (w * den) → NoFarther (fraction s num den) (valueOf y) (valueOf z)
+  pub no-farther : 0 < L → apart s (num * L) t (n * den) ≤ apart s (num * L) u (w * den) → NoFarther (ratio s num den) (valueOf y) (valueOf z)
   no-farther P h = cross-le _ _ (valueOf y .bottom) (valueOf z .bottom) L _ _ P (to-units s num den L y t n Y) (to-units s num den L z u w Z) h
 
-  pub as-far : AsFar (fraction s num den) (valueOf y) (valueOf z) → apart s (num * L) t (n * den) ≡ apart s (num * L) u (w * den)
+  pub as-far : AsFar (ratio s num den) (valueOf y) (valueOf z) → apart s (num * L) t (n * den) ≡ apart s (num * L) u (w * den)
   as-far h = cross-eq _ _ (valueOf y .bottom) (valueOf z .bottom) L _ _ (bottom-pos y) (bottom-pos z) (to-units s num den L y t n Y) (to-units s num den L z u w Z) h
 
 -- ---- the nearest by size alone is the nearest, whatever the others' signs are

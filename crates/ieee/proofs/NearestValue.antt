@@ -11,7 +11,7 @@ use lib.Ieee.{Float, inf, Format, prec, low, ne, round}
 use lib.Ieee.Fits.{round-fits}
 use lib.Ieee.Exact.{HasValue}
 use lib.Ieee.Scale.{grid, overflow}
-use Rattle.ieee.specs.Nearest.{gap, fraction, valueOf, AsFar, IsValue, NearestValue, Overflows, signOf, TiesToEven}
+use Rattle.ieee.specs.Nearest.{gap, ratio, valueOf, AsFar, IsValue, NearestValue, Overflows, signOf, TiesToEven}
 use Rattle.ieee.proofs.Closest.{lt-or-ge}
 use Rattle.ieee.proofs.Distance.{apart-least, apart-tie, no-farther, as-far}
 use Rattle.ieee.proofs.Pack.{dropped, held, held-le, held-ge}
@@ -25,7 +25,7 @@ module _ (f : Format) (s : Bool) (num den : ℕ) (D : 0 < den) (below : grid f n
   steps-near : gap (grid f num den * den) (num * 2 ^ low f) ≤ num * 2 ^ low f
   steps-near = let b = beats f num den D 0 0 (pow-pos (prec f)) .near in omega arith
 
-  kept-even : (z : Float) → IsValue f z → T (ne z (round f s num den)) → AsFar (fraction s num den) (valueOf (round f s num den)) (valueOf z) → held f num den % 2 ≡ 0
+  kept-even : (z : Float) → IsValue f z → T (ne z (round f s num den)) → AsFar (ratio s num den) (valueOf (round f s num den)) (valueOf z) → held f num den % 2 ≡ 0
   kept-even z val d e =
       let y = round f s num den in
       let L = 2 ^ low f in
@@ -41,7 +41,7 @@ module _ (f : Format) (s : Bool) (num den : ℕ) (D : 0 < den) (below : grid f n
             beats f num den D 0 0 (pow-pos (prec f)) .tie (λ i. sizes-differ y z s (signOf z) v w L (pow-pos (low f)) Y (Z .is) d (inr o) (o ∙ i)) g
       ]
 
-pub round-nearest : (f : Format) (s : Bool) (num den : ℕ) → 0 < den → ¬ Overflows f num den → NearestValue f (fraction s num den) (round f s num den)
+pub round-nearest : (f : Format) (s : Bool) (num den : ℕ) → 0 < den → ¬ Overflows f num den → NearestValue f (ratio s num den) (round f s num den)
 round-nearest f s num den D small =
     let y = round f s num den in
     let L = 2 ^ low f in

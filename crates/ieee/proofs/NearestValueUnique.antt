@@ -10,7 +10,7 @@ use lib.Ieee.{Float, Format, prec, emax, low, round, toBits}
 use lib.Ieee.Fits.{kept-lt, round-fits}
 use lib.Ieee.Exact.{HasValue}
 use lib.Ieee.Scale.{grid, overflow}
-use Rattle.ieee.specs.Nearest.{gap, fraction, valueOf, AsFar, NearestValue, Overflows, signOf, TiesToEven}
+use Rattle.ieee.specs.Nearest.{gap, ratio, valueOf, AsFar, NearestValue, Overflows, signOf, TiesToEven}
 use Rattle.ieee.proofs.Closest.{tri, lt-or-ge}
 use Rattle.ieee.proofs.NearestWhole.{nearest-unique}
 use Rattle.ieee.proofs.Distance.{apart, as-far}
@@ -33,14 +33,14 @@ near-ge : (n d c b : ℕ) → 0 < d → gap (c * d) n * 2 ≤ d → b * d ≤ n 
 near-ge n d c b D h l = elim (lt-or-ge c b) [ inl g ↦ let m = mul-le-mul-right d g in absurd (omega arith) | inr g ↦ g ]
 
 -- ---- below the range's end
-module _ (f : Format) (s : Bool) (num den : ℕ) (D : 0 < den) (small : ¬ Overflows f num den) (y : Float) (Y : NearestValue f (fraction s num den) y) where
-  rounded : NearestValue f (fraction s num den) (round f s num den)
+module _ (f : Format) (s : Bool) (num den : ℕ) (D : 0 < den) (small : ¬ Overflows f num den) (y : Float) (Y : NearestValue f (ratio s num den) y) where
+  rounded : NearestValue f (ratio s num den) (round f s num den)
   rounded = round-nearest f s num den D small
 
   value-of-round : HasValue (round f s num den) s (grid f num den) (2 ^ low f)
   value-of-round = round-units f s num den (lt-of-not-le (λ (h : overflow f ≤ grid f num den). small (past-overflows f num den D h)))
 
-  as-near : AsFar (fraction s num den) (valueOf y) (valueOf (round f s num den))
+  as-near : AsFar (ratio s num den) (valueOf y) (valueOf (round f s num den))
   as-near = le-antisymm (Y .near (round f s num den) (rounded .value)) (rounded .near y (Y .value))
 
   -- y is c steps: as many as `round` keeps, since at a tie both would be even

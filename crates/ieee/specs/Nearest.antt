@@ -21,37 +21,37 @@ pub record NearestWhole (num den n : ℕ) : Type 0 where
 
 -- ---- among the values of a format
 
--- a number as a fraction; wherever one is used its bottom is above 0
+-- A number as a fraction. Each that is met below has a bottom above 0.
 pub record Fraction : Type 0 where
   pub top : ℤ
   pub bottom : ℕ
 
--- num / den with a sign, negative where it is true
-abbrev pub fraction : Bool → ℕ → ℕ → Fraction
-fraction s num den = record { top = signed s num; bottom = den }
+-- num / den with a sign
+abbrev pub ratio : Bool → ℕ → ℕ → Fraction
+ratio s num den = record { top = signed s num; bottom = den }
 
 -- the number that a finite float is; what is not finite has none, and 0 stands in its place
 abbrev pub valueOf : Float → Fraction
 valueOf nan = record { top = pos 0; bottom = 1 }
 valueOf (inf s) = record { top = pos 0; bottom = 1 }
-valueOf (fin s m e) = fraction s (m * up e) (down e)
+valueOf (fin s m e) = ratio s (m * up e) (down e)
 
--- |x - y|, over the product of the two bottoms
+-- |x - y| is this number over the product of the two bottoms
 abbrev pub distance : Fraction → Fraction → ℕ
 distance x y = natAbs (x .top *ℤ pos (y .bottom) -ℤ y .top *ℤ pos (x .bottom))
 
--- |x - y| ≤ |x - z|, and |x - y| = |x - z|: each side times the three bottoms, without x's, which both sides have
+-- |x - y| ≤ |x - z|, and |x - y| = |x - z|, multiplied out. (x's bottom stands on both sides, and is left out.)
 abbrev pub NoFarther : Fraction → Fraction → Fraction → Type 0
 NoFarther x y z = distance x y * z .bottom ≤ distance x z * y .bottom
 
 abbrev pub AsFar : Fraction → Fraction → Fraction → Type 0
 AsFar x y z = distance x y * z .bottom ≡ distance x z * y .bottom
 
--- y is a number of the format f
+-- y is a number, and the format f holds it
 abbrev pub IsValue : Format → Float → Type 0
 IsValue f y = T (finite y) × T (fits f y)
 
--- y is a value of f, none is nearer to x, and where another is as near y's last digit is even
+-- y is the value of f nearest to x: none is nearer, and where another is as near y's last digit, which is the last bit of its pattern, is 0
 pub record NearestValue (f : Format) (x : Fraction) (y : Float) : Type 0 where
   pub value : IsValue f y
   pub near : (z : Float) → IsValue f z → NoFarther x (valueOf y) (valueOf z)
@@ -61,14 +61,14 @@ pub record NearestValue (f : Format) (x : Fraction) (y : Float) : Type 0 where
 abbrev pub Overflows : Format → ℕ → ℕ → Type 0
 Overflows f num den = 2 ^ emax f * (2 ^ suc (prec f) - 1) * den ≤ num * 2 ^ prec f
 
--- negative, or -0: the sign of what is a NaN is never asked
+-- whether the sign is minus, of a zero too; that of a NaN is never asked
 abbrev pub signOf : Float → Bool
 signOf nan = false
 signOf (inf s) = s
 signOf (fin s m e) = s
 
--- y is what IEEE 754 delivers at the format f for the number num / den with the sign s: the nearest value, from `Overflows` on the infinity, and with the number's sign, at a zero too
+-- y is what IEEE 754 delivers at the format f for num / den with the sign s: the nearest value, or the infinity where that overflows, and with that sign even where it is 0
 pub record TiesToEven (f : Format) (s : Bool) (num den : ℕ) (y : Float) : Type 0 where
-  pub nearest : ¬ Overflows f num den → NearestValue f (fraction s num den) y
+  pub nearest : ¬ Overflows f num den → NearestValue f (ratio s num den) y
   pub infinite : Overflows f num den → y ≡ inf s
   pub sign : signOf y ≡ s
