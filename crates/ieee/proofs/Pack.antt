@@ -1,21 +1,21 @@
 -- The bit pattern of what `round` makes, over the format: with k digits dropped and the number q kept, it is k * hid + q, and no more than an infinity's, with the sign above.
 -- A carry out of q, a subnormal result and an overflow need no case of their own. Assumes nothing.
 use mathlib.Core.Path.{_≡_, refl, sym, ap, _∙_, subst}
-use mathlib.Core.Logic.{_⊎_, inl, inr}
-use Prim.Native.Nat.{ℕ, zero, suc, _+_, _-_, _*_, _/_, _%_, _^_, _≤_, _<_, min, compare, zero-le}
-use native.Mathlib.Nat.{le-refl, le-trans, le-of-eq, le-of-lt, lt-of-lt-of-le, lt-of-le-of-lt, lt-of-not-le, not-le-of-lt, eq-or-lt-of-le, add-zero, add-assoc, zero-add, mul-one, one-mul, mul-comm, mul-assoc, mul-left-comm, mul-right-comm, mul-le-mul-right, mul-le-mul-left, mul-lt-mul-of-pos-right, lt-of-mul-lt-mul-right, mul-pos, mul-div-cancel, div-one, zero-lt-suc, le-div-iff-mul-le, div-lt-iff-lt-mul, div-div-eq-div-mul, pow-succ', suc-mul, add-mul, two-pow-succ, le-of-suc-le-suc, le-of-mul-le-mul-right, eq-zero-or-pos, min-eq-left, min-eq-right}
+use mathlib.Core.Logic.{inl, inr}
+use Prim.Native.Nat.{ℕ, zero, suc, _+_, _-_, _*_, _/_, _%_, _^_, _≤_, _<_, min, compare}
+use native.Mathlib.Nat.{le-refl, le-trans, le-of-eq, lt-of-lt-of-le, lt-of-le-of-lt, lt-of-not-le, not-le-of-lt, eq-or-lt-of-le, add-assoc, mul-one, mul-le-mul-right, mul-lt-mul-of-pos-right, mul-div-cancel, zero-lt-suc, le-div-iff-mul-le, div-lt-iff-lt-mul, div-div-eq-div-mul, suc-mul, add-mul, two-pow-succ, le-of-suc-le-suc, le-of-mul-le-mul-right, eq-zero-or-pos, min-eq-left, min-eq-right}
 use native.Mathlib.Omega.{arith}
-use mathlib.Core.Bool.{Bool, true, false, not, cond}
-use lib.Dec.{T, ltb, leb, ltb→lt, nltb→le}
+use mathlib.Core.Bool.{Bool, cond}
 use lib.Pow.{pow-add, pow-pos, pow-mono, pow-lt}
-use lib.Ieee.{Float, nan, inf, fin, Format, binary32, binary64, prec, emax, low, hid, ones, top, up, down, size, nearest, odd, units, round, toBits, ofBits}
-use lib.Ieee.Digits.{size-lt, size-le, size-reaches}
+use lib.Ieee.{Float, nan, inf, fin, Format, prec, emax, low, hid, ones, top, up, down, size, odd, units, round, toBits, ofBits}
+use lib.Ieee.Digits.{size-le, size-reaches}
 use lib.Ieee.Fits.{round-is, round-fits, two, reach, kept-lt, nearest-le, down-pos}
-use lib.Ieee.Exact.{HasValue, odd-sign}
+use lib.Ieee.Exact.{HasValue, units-val}
 use lib.Ieee.Bits.{ofBits-toBits}
-use lib.Ieee.Nearest.{closest, nearest-ge}
+use lib.Ieee.Nearest.{nearest-ge}
 use lib.Ieee.Order.{drop, kept}
-use Rattle.ieee.proofs.Closest.{tri}
+use borrow.Author.Tests.{le-ltb}
+use Rattle.ieee.proofs.Closest.{lt-or-ge}
 use Rattle.ieee.proofs.Snap.{size-gt}
 
 -- ---- how many digits: from 2 ^ j up and below 2 ^ (j + 1)
@@ -37,7 +37,7 @@ toBits-of f (fin t m e) s n v =
     ∙ ap (λ (b : Bool). cond b (top f) 0 + (size n - prec f) * hid f + n / 2 ^ (size n - prec f)) (v .0)
     ∙ add-assoc (cond s (top f) 0) ((size n - prec f) * hid f) (n / 2 ^ (size n - prec f))
 
--- ---- q * 2 ^ k, with q of p digits where k is above 0; P is p - 1
+-- ---- its digits, of q * 2 ^ k units: with all p digits, P + 1 of them; with one more, from a carry; and with fewer, where none is dropped
 abbrev shape : ℕ → ℕ → ℕ
 shape p n = (size n - p) * 2 ^ (p - 1) + n / 2 ^ (size n - p)
 
@@ -69,12 +69,12 @@ few P q h =
     at-drop (suc P) (q * 1) 0 q (omega arith) refl
 
 shape-is : (P k q : ℕ) → q ≤ 2 ^ suc P → (0 < k → 2 ^ P ≤ q) → shape (suc P) (q * 2 ^ k) ≡ k * 2 ^ (suc P - 1) + q
-shape-is P k q hi lo = elim (tri q (2 ^ P)) [
+shape-is P k q hi lo = elim (lt-or-ge q (2 ^ P)) [
   | inl l ↦ short k lo l
   | inr r ↦
       elim (eq-or-lt-of-le hi) [
         | inl e ↦ subst (λ (x : ℕ). shape (suc P) (x * 2 ^ k) ≡ k * 2 ^ (suc P - 1) + x) (sym e) (carry P k)
-        | inr l ↦ full P k q (elim r [ inl e ↦ le-of-eq (sym e) | inr g ↦ le-of-lt g ]) l
+        | inr l ↦ full P k q r l
       ]
 ]
   where
@@ -86,11 +86,15 @@ shape-at : (p k q : ℕ) → 0 < p → q ≤ 2 ^ p → (0 < k → 2 ^ (p - 1) �
 shape-at zero k q Z hi lo = absurd (omega arith)
 shape-at (suc P) k q Z hi lo = shape-is P k q hi (λ z. subst (λ (x : ℕ). 2 ^ x ≤ q) (omega arith) (lo z))
 
--- ---- the end of the range, m the largest exponent: 2 ^ (m + 1), which is an infinity's pattern
+-- so the pattern of q * 2 ^ k units
+pub pattern-of : (f : Format) (y : Float) (s : Bool) (q k : ℕ) → HasValue y s (q * 2 ^ k) (2 ^ low f) → q ≤ 2 ^ prec f → (0 < k → 2 ^ (prec f - 1) ≤ q) → toBits f y ≡ cond s (top f) 0 + (k * hid f + q)
+pattern-of f y s q k v hi lo = toBits-of f y s (q * 2 ^ k) v ∙ ap (λ (x : ℕ). cond s (top f) 0 + x) (shape-at (prec f) k q (omega (arith, two f)) hi lo)
+
+-- ---- the range's end, m the largest exponent: below 2 ^ (m + 1) the pattern is at most an infinity's, and from there on at least
 lt-back : (a b : ℕ) → 2 ^ a < 2 ^ b → a < b
 lt-back a b h = lt-of-not-le (λ (g : b ≤ a). not-le-of-lt h (pow-mono g))
 
-le-back : (a b : ℕ) → 2 ^ a ≤ 2 ^ b → a ≤ b
+pub le-back : (a b : ℕ) → 2 ^ a ≤ 2 ^ b → a ≤ b
 le-back a b h = le-of-suc-le-suc (lt-of-not-le (λ (g : suc b ≤ a). not-le-of-lt (pow-lt g) h))
 
 module _ (p m k q : ℕ) (P : 2 ≤ p) (M : 1 ≤ m) (hi : q ≤ 2 ^ p) (lo : 0 < k → 2 ^ (p - 1) ≤ q) where
@@ -115,14 +119,13 @@ module _ (p m k q : ℕ) (P : 2 ≤ p) (M : 1 ≤ m) (hi : q ≤ 2 ^ p) (lo : 0 
       let h2 = twice in
       let l = le-back (m + p - 2 + suc m) (p + k) (le-trans h (le-trans (mul-le-mul-right (2 ^ k) hi) (le-of-eq (sym (pow-add 2 p k))))) in
       let lo' = lo (omega arith) in
-      elim (tri k (2 * m)) [
+      elim (lt-or-ge k (2 * m)) [
         | inl u ↦
             let e : m + p - 2 + suc m ≡ p + k = omega arith in
             let q-ge : 2 ^ p ≤ q = le-of-mul-le-mul-right (le-trans (le-of-eq (sym (pow-add 2 p k) ∙ ap (λ (x : ℕ). 2 ^ x) (sym e))) h) (pow-pos k) in
             let i : 2 * m + 1 ≡ k + 2 = omega arith in
             le-trans (le-of-eq (ap (λ (x : ℕ). x * 2 ^ (p - 1)) i ∙ add-mul k 2 (2 ^ (p - 1)))) (omega arith)
-        | inr u ↦
-            let k-ge : 2 * m ≤ k = elim u [ inl e ↦ le-of-eq (sym e) | inr g ↦ le-of-lt g ] in
+        | inr k-ge ↦
             let g = mul-le-mul-right (2 ^ (p - 1)) k-ge in
             let a = add-mul (2 * m) 1 (2 ^ (p - 1)) in
             omega arith
@@ -153,18 +156,16 @@ module _ (f : Format) (num den : ℕ) where
 
   pattern : (s : Bool) → toBits f (round f s num den) ≡ cond s (top f) 0 + min (dropped * hid f + held) (ones f * hid f)
   unfolding units toBits
-  pattern s =
-      let e = 2 ^ (low f + suc (emax f)) in
-      ap (toBits f) (round-is f s num den) ∙ go (ltb (held * 2 ^ dropped) e) (ltb→lt (held * 2 ^ dropped) e) (nltb→le (held * 2 ^ dropped) e)
-    where
-      go : (b : Bool) → (T b → held * 2 ^ dropped < 2 ^ (low f + suc (emax f))) → (T (not b) → 2 ^ (low f + suc (emax f)) ≤ held * 2 ^ dropped)
-          → toBits f (cond b (odd (suc (prec f)) s held dropped (low f)) (inf s)) ≡ cond s (top f) 0 + min (dropped * hid f + held) (ones f * hid f)
-      go true a b =
-          toBits-of f (odd (suc (prec f)) s held dropped (low f)) s (held * 2 ^ dropped) (odd-sign (suc (prec f)) s held dropped (low f))
-          ∙ ap (λ (x : ℕ). cond s (top f) 0 + x)
-          (shape-at (prec f) dropped held (omega (arith, two f)) held-le held-ge
-          ∙ sym (min-eq-left (in-range (prec f) (emax f) dropped held (two f) (omega (arith, two f, reach f)) held-le held-ge (a tt))))
-      go false a b = ap (λ (x : ℕ). cond s (top f) 0 + x) (sym (min-eq-right (past-range (prec f) (emax f) dropped held (two f) (omega (arith, two f, reach f)) held-le held-ge (b tt))))
+  pattern s = elim (lt-or-ge (held * 2 ^ dropped) (2 ^ (low f + suc (emax f)))) [
+    | inl l ↦
+        ap (toBits f) (round-is f s num den)
+        ∙ pattern-of f (units f s held dropped) s held dropped (units-val f s held dropped l) held-le held-ge
+        ∙ ap (λ (x : ℕ). cond s (top f) 0 + x) (sym (min-eq-left (in-range (prec f) (emax f) dropped held (two f) (omega (arith, two f, reach f)) held-le held-ge l)))
+    | inr past ↦
+        ap (toBits f) (round-is f s num den)
+        ∙ ap (λ (b : Bool). toBits f (cond b (odd (suc (prec f)) s held dropped (low f)) (inf s))) (le-ltb (held * 2 ^ dropped) (2 ^ (low f + suc (emax f))) past)
+        ∙ ap (λ (x : ℕ). cond s (top f) 0 + x) (sym (min-eq-right (past-range (prec f) (emax f) dropped held (two f) (omega (arith, two f, reach f)) held-le held-ge past)))
+  ]
 
   -- so the pattern stands for the rounded value
   pub packed : (s : Bool) → ofBits f (cond s (top f) 0 + min (dropped * hid f + held) (ones f * hid f)) ≡ round f s num den

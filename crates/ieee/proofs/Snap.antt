@@ -1,6 +1,6 @@
 -- Where a format has no digit after the point: a fraction from 2 ^ (prec - 1) up and below 2 ^ prec rounds to a whole number, the nearest one. Over the format. Assumes nothing.
-use mathlib.Core.Path.{_≡_, refl, sym, ap, _∙_, subst}
-use Prim.Native.Nat.{ℕ, suc, _+_, _-_, _*_, _/_, _%_, _^_, _≤_, _<_}
+use mathlib.Core.Path.{_≡_, sym, ap, _∙_, subst}
+use Prim.Native.Nat.{ℕ, suc, _+_, _-_, _*_, _/_, _^_, _≤_, _<_}
 use native.Mathlib.Nat.{le-trans, le-of-eq, lt-of-lt-of-le, lt-of-not-le, not-le-of-lt, mul-one, mul-comm, mul-assoc, mul-right-comm, mul-le-mul-right, mul-lt-mul-of-pos-right, mul-pos, le-div-iff-mul-le, div-lt-iff-lt-mul, zero-lt-suc}
 use native.Mathlib.Omega.{arith}
 use mathlib.Core.Bool.{Bool}
@@ -9,13 +9,13 @@ use lib.Ieee.{Format, prec, low, size, units, round}
 use lib.Ieee.Digits.{size-lt, size-le}
 use lib.Ieee.Fits.{round-is, two}
 use lib.Ieee.Nearest.{closest, closest-same}
-use Rattle.ieee.proofs.Closest.{closest-whole}
+use Rattle.ieee.proofs.ClosestLaws.{closest-whole}
 
 pub size-gt : (n j : ℕ) → 2 ^ j ≤ n → j < size n
 size-gt n j h = lt-of-not-le (λ (g : size n ≤ j). not-le-of-lt (lt-of-lt-of-le (size-lt n) (pow-mono g)) h)
 
 -- 2 ^ j ≤ num / den < 2 ^ (j + 1), in units of 2 ^ -l
-pub size-is : (j l num den : ℕ) → 0 < den → 2 ^ j * den ≤ num → num < 2 ^ suc j * den → size (num * 2 ^ l / den) ≡ suc j + l
+size-is : (j l num den : ℕ) → 0 < den → 2 ^ j * den ≤ num → num < 2 ^ suc j * den → size (num * 2 ^ l / den) ≡ suc j + l
 size-is j l num den D lo hi =
     let a : 2 ^ (j + l) * den ≤ num * 2 ^ l = le-trans (le-of-eq (ap (λ (x : ℕ). x * den) (pow-add 2 j l) ∙ mul-right-comm (2 ^ j) (2 ^ l) den)) (mul-le-mul-right (2 ^ l) lo) in
     let b : num * 2 ^ l < 2 ^ (suc j + l) * den = lt-of-lt-of-le (mul-lt-mul-of-pos-right hi (pow-pos l)) (le-of-eq (mul-right-comm (2 ^ suc j) den (2 ^ l) ∙ ap (λ (x : ℕ). x * den) (sym (pow-add 2 (suc j) l)))) in
@@ -24,7 +24,7 @@ size-is j l num den D lo hi =
     omega arith
 
 module _ (f : Format) (s : Bool) where
-  pub snap : (num den : ℕ) → 0 < den → 2 ^ (prec f - 1) * den ≤ num → num < 2 ^ prec f * den → round f s num den ≡ units f s (closest num den) (low f)
+  snap : (num den : ℕ) → 0 < den → 2 ^ (prec f - 1) * den ≤ num → num < 2 ^ prec f * den → round f s num den ≡ units f s (closest num den) (low f)
   snap num den D lo hi =
       let t = two f in
       let p : suc (prec f - 1) ≡ prec f = omega arith in

@@ -17,7 +17,14 @@ rint nan = pos 0
 rint (inf s) = pos 0
 rint (fin s m e) = signed s (closest (m * up e) (down e))
 
--- held at the ends of an i32, 2 ^ 31 - 1 and -2 ^ 31, which is `negsuc (2 ^ 31 - 1)`
+-- the ends of an i32
+abbrev pub least : ℤ
+least = negℤ (pos (2 ^ 31))
+
+abbrev pub most : ℤ
+most = pos (2 ^ 31 - 1)
+
+-- held at the ends of an i32 (`negsuc n` is -(n + 1))
 unfoldable pub hold : ℤ → ℤ
 hold (pos n) = pos (min n (2 ^ 31 - 1))
 hold (negsuc n) = negsuc (min n (2 ^ 31 - 1))

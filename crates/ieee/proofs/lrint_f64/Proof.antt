@@ -1,81 +1,37 @@
--- `ieee::lrint_f64` meets its contract. Within an i32 the sum with 1.5 * 2 ^ 52 is rounded to a whole number, which the cast and the difference hand on (`Rint.antt`). Assumes nothing.
-use mathlib.Core.Path.{_≡_, refl, sym, ap, _∙_, subst}
-use Prim.Native.Nat.{_<_, _^_}
-use native.Mathlib.Omega.{arith}
-use mathlib.Core.Bool.{Bool, true}
-use lib.IntN.{ℤ, pos, _-ℤ_}
-use lib.Signed.{mag}
-use lib.Dec.{T}
-use lib.Ieee.{Float, binary64, add, le, lt, ofBits, neg, div, toSigned}
-use mir.Syntax.{w32, w64}
-use mir.Val.{SFits, toZ, ofZ}
-use mir.ValLaws.{toZ-ofZ}
-use Rattle.ieee.specs.Rounding.{rint, hold}
-use Rattle.ieee.proofs.Rint.{least, most, magic, B, biased, within, casts, over, under, not-below-inf, not-above-inf, held-within}
+-- `ieee::lrint_f64` meets its contract, by the laws of `RintBySum.antt`, one for each way. Assumes nothing.
+use mathlib.Core.Path.{sym}
+use lib.Ieee.{ofBits, neg, div}
+use Rattle.ieee.proofs.RintBySum.{sum-casts, difference-in64, difference-in32, difference32, over-most, under-least, not-below-inf, not-above-inf}
 use Rattle.ieee.proofs.lrint_f64.Statement.{statement}
 use Rattle.ieee.proofs.lrint_f64.Tie as tie
-use Rattle.ieee.proofs.lrint_f64.Reads as reads
-use Rattle.ieee.proofs.lrint_f64.Lts as lts
-
-yes : (b : Bool) → b ≡ true → T b
-yes b e = subst T (sym e) tt
-
-module _ (x : Float) (h : T (le least x)) (k : T (le x most)) where
-  value : toZ w64 (ofZ w64 (toSigned 63 (add binary64 x magic))) -ℤ pos B ≡ rint x
-  value =
-      let r = within x h k in
-      let l = r .few in
-      ap (λ (z : ℤ). toZ w64 (ofZ w64 z) -ℤ pos B) (casts x h k .1)
-      ∙ ap (λ (z : ℤ). z -ℤ pos B) (toZ-ofZ w64 (pos (biased x)) (record { sfits = omega arith }))
-      ∙ r .near
-
-  in64 : SFits w64 (rint x)
-  in64 = let l = within x h k .small in record { sfits = omega arith }
-
-  in32 : SFits w32 (rint x)
-  in32 = record { sfits = within x h k .small }
-
-  value64 : toZ w64 (ofZ w64 (toZ w64 (ofZ w64 (toSigned 63 (add binary64 x magic))) -ℤ pos B)) ≡ rint x
-  value64 = ap (λ (z : ℤ). toZ w64 (ofZ w64 z)) value ∙ toZ-ofZ w64 (rint x) in64
-
-  value32 : toZ w32 (ofZ w32 (toZ w64 (ofZ w64 (toZ w64 (ofZ w64 (toSigned 63 (add binary64 x magic))) -ℤ pos B)))) ≡ hold (rint x)
-  value32 = ap (λ (z : ℤ). toZ w32 (ofZ w32 z)) value64 ∙ toZ-ofZ w32 (rint x) in32 ∙ sym (held-within (rint x) (within x h k .small))
 
 float-to-int-result : tie.Need-float-to-int-result
 unfolding ofBits neg
-float-to-int-result c = casts (c .before .before .before .args .x) (yes _ (c .before .before .if1 .taken)) (yes _ (c .before .if2 .taken)) .0
+float-to-int-result c = sum-casts (c .before .before .before .args .x) (c .before .before .if1 .taken) (c .before .if2 .taken)
 
 sub-result : tie.Need-sub-result
 unfolding ofBits neg
-sub-result c =
-    let x = c .before .before .before .args .x in
-    let h : T (le least x) = yes _ (c .before .before .if1 .taken) in
-    let k : T (le x most) = yes _ (c .before .if2 .taken) in
-    subst (λ (z : ℤ). SFits w64 z) (sym (value x h k)) (in64 x h k)
+sub-result c = difference-in64 (c .before .before .before .args .x) (c .before .before .if1 .taken) (c .before .if2 .taken)
 
 cast-result : tie.Need-cast-result
 unfolding ofBits neg
-cast-result c =
-    let x = c .before .before .before .args .x in
-    let h : T (le least x) = yes _ (c .before .before .if1 .taken) in
-    let k : T (le x most) = yes _ (c .before .if2 .taken) in
-    subst (λ (z : ℤ). SFits w32 z) (sym (value64 x h k)) (in32 x h k)
+cast-result c = difference-in32 (c .before .before .before .args .x) (c .before .before .if1 .taken) (c .before .if2 .taken)
 
 returns : tie.Need-returns
 unfolding ofBits neg
-returns c = value32 (c .before .before .before .args .x) (yes _ (c .before .before .if1 .taken)) (yes _ (c .before .if2 .taken))
+returns c = difference32 (c .before .before .before .args .x) (c .before .before .if1 .taken) (c .before .if2 .taken)
 
 returns-2 : tie.Need-returns-2
 unfolding ofBits neg div
-returns-2 c = sym (over (c .before .before .before .args .x) (yes _ (c .before .before .if1 .taken)) (c .before .if2 .left) (c .if3 .taken))
+returns-2 c = sym (over-most (c .before .before .before .args .x) (c .before .before .if1 .taken) (c .before .if2 .left) (c .if3 .taken))
 
 returns-3 : tie.Need-returns-3
 unfolding ofBits neg div
-returns-3 c = sym (not-below-inf (c .before .before .before .args .x) (yes _ (c .before .before .if1 .taken)) (c .if3 .left))
+returns-3 c = sym (not-below-inf (c .before .before .before .args .x) (c .before .before .if1 .taken) (c .if3 .left))
 
 returns-4 : tie.Need-returns-4
 unfolding ofBits neg div
-returns-4 c = sym (under (c .before .before .args .x) (c .before .if1 .left) (c .if4 .taken))
+returns-4 c = sym (under-least (c .before .before .args .x) (c .before .if1 .left) (c .if4 .taken))
 
 returns-5 : tie.Need-returns-5
 unfolding ofBits neg div

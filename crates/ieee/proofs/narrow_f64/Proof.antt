@@ -1,54 +1,17 @@
--- `ieee::narrow_f64` meets its contract: a NaN by itself, and of any other value the bits, taken apart into the sign and the magnitude's. Assumes nothing.
-use mathlib.Core.Path.{_≡_, refl, sym, ap, _∙_, subst}
-use Prim.Native.Nat.{ℕ, _+_, _*_, _/_, _%_, _^_, _≤_, _<_}
+-- `ieee::narrow_f64` meets its contract: a NaN by itself, and any other value by the two halves of its pattern (`SignAndMagnitude.antt`). Assumes nothing.
+use mathlib.Core.Path.{sym, ap, subst}
+use Prim.Native.Nat.{_+_, _*_, _/_}
 use native.Mathlib.Omega.{arith}
-use mathlib.Core.Bool.{Bool, true, false, not, cond}
-use lib.Dec.{T, leb, ltb, leb→le, nleb→lt, nltb→le, lt→ltb, not-T, T-not, ltb→lt}
-use lib.Ieee.{Float, nan, inf, fin, binary32, binary64, isNan, fits, ne, div, ofBits, toBits, nanBits}
-use lib.Ieee.Bits.{ofBits-toBits, toBits-lt, nanBits-is, nanBits-above}
-use lib.Ieee.Compare.{differs-from-itself, nan-differs}
-use Rattle.ieee.specs.Narrowing.{narrow, Narrowed}
+use lib.Dec.{T}
+use lib.Ieee.{binary64, fits, div, ofBits, toBits}
+use lib.Ieee.Compare.{differs-from-itself}
+use Rattle.ieee.specs.Narrowing.{narrow}
+use Rattle.ieee.proofs.SignAndMagnitude.{no-nan, bits-lt, magnitude-le, no-nan-bits, narrow-halves}
 use Rattle.ieee.proofs.narrow_f64.Statement.{statement}
 use Rattle.ieee.proofs.narrow_f64.Tie as tie
 
--- what `x != x` says
-no-nan : (x : Float) → ne x x ≡ false → T (not (isNan x))
-unfolding ne isNan
-no-nan nan h = absurd (subst T h tt)
-no-nan (inf s) h = tt
-no-nan (fin s m e) h = tt
-
-module _ (x : Float) (F : T (fits binary64 x)) where
-  bits-lt : toBits binary64 x < 18446744073709551616
-  bits-lt = toBits-lt binary64 x F
-
-  magnitude-le : ne x x ≡ false → toBits binary64 x % 9223372036854775808 ≤ 9218868437227405312
-  magnitude-le h =
-      let b = toBits binary64 x in
-      nltb→le 9218868437227405312 (b % 9223372036854775808)
-      (subst (λ (t : Bool). T (not t)) (sym (ap isNan (ofBits-toBits binary64 x F)) ∙ sym (nanBits-is binary64 b) ∙ nanBits-above binary64 b) (no-nan x h))
-
--- a pattern by its sign
-halves : (b : ℕ) → b < 18446744073709551616 → (b / 9223372036854775808 * 2147483648 ≡ cond (leb 9223372036854775808 b) 2147483648 0) × (cond (leb 9223372036854775808 b) 9223372036854775808 0 + b % 9223372036854775808 ≡ b)
-halves b h = go (leb 9223372036854775808 b) (leb→le 9223372036854775808 b) (nleb→lt 9223372036854775808 b)
-  where
-    go : (t : Bool) → (T t → 9223372036854775808 ≤ b) → (T (not t) → b < 9223372036854775808)
-        → (b / 9223372036854775808 * 2147483648 ≡ cond t 2147483648 0) × (cond t 9223372036854775808 0 + b % 9223372036854775808 ≡ b)
-    go true p q = let l = p tt in (omega arith, omega arith)
-    go false p q = let l = q tt in (omega arith, omega arith)
-
-no-nan-bits : (n : ℕ) → n % 2147483648 ≤ 2139095040 → T (not (nanBits binary32 n))
-no-nan-bits n h = subst (λ (t : Bool). T (not t)) (sym (nanBits-above binary32 n)) (not-T (ltb 2139095040 (n % 2147483648)) (λ u. let l = ltb→lt 2139095040 (n % 2147483648) u in omega arith))
-
-value : (x : Float) → T (fits binary64 x) → (r : ℕ) → Narrowed (toBits binary64 x % 9223372036854775808) r → ofBits binary32 (toBits binary64 x / 9223372036854775808 * 2147483648 + r) ≡ narrow x
-value x F r n =
-    let b = toBits binary64 x in
-    let s = leb 9223372036854775808 b in
-    let h = halves b (bits-lt x F) in
-    ap (λ (z : ℕ). ofBits binary32 (z + r)) (h .0) ∙ n .same s ∙ ap (λ (z : ℕ). narrow (ofBits binary64 z)) (h .1) ∙ ap narrow (ofBits-toBits binary64 x F)
-
-held : (c : tie.Start) → T (fits binary64 (c .args .x))
-held c = subst T (sym (c .good .0 .1)) tt
+fits-of : (c : tie.Start) → T (fits binary64 (c .args .x))
+fits-of c = subst T (sym (c .good .0 .1)) tt
 
 returns : tie.Need-returns
 unfolding ofBits div narrow
@@ -58,24 +21,24 @@ float-to-bits-b : tie.Need-float-to-bits-b
 float-to-bits-b c = no-nan (c .before .args .x) (c .if1 .left)
 
 narrowed-requires : tie.Need-narrowed-requires
-narrowed-requires c κs = magnitude-le (c .before .args .x) (held (c .before)) (c .if1 .left)
+narrowed-requires c κs = magnitude-le (c .before .args .x) (fits-of (c .before)) (c .if1 .left)
 
 mul-result : tie.Need-mul-result
-mul-result c = omega (arith, bits-lt (c .before .before .args .x) (held (c .before .before)))
+mul-result c = omega (arith, bits-lt (c .before .before .args .x) (fits-of (c .before .before)))
 
 add-result : tie.Need-add-result
-add-result c = omega (arith, bits-lt (c .before .before .args .x) (held (c .before .before)))
+add-result c = omega (arith, bits-lt (c .before .before .args .x) (fits-of (c .before .before)))
 
 cast-result : tie.Need-cast-result
-cast-result c = omega (arith, bits-lt (c .before .before .args .x) (held (c .before .before)))
+cast-result c = omega (arith, bits-lt (c .before .before .args .x) (fits-of (c .before .before)))
 
 float-from-bits-result : tie.Need-float-from-bits-result
 float-from-bits-result c =
     let l = c .narrowed .ensures .small in
-    no-nan-bits (toBits binary64 (c .before .before .args .x) / 9223372036854775808 * 2147483648 + c .narrowed .result) (omega arith)
+    no-nan-bits (toBits binary64 (c .before .before .args .x) / 0x8000_0000_0000_0000 * 0x8000_0000 + c .narrowed .result) (omega arith)
 
 returns-2 : tie.Need-returns-2
-returns-2 c = value (c .before .before .args .x) (held (c .before .before)) (c .narrowed .result) (c .narrowed .ensures)
+returns-2 c = narrow-halves (c .before .before .args .x) (fits-of (c .before .before)) (c .narrowed .result) (c .narrowed .ensures)
 
 pub narrow-f64-spec : {M : Type 1} → statement M
 narrow-f64-spec = tie.close (tie.spec returns float-to-bits-b narrowed-requires mul-result add-result cast-result float-from-bits-result returns-2)
