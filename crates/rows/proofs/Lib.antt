@@ -1,3 +1,5 @@
+pub mod FloatOrder
+pub mod NearestWhole
 pub mod RowWithin
 pub mod RowOfBeat
 pub mod RowsKeepOrder
