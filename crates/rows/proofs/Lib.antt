@@ -3,6 +3,8 @@ pub mod NearestWhole
 pub mod RoundedSize
 pub mod Values
 pub mod NarrowOwn
-pub mod RowWithin
+pub mod AllowedBeat
+pub mod RowValue
 pub mod RowOfBeat
+pub mod RowWithin
 pub mod RowsKeepOrder

@@ -50,3 +50,6 @@ nearest-unique num den m n D p q = elim (tri m n) [
   | inr (inl e) ↦ e
   | inr (inr g) ↦ absurd (one-below num den n m D q p g)
 ]
+
+pub closest-is : (num den n : ℕ) → 0 < den → NearestWhole num den n → closest num den ≡ n
+closest-is num den n D = nearest-unique num den (closest num den) n D (closest-nearest num den D)
