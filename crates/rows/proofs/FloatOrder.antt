@@ -8,7 +8,7 @@ use native.Mathlib.Omega.{arith}
 use lib.IntN.{ℤ, pos, negsuc, negℤ}
 use lib.Signed.{leZ}
 use lib.Dec.{T, ltb, leb, eqb, ltb→lt, lt→ltb, nltb→le, le→leb, leb→le, eqb→eq, eqb-refl}
-use lib.Ieee.{Float, nan, inf, fin, up, down, below, level, lt, le}
+use lib.Ieee.{Float, nan, inf, fin, up, down, below, level, lt, eq, le}
 use lib.Ieee.Fits.{down-pos, and-i, and-l, and-r, eq→eqb}
 use lib.Ieee.Exact.{HasValue}
 use lib.Ieee.Order.{transfer}
@@ -95,6 +95,10 @@ lt-or-le (fin s m e) nan p q = absurd q
 lt-or-le (fin s m e) (inf t) p q = absurd q
 lt-or-le (fin s m e) (fin t n d) p q =
     elim (below-or s t (m * up e * down d) (n * up d * down e)) [ inl h ↦ inl h | inr h ↦ inr (to-test t s (n * up d * down e) (m * up e * down d) h) ]
+
+pub lt-le : (x y : Float) → T (lt x y) → T (le x y)
+unfolding le
+lt-le x y h = or-intro (lt x y) (eq x y) (inl h)
 
 pub lt-not-le : (x y : Float) → T (finite x) → T (finite y) → T (lt x y) → T (le y x) → ⊥
 unfolding lt le

@@ -8,3 +8,4 @@ pub mod RowValue
 pub mod RowOfBeat
 pub mod RowWithin
 pub mod RowsKeepOrder
+pub mod BeatsRise
