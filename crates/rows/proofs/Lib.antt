@@ -9,3 +9,5 @@ pub mod RowOfBeat
 pub mod RowWithin
 pub mod RowsKeepOrder
 pub mod BeatsRise
+pub mod NarrowedBeat
+pub mod Quantizing

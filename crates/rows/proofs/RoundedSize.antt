@@ -102,3 +102,8 @@ module _ (f : Format) (a b : ℕ) (B : 0 < b) (normal : 2 ^ (prec f - 1) * b ≤
       let above = e .not-above in
       let below = e .not-below in
       (spread (q * k * b) n n (b * k) p u (omega arith), spread n (q * k * b) n (b * k) p u (omega arith))
+
+-- the same in other units
+pub rescaled : (p x y z k : ℕ) → x * p ≤ y * p + z → x * k * p ≤ y * k * p + z * k
+rescaled p x y z k h =
+    le-trans (le-of-eq (mul-right-comm x k p)) (le-trans (mul-le-mul-right k h) (le-of-eq (add-mul (y * p) z k ∙ ap (λ (n : ℕ). n + z * k) (mul-right-comm y p k))))

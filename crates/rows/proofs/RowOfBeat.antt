@@ -13,7 +13,7 @@ use lib.Ieee.Scale.{grid}
 use Rattle.ieee.specs.Rounding.{signed}
 use Rattle.rows.specs.Rows.{row, beatOf, mostRow}
 use Rattle.rows.proofs.NearestWhole.{NearestWhole, closest-is}
-use Rattle.rows.proofs.RoundedSize.{grid-le, grid-error}
+use Rattle.rows.proofs.RoundedSize.{grid-le, grid-error, rescaled}
 use Rattle.rows.proofs.Values.{negative, signed-is}
 use Rattle.rows.proofs.RowValue.{rowSize, row-value, row-size-le, beat-sized}
 
@@ -35,11 +35,6 @@ settled exact quotient product one r e h O p q =
     let l : r * one ≤ mostRow * one = mul-le-mul-right one h in
     omega arith
 
--- what holds of numbers of units of one kind holds of as many of another
-scale : (x y z k : ℕ) → x * 16777216 ≤ y * 16777216 + z → x * k * 16777216 ≤ y * k * 16777216 + z * k
-scale x y z k h =
-    le-trans (le-of-eq (mul-right-comm x k 16777216)) (le-trans (mul-le-mul-right k h) (le-of-eq (add-mul (y * 16777216) z k ∙ ap (λ (n : ℕ). n + z * k) (mul-right-comm y 16777216 k))))
-
 again : (f g : Format) (r : ℕ) → 0 < r → r ≤ mostRow → rowSize f (grid g r 48) (2 ^ low g) ≡ r
 again f g r R h =
     let L = 2 ^ low f in
@@ -56,7 +51,7 @@ again f g r R h =
     closest-same w L (w * M) (L * M) (pow-pos (low f)) P (ap (λ (n : ℕ). w * n) (mul-comm L M) ∙ sym (mul-assoc w M L))
     ∙ closest-is (w * M) (L * M) r P
     (settled (r * M * L) (v * 48 * L) (w * M) (L * M) r (mul-assoc r M L ∙ ap (λ (n : ℕ). r * n) (mul-comm M L)) h P
-    (scale (v * 48) (r * M) (r * M) L (first .0), scale (r * M) (v * 48) (r * M) L (first .1)) second)
+    (rescaled 16777216 (v * 48) (r * M) (r * M) L (first .0), rescaled 16777216 (r * M) (v * 48) (r * M) L (first .1)) second)
 
 size-again : (f g : Format) (r : ℕ) → r ≤ mostRow → rowSize f (grid g r 48) (2 ^ low g) ≡ r
 size-again f g r h = elim (eq-zero-or-pos r) [
