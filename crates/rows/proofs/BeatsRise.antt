@@ -2,11 +2,11 @@
 use mathlib.Core.Path.{_≡_, refl, sym, ap, _∙_, subst, subst₂}
 use mathlib.Core.Logic.{_⊎_, inl, inr}
 use mathlib.Core.Bool.{Bool, true, false, not}
-use Prim.Native.Nat.{ℕ, _≤_}
+use Prim.Native.Nat.{_≤_}
 use native.Mathlib.Nat.{eq-or-lt-of-le}
 use lib.IntN.{ℤ, pos, negsuc, natAbs}
 use lib.Signed.{ltZ, leZ, _≤ℤ_, ltZ-no}
-use lib.Dec.{T, ltb, leb→le, lt→ltb, not-T}
+use lib.Dec.{T, leb→le, lt→ltb, not-T}
 use lib.Ieee.{Float, fin, Format, binary32, binary64, div, ofInt, lt}
 use lib.Ieee.Bits.{is-true, is-false}
 use lib.Ieee.Scale.{finite}

@@ -7,7 +7,7 @@ use native.Mathlib.Omega.{arith}
 use lib.IntN.{ℤ, pos, negsuc, natAbs}
 use lib.Dec.{lit≤, lit<}
 use lib.Pow.{pow-add, pow-pos}
-use lib.Ieee.{Format, binary32, binary64, size, units, round, div, ofInt}
+use lib.Ieee.{binary32, binary64, size, units, round, div, ofInt}
 use lib.Ieee.Digits.{size-lt, size-le, size-reaches}
 use lib.Ieee.Fits.{round-is}
 use lib.Ieee.Nearest.{closest, closest-same}

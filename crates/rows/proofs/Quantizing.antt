@@ -1,6 +1,6 @@
 -- Quantising a beat that is allowed: a second time changes nothing, the result is allowed, and its row at either width is the f32 row. Assumes nothing.
 use mathlib.Core.Path.{_≡_, sym, ap, _∙_, subst}
-use Prim.Native.Nat.{ℕ, _^_}
+use Prim.Native.Nat.{_^_}
 use lib.IntN.{ℤ, pos}
 use lib.Dec.{T, lit<}
 use lib.Pow.{pow-pos}
@@ -13,7 +13,7 @@ use Rattle.ieee.proofs.Narrow.{narrow-value}
 use Rattle.rows.specs.Rows.{row, beatOf, quantized, quantized32, allowedBeat}
 use Rattle.rows.proofs.RoundedSize.{round-value, grid-le, grid-fine}
 use Rattle.rows.proofs.NarrowOwn.{narrow-own}
-use Rattle.rows.proofs.AllowedBeat.{Sized, sized, allowed}
+use Rattle.rows.proofs.AllowedBeat.{sized, allowed}
 use Rattle.rows.proofs.RowWithin.{row-within}
 use Rattle.rows.proofs.RowOfBeat.{row-of-beat}
 use Rattle.rows.proofs.BeatsRise.{beat-allowed}

@@ -1,23 +1,22 @@
 -- How large what `round` makes of a / b is, in units of the format's smallest value (`grid`), over the format: against whole numbers, powers of two, and a / b itself. Assumes nothing.
-use mathlib.Core.Path.{_≡_, refl, sym, ap, _∙_, subst}
+use mathlib.Core.Path.{_≡_, sym, ap, _∙_, subst}
 use mathlib.Core.Logic.{inl, inr}
 use mathlib.Core.Bool.{Bool, false}
 use Prim.Native.Nat.{ℕ, suc, _+_, _-_, _*_, _/_, _^_, _≤_, _<_}
 use native.Mathlib.Nat.{le-trans, le-of-eq, lt-of-le-of-lt, lt-of-lt-of-le, mul-one, mul-comm, mul-assoc, mul-right-comm, mul-le-mul-right, mul-le-mul-left, mul-lt-mul-of-pos-right, mul-pos, le-of-mul-le-mul-right, add-mul, add-le-add, eq-zero-or-pos, le-div-iff-mul-le, div-lt-iff-lt-mul}
 use native.Mathlib.Omega.{arith}
 use lib.Pow.{pow-add, pow-pos, pow-mono}
-use lib.Ieee.{Float, Format, prec, emax, low, size, round}
+use lib.Ieee.{Float, Format, prec, emax, low, round}
 use lib.Ieee.Digits.{size-le, size-reaches}
 use lib.Ieee.Exact.{HasValue, units-val}
 use lib.Ieee.Fits.{round-is, two, reach}
-use lib.Ieee.Nearest.{closest}
 use lib.Ieee.Order.{round-mono}
 use lib.Ieee.Scale.{grid, overflow, normal-of-fraction}
 use Rattle.ieee.proofs.Pack.{dropped, held, held-ge}
 use Rattle.ieee.proofs.Snap.{size-gt}
 use Rattle.ieee.proofs.Rint.{closest-le, closest-ge}
 use Rattle.rows.proofs.FloatOrder.{le-sizes}
-use Rattle.rows.proofs.NearestWhole.{NearestWhole, closest-nearest}
+use Rattle.rows.proofs.NearestWhole.{closest-nearest}
 
 module _ (f : Format) (a b : ℕ) where
   pub round-value : (s : Bool) → grid f a b < overflow f → HasValue (round f s a b) s (grid f a b) (2 ^ low f)

@@ -1,14 +1,14 @@
 -- A row's beat has that row again, whichever widths the two are worked out at: the quotient and the product are each off by at most one part in 2 ^ 24. Assumes nothing.
-use mathlib.Core.Path.{_≡_, refl, sym, ap, _∙_, subst}
+use mathlib.Core.Path.{_≡_, sym, ap, _∙_}
 use mathlib.Core.Logic.{inl, inr}
-use Prim.Native.Nat.{ℕ, zero, suc, _+_, _-_, _*_, _^_, _≤_, _<_, zero-le}
-use native.Mathlib.Nat.{le-trans, le-of-eq, lt-of-lt-of-le, one-mul, mul-comm, mul-assoc, mul-right-comm, add-mul, mul-pos, mul-le-mul-right, mul-le-mul-left, mul-mul-mul-comm, zero-lt-suc, eq-zero-or-pos}
+use Prim.Native.Nat.{ℕ, _+_, _-_, _*_, _^_, _≤_, _<_}
+use native.Mathlib.Nat.{le-trans, le-of-eq, one-mul, mul-comm, mul-assoc, mul-pos, mul-le-mul-right, mul-le-mul-left, mul-mul-mul-comm, zero-lt-suc, eq-zero-or-pos}
 use native.Mathlib.Omega.{arith}
 use lib.IntN.{ℤ, natAbs}
 use lib.Dec.{lit≤}
-use lib.Pow.{pow-pos, pow-mono}
+use lib.Pow.{pow-pos}
 use lib.Ieee.{Format, binary32, binary64, prec, low}
-use lib.Ieee.Nearest.{closest, closest-same}
+use lib.Ieee.Nearest.{closest-same}
 use lib.Ieee.Scale.{grid}
 use Rattle.ieee.specs.Rounding.{signed}
 use Rattle.rows.specs.Rows.{row, beatOf, mostRow}

@@ -1,14 +1,14 @@
 -- The row of an allowed beat by the beat's value, and the beat of a row: each is rounded once by the width and, for the row, once more to a whole number. Assumes nothing.
 use mathlib.Core.Path.{_≡_, refl, sym, ap, _∙_, subst}
 use mathlib.Core.Bool.{Bool, true, false}
-use Prim.Native.Nat.{ℕ, zero, suc, _+_, _*_, _^_, _≤_, _<_, zero-le}
-use native.Mathlib.Nat.{le-refl, le-suc, le-trans, le-of-eq, mul-one, mul-pos, mul-right-comm, mul-le-mul-right, zero-lt-suc}
+use Prim.Native.Nat.{ℕ, zero, suc, _*_, _^_, _≤_, _<_, zero-le}
+use native.Mathlib.Nat.{le-refl, le-suc, le-trans, le-of-eq, mul-one, mul-right-comm, mul-le-mul-right, zero-lt-suc}
 use native.Mathlib.Omega.{arith}
-use lib.IntN.{ℤ, pos, negsuc, negℤ, natAbs}
+use lib.IntN.{ℤ, pos, natAbs}
 use lib.Signed.{mag}
-use lib.Dec.{T, lit≤, lit<}
+use lib.Dec.{lit<}
 use lib.Pow.{pow-pos}
-use lib.Ieee.{Float, Format, binary32, binary64, prec, low, unlike, round, mul, div, ofInt}
+use lib.Ieee.{Float, Format, binary32, binary64, prec, low, unlike, round, ofInt}
 use lib.Ieee.Exact.{HasValue}
 use lib.Ieee.Nearest.{closest, closest-mono}
 use lib.Ieee.Scale.{grid, overflow}

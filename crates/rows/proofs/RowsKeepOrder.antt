@@ -1,5 +1,5 @@
 -- Rows keep the order of allowed beats, at either width. Assumes nothing.
-use mathlib.Core.Path.{_≡_, sym, ap, _∙_, subst₂}
+use mathlib.Core.Path.{_≡_, sym, subst₂}
 use mathlib.Core.Logic.{inl, inr}
 use Prim.Native.Nat.{ℕ, _*_, _≤_, _<_, zero-le}
 use native.Mathlib.Nat.{le-trans, le-of-eq, le-of-mul-le-mul-right}
@@ -9,7 +9,6 @@ use lib.Signed.{leZ, ltZ, leZ-yes, ltZ-yes, clashℤ}
 use lib.Dec.{T}
 use lib.Pow.{pow-pos}
 use lib.Ieee.{Float, Format, prec, le, lt}
-use Rattle.ieee.specs.Rounding.{signed}
 use Rattle.rows.specs.Rows.{row, allowedBeat}
 use Rattle.rows.proofs.FloatOrder.{ordered-through, ordered-whole, le-sizes, lt-or-le}
 use Rattle.rows.proofs.AllowedBeat.{Sized, sized, allowed-finite}

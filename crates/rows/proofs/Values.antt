@@ -1,10 +1,10 @@
 -- Floats by the fractions that they equal, each with its sign: the nearest whole number, a product, a quotient, a whole number as a float, and that a format has one float for a value. Assumes nothing.
 use mathlib.Core.Path.{_≡_, refl, sym, ap, ap₂, _∙_, subst}
-use mathlib.Core.Bool.{Bool, true, false, not, cond}
+use mathlib.Core.Bool.{Bool, true, false, cond}
 use Prim.Native.Nat.{ℕ, zero, suc, _+_, _-_, _*_, _/_, _^_, _≤_, _<_}
-use native.Mathlib.Nat.{mul-comm, mul-assoc, mul-mul-mul-comm, mul-pos, mul-right-comm, zero-mul, zero-lt-suc, lt-irrefl}
+use native.Mathlib.Nat.{mul-comm, mul-mul-mul-comm, mul-pos, mul-right-comm, zero-mul, zero-lt-suc, lt-irrefl}
 use native.Mathlib.Omega.{arith}
-use lib.IntN.{ℤ, pos, negsuc, negℤ, natAbs}
+use lib.IntN.{ℤ, pos, negsuc, natAbs}
 use lib.Dec.{T, eqb, eqb→eq, not-T}
 use lib.Ieee.{Float, nan, inf, fin, Format, prec, low, hid, top, up, down, unlike, size, round, mul, div, ofInt, fits, toBits, ofBits}
 use lib.Ieee.Back.{round-whole}
