@@ -18,14 +18,13 @@ use Rattle.ieee.proofs.Pack.{dropped, held, size-quot}
 use Rattle.ieee.proofs.Snap.{size-gt}
 use Rattle.rows.specs.Rows.{beatOf, mostRow}
 use Rattle.rows.proofs.NearestWhole.{NearestWhole, closest-nearest, closest-is}
-use Rattle.rows.proofs.RoundedSize.{grid-ge, grid-error, rescaled}
+use Rattle.rows.proofs.RoundedSize.{Near, grid-ge, grid-near, near-scaled}
 use Rattle.rows.proofs.Values.{negative}
 use Rattle.rows.proofs.RowValue.{beat-rounded, beat-value}
 
--- y is near to t thirds, and q the whole number nearest to t thirds: then q is nearest to y too. All in units of `one`
-thirds : (t q one y : ℕ) → 0 < one → t < 50331648 → NearestWhole t 3 q → y * 3 * 1073741824 ≤ t * one * 1073741824 + t * one → t * one * 1073741824 ≤ y * 3 * 1073741824 + t * one
-    → NearestWhole y one q × (y < 16777216 * one)
-thirds t q one y O hi near above below =
+-- y is off from t thirds by one part in 2 ^ 30 at most, and q is the whole number nearest to t thirds: then q is nearest to y too. In units of `one`
+thirds : (t q one y : ℕ) → 0 < one → t < 50331648 → NearestWhole t 3 q → Near 1073741824 (y * 3) (t * one) → NearestWhole y one q × (y < 16777216 * one)
+thirds t q one y O hi near close =
     let a = near .not-above in
     let b = near .not-below in
     let no-more : q * 3 ≤ t + 1 = omega arith in
@@ -39,29 +38,27 @@ thirds t q one y O hi near above below =
     let l = suc-mul t one in
     (omega arith, omega arith)
 
--- n / 48 is t thirds of `kept` f32 units, and the f64 beat is near to n / 48: so what is nearest to the one is nearest to the other. `unit32` and `unit64` are how many units make 1
+-- the same with y the f64 beat, which is near to n / 48: `unit32` and `unit64` are how many of a width's smallest units make 1, and n / 48 is t thirds of `kept` such units of an f32
 once : (n beat unit32 unit64 kept t q : ℕ) → 0 < unit64 → 0 < kept → n * unit32 ≡ t * (16 * kept) → t < 50331648 → NearestWhole t 3 q
-    → (beat * 48 * 1073741824 ≤ n * unit64 * 1073741824 + n * unit64) × (n * unit64 * 1073741824 ≤ beat * 48 * 1073741824 + n * unit64)
-    → NearestWhole (beat * unit32) (unit64 * kept) q × (beat * unit32 < 16777216 * (unit64 * kept))
-once n beat unit32 unit64 kept t q U K e hi near error =
+    → Near 1073741824 (beat * 48) (n * unit64) → NearestWhole (beat * unit32) (unit64 * kept) q × (beat * unit32 < 16777216 * (unit64 * kept))
+once n beat unit32 unit64 kept t q U K e hi near close =
     let one = unit64 * kept in
-    let a = rescaled 1073741824 (beat * 48) (n * unit64) (n * unit64) unit32 (error .0) in
-    let b = rescaled 1073741824 (n * unit64) (beat * 48) (n * unit64) unit32 (error .1) in
-    let c = mul-right-comm beat 48 unit32 in
-    let d : n * unit64 * unit32 ≡ t * one * 16 =
+    let a = near-scaled 1073741824 (beat * 48) (n * unit64) unit32 close in
+    let b = mul-right-comm beat 48 unit32 in
+    let c : n * unit64 * unit32 ≡ t * one * 16 =
     mul-right-comm n unit64 unit32
     ∙ ap (λ (x : ℕ). x * unit64) e
     ∙ mul-assoc t (16 * kept) unit64
     ∙ ap (λ (x : ℕ). t * x) (mul-assoc 16 kept unit64 ∙ mul-comm 16 (kept * unit64) ∙ ap (λ (x : ℕ). x * 16) (mul-comm kept unit64))
     ∙ sym (mul-assoc t one 16) in
-    thirds t q one (beat * unit32) (mul-pos U K) hi near (omega arith) (omega arith)
+    thirds t q one (beat * unit32) (mul-pos U K) hi near (omega arith)
 
 module _ (n : ℕ) (N : 0 < n) (h : n ≤ mostRow) where
-  -- how many digits of a 48th of n, in smallest units, an f32 drops
-  abbrev k : ℕ
-  k = dropped binary32 n 48
+  -- how many digits of n / 48, in smallest units, an f32 drops
+  abbrev cut : ℕ
+  cut = dropped binary32 n 48
 
-  digits : (24 + k ≡ size (n * 2 ^ 149 / 48)) × (k ≤ 145)
+  digits : (24 + cut ≡ size (n * 2 ^ 149 / 48)) × (cut ≤ 145)
   digits =
       let many = size-gt (n * 2 ^ 149 / 48) 143
       (le-div-iff-mul-le (zero-lt-suc 47) .1 (le-trans (lit≤ {m = 2 ^ 143 * 48} {n = 2 ^ 149} tt) (le-trans (le-of-eq (sym (one-mul (2 ^ 149)))) (mul-le-mul-right (2 ^ 149) N)))) in
@@ -69,65 +66,65 @@ module _ (n : ℕ) (N : 0 < n) (h : n ≤ mostRow) where
       (div-lt-iff-lt-mul (zero-lt-suc 47) .1 (lt-of-le-of-lt (mul-le-mul-right (2 ^ 149) h) (lit< {m = 3145728 * 2 ^ 149} {n = 2 ^ 166 * 48} tt))) in
       (omega arith, omega arith)
 
-  at-least : 2 ^ (23 + k) * 48 ≤ n * 2 ^ 149
-  at-least = let d = digits in le-div-iff-mul-le (zero-lt-suc 47) .0 (size-reaches (n * 2 ^ 149 / 48) (23 + k) (omega arith))
+  at-least : 2 ^ (23 + cut) * 48 ≤ n * 2 ^ 149
+  at-least = let d = digits in le-div-iff-mul-le (zero-lt-suc 47) .0 (size-reaches (n * 2 ^ 149 / 48) (23 + cut) (omega arith))
 
-  less-than : n * 2 ^ 149 < 2 ^ (24 + k) * 48
+  less-than : n * 2 ^ 149 < 2 ^ (24 + cut) * 48
   less-than = div-lt-iff-lt-mul (zero-lt-suc 47) .0 (subst (λ (z : ℕ). n * 2 ^ 149 / 48 < 2 ^ z) (sym (digits .0)) (size-lt (n * 2 ^ 149 / 48)))
 
-  -- a 48th of n is this many thirds of what is kept
-  abbrev t : ℕ
-  t = n * 2 ^ (145 - k)
+  -- in units of the last digit that it keeps, n / 48 is so many thirds: fewer than 3 * 2 ^ 24
+  abbrev parts : ℕ
+  parts = n * 2 ^ (145 - cut)
 
-  in-thirds : n * 2 ^ 149 ≡ t * (16 * 2 ^ k)
+  in-thirds : n * 2 ^ 149 ≡ parts * (16 * 2 ^ cut)
   in-thirds =
       let d = digits in
-      let parts : 149 ≡ 145 - k + (4 + k) = omega arith in
-      ap (λ (x : ℕ). n * x) (ap (λ (x : ℕ). 2 ^ x) parts ∙ pow-add 2 (145 - k) (4 + k) ∙ ap (λ (x : ℕ). 2 ^ (145 - k) * x) (pow-add 2 4 k))
-      ∙ sym (mul-assoc n (2 ^ (145 - k)) (16 * 2 ^ k))
+      let split : 149 ≡ 145 - cut + (4 + cut) = omega arith in
+      ap (λ (x : ℕ). n * x) (ap (λ (x : ℕ). 2 ^ x) split ∙ pow-add 2 (145 - cut) (4 + cut) ∙ ap (λ (x : ℕ). 2 ^ (145 - cut) * x) (pow-add 2 4 cut))
+      ∙ sym (mul-assoc n (2 ^ (145 - cut)) (16 * 2 ^ cut))
 
-  few-thirds : t < 50331648
+  few-thirds : parts < 50331648
   few-thirds =
-      let top : 2 ^ (24 + k) * 48 ≡ 50331648 * (16 * 2 ^ k) = let p = pow-add 2 24 k in omega arith in
-      lt-of-mul-lt-mul-right (16 * 2 ^ k) (lt-of-le-of-lt (le-of-eq (sym in-thirds)) (lt-of-lt-of-le less-than (le-of-eq top)))
+      let top : 2 ^ (24 + cut) * 48 ≡ 50331648 * (16 * 2 ^ cut) = let p = pow-add 2 24 cut in omega arith in
+      lt-of-mul-lt-mul-right (16 * 2 ^ cut) (lt-of-le-of-lt (le-of-eq (sym in-thirds)) (lt-of-lt-of-le less-than (le-of-eq top)))
 
-  kept-thirds : held binary32 n 48 ≡ closest t 3
+  kept-thirds : held binary32 n 48 ≡ closest parts 3
   kept-thirds =
-      closest-same (n * 2 ^ 149) (48 * 2 ^ k) t 3 (mul-pos (zero-lt-suc 47) (pow-pos k)) (zero-lt-suc 2)
-      (ap (λ (x : ℕ). x * 3) in-thirds ∙ mul-assoc t (16 * 2 ^ k) 3 ∙ ap (λ (x : ℕ). t * x) (omega arith))
+      closest-same (n * 2 ^ 149) (48 * 2 ^ cut) parts 3 (mul-pos (zero-lt-suc 47) (pow-pos cut)) (zero-lt-suc 2)
+      (ap (λ (x : ℕ). x * 3) in-thirds ∙ mul-assoc parts (16 * 2 ^ cut) 3 ∙ ap (λ (x : ℕ). parts * x) (omega arith))
 
-  -- ---- the f64 beat, in its smallest units
+  -- ---- the f64 beat, in its own smallest units: an f32 drops as many digits of it, and keeps the same number
   abbrev beat : ℕ
   beat = grid binary64 n 48
 
-  near : NearestWhole (beat * 2 ^ 149) (2 ^ 1074 * 2 ^ k) (closest t 3) × (beat * 2 ^ 149 < 16777216 * (2 ^ 1074 * 2 ^ k))
+  near : NearestWhole (beat * 2 ^ 149) (2 ^ 1074 * 2 ^ cut) (closest parts 3) × (beat * 2 ^ 149 < 16777216 * (2 ^ 1074 * 2 ^ cut))
   near =
-      once n beat (2 ^ 149) (2 ^ 1074) (2 ^ k) t (closest t 3) (pow-pos 1074) (pow-pos k) in-thirds few-thirds (closest-nearest t 3 (zero-lt-suc 2))
-      (grid-error binary64 n 48 (zero-lt-suc 47) (le-trans (lit≤ {m = 2 ^ 52 * 48} {n = 2 ^ 1074} tt) (le-trans (le-of-eq (sym (one-mul (2 ^ 1074)))) (mul-le-mul-right (2 ^ 1074) N))) 536870912 (lit≤ tt))
+      once n beat (2 ^ 149) (2 ^ 1074) (2 ^ cut) parts (closest parts 3) (pow-pos 1074) (pow-pos cut) in-thirds few-thirds (closest-nearest parts 3 (zero-lt-suc 2))
+      (grid-near binary64 n 48 (zero-lt-suc 47) (le-trans (lit≤ {m = 2 ^ 52 * 48} {n = 2 ^ 1074} tt) (le-trans (le-of-eq (sym (one-mul (2 ^ 1074)))) (mul-le-mul-right (2 ^ 1074) N))) 536870912 (lit≤ tt))
 
   -- 149 and 925 make 1074
   joined : (x : ℕ) → x * 2 ^ 925 * 2 ^ 149 ≡ x * 2 ^ 1074
   joined x = mul-assoc x (2 ^ 925) (2 ^ 149)
 
-  beat-at-least : 2 ^ (23 + k) * 2 ^ 1074 ≤ beat * 2 ^ 149
+  beat-at-least : 2 ^ (23 + cut) * 2 ^ 1074 ≤ beat * 2 ^ 149
   beat-at-least =
-      let j = 23 + k + 925 in
-      let p : 2 ^ j ≡ 2 ^ (23 + k) * 2 ^ 925 = pow-add 2 (23 + k) 925 in
+      let j = 23 + cut + 925 in
+      let p : 2 ^ j ≡ 2 ^ (23 + cut) * 2 ^ 925 = pow-add 2 (23 + cut) 925 in
       let l : 2 ^ j ≤ beat =
       grid-ge binary64 n 48 j (zero-lt-suc 47)
-      (le-trans (le-of-eq (ap (λ (x : ℕ). x * 48) p ∙ mul-right-comm (2 ^ (23 + k)) (2 ^ 925) 48)) (le-trans (mul-le-mul-right (2 ^ 925) at-least) (le-of-eq (mul-right-comm n (2 ^ 149) (2 ^ 925) ∙ joined n)))) in
-      le-trans (le-of-eq (sym (ap (λ (x : ℕ). x * 2 ^ 149) p ∙ joined (2 ^ (23 + k))))) (mul-le-mul-right (2 ^ 149) l)
+      (le-trans (le-of-eq (ap (λ (x : ℕ). x * 48) p ∙ mul-right-comm (2 ^ (23 + cut)) (2 ^ 925) 48)) (le-trans (mul-le-mul-right (2 ^ 925) at-least) (le-of-eq (mul-right-comm n (2 ^ 149) (2 ^ 925) ∙ joined n)))) in
+      le-trans (le-of-eq (sym (ap (λ (x : ℕ). x * 2 ^ 149) p ∙ joined (2 ^ (23 + cut))))) (mul-le-mul-right (2 ^ 149) l)
 
-  beat-less-than : beat * 2 ^ 149 < 2 ^ suc (23 + k) * 2 ^ 1074
-  beat-less-than = lt-of-lt-of-le (near .1) (le-of-eq (ap (λ (x : ℕ). 16777216 * x) (mul-comm (2 ^ 1074) (2 ^ k)) ∙ sym (mul-assoc 16777216 (2 ^ k) (2 ^ 1074)) ∙ ap (λ (x : ℕ). x * 2 ^ 1074) (sym (pow-add 2 24 k) ∙ ap (λ (x : ℕ). 2 ^ x) (suc-add 23 k))))
+  beat-less-than : beat * 2 ^ 149 < 2 ^ suc (23 + cut) * 2 ^ 1074
+  beat-less-than = lt-of-lt-of-le (near .1) (le-of-eq (ap (λ (x : ℕ). 16777216 * x) (mul-comm (2 ^ 1074) (2 ^ cut)) ∙ sym (mul-assoc 16777216 (2 ^ cut) (2 ^ 1074)) ∙ ap (λ (x : ℕ). x * 2 ^ 1074) (sym (pow-add 2 24 cut) ∙ ap (λ (x : ℕ). 2 ^ x) (suc-add 23 cut))))
 
-  same-drop : dropped binary32 beat (2 ^ 1074) ≡ k
-  same-drop = let z = size-quot (beat * 2 ^ 149) (2 ^ 1074) (23 + k) (pow-pos 1074) beat-at-least beat-less-than in ap (λ (x : ℕ). x - 24) z ∙ omega arith
+  same-drop : dropped binary32 beat (2 ^ 1074) ≡ cut
+  same-drop = let z = size-quot (beat * 2 ^ 149) (2 ^ 1074) (23 + cut) (pow-pos 1074) beat-at-least beat-less-than in ap (λ (x : ℕ). x - 24) z ∙ omega arith
 
   same-kept : held binary32 beat (2 ^ 1074) ≡ held binary32 n 48
   same-kept =
       ap (λ (x : ℕ). closest (beat * 2 ^ 149) (2 ^ 1074 * 2 ^ x)) same-drop
-      ∙ closest-is (beat * 2 ^ 149) (2 ^ 1074 * 2 ^ k) (closest t 3) (mul-pos (pow-pos 1074) (pow-pos k)) (near .0)
+      ∙ closest-is (beat * 2 ^ 149) (2 ^ 1074 * 2 ^ cut) (closest parts 3) (mul-pos (pow-pos 1074) (pow-pos cut)) (near .0)
       ∙ sym kept-thirds
 
   same-round : (s : Bool) → round binary32 s beat (2 ^ 1074) ≡ round binary32 s n 48

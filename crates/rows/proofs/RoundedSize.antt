@@ -18,6 +18,7 @@ use Rattle.ieee.proofs.Rint.{closest-le, closest-ge}
 use Rattle.rows.proofs.FloatOrder.{le-sizes}
 use Rattle.rows.proofs.NearestWhole.{closest-nearest}
 
+-- what is made, where it is no infinity
 module _ (f : Format) (a b : ℕ) where
   pub round-value : (s : Bool) → grid f a b < overflow f → HasValue (round f s a b) s (grid f a b) (2 ^ low f)
   round-value s h = subst (λ (z : Float). HasValue z s (grid f a b) (2 ^ low f)) (sym (round-is f s a b)) (units-val f s (held f a b) (dropped f a b) h)
@@ -73,14 +74,31 @@ grid-mono f a b c d B D u v h =
     le-of-mul-le-mul-right
     (le-sizes (round f false a b) (round f false c d) false false (grid f a b) L (grid f c d) L (round-value f a b false u) (round-value f c d false v) (round-mono f a b c d B D h)) (pow-pos (low f))
 
--- ---- off by at most one part in p * 2, for a p up to 2 ^ (prec - 1), where the fraction is that many units at least
-spread : (x y n unit p : ℕ) → unit * p ≤ n → x * 2 ≤ y * 2 + unit → x * (p * 2) ≤ y * (p * 2) + n
-spread x y n unit p u h =
-    le-trans (le-of-eq (regroup x)) (le-trans (mul-le-mul-right p h) (le-trans (le-of-eq (add-mul (y * 2) unit p)) (add-le-add (le-of-eq (sym (regroup y))) u)))
+-- ---- close to the fraction
+-- x is off from y by at most one part in p of y
+abbrev pub Near : ℕ → ℕ → ℕ → Type 0
+Near p x y = (x * p ≤ y * p + y) × (y * p ≤ x * p + y)
+
+-- the same in other units
+pub near-scaled : (p x y k : ℕ) → Near p x y → Near p (x * k) (y * k)
+near-scaled p x y k h = (scaled-up x y (h .0), scaled-up y x (h .1))
+  where
+    scaled-up : (a b : ℕ) → a * p ≤ b * p + y → a * k * p ≤ b * k * p + y * k
+    scaled-up a b l =
+        le-trans (le-of-eq (mul-right-comm a k p)) (le-trans (mul-le-mul-right k l) (le-of-eq (add-mul (b * p) y k ∙ ap (λ (n : ℕ). n + y * k) (mul-right-comm b p k))))
+
+-- half a unit either way, where y is p units at least
+spread : (x y unit p : ℕ) → unit * p ≤ y → x * 2 ≤ y * 2 + unit → y * 2 ≤ x * 2 + unit → Near (p * 2) x y
+spread x y unit p u above below = (one-way x y above, one-way y x below)
   where
     regroup : (z : ℕ) → z * (p * 2) ≡ z * 2 * p
     regroup z = ap (λ (w : ℕ). z * w) (mul-comm p 2) ∙ sym (mul-assoc z 2 p)
 
+    one-way : (a b : ℕ) → a * 2 ≤ b * 2 + unit → a * (p * 2) ≤ b * (p * 2) + y
+    one-way a b h =
+        le-trans (le-of-eq (regroup a)) (le-trans (mul-le-mul-right p h) (le-trans (le-of-eq (add-mul (b * 2) unit p)) (add-le-add (le-of-eq (sym (regroup b))) u)))
+
+-- where the fraction is 2 ^ (prec - 1) units at least
 module _ (f : Format) (a b : ℕ) (B : 0 < b) (normal : 2 ^ (prec f - 1) * b ≤ a * 2 ^ low f) where
   unit-le : b * 2 ^ dropped f a b * 2 ^ (prec f - 1) ≤ a * 2 ^ low f
   unit-le =
@@ -90,19 +108,13 @@ module _ (f : Format) (a b : ℕ) (B : 0 < b) (normal : 2 ^ (prec f - 1) * b ≤
       le-trans (le-of-eq (mul-assoc b (2 ^ d) (2 ^ (prec f - 1)) ∙ mul-comm b (2 ^ d * 2 ^ (prec f - 1)) ∙ ap (λ (x : ℕ). x * b) (mul-comm (2 ^ d) (2 ^ (prec f - 1)) ∙ sym (pow-add 2 (prec f - 1) d))))
       (le-div-iff-mul-le B .0 (size-reaches (a * 2 ^ low f / b) (prec f - 1 + d) (omega arith)))
 
-  pub grid-error : (p : ℕ) → p ≤ 2 ^ (prec f - 1) → (grid f a b * b * (p * 2) ≤ a * 2 ^ low f * (p * 2) + a * 2 ^ low f) × (a * 2 ^ low f * (p * 2) ≤ grid f a b * b * (p * 2) + a * 2 ^ low f)
-  grid-error p h =
+  pub grid-near : (p : ℕ) → p ≤ 2 ^ (prec f - 1) → Near (p * 2) (grid f a b * b) (a * 2 ^ low f)
+  grid-near p h =
       let n = a * 2 ^ low f in
       let k = 2 ^ dropped f a b in
       let q = held f a b in
       let e = closest-nearest n (b * k) (mul-pos B (pow-pos (dropped f a b))) in
       let i : q * (b * k) ≡ q * k * b = ap (λ (x : ℕ). q * x) (mul-comm b k) ∙ sym (mul-assoc q k b) in
-      let u : b * k * p ≤ n = le-trans (mul-le-mul-left (b * k) h) unit-le in
       let above = e .not-above in
       let below = e .not-below in
-      (spread (q * k * b) n n (b * k) p u (omega arith), spread n (q * k * b) n (b * k) p u (omega arith))
-
--- the same in other units
-pub rescaled : (p x y z k : ℕ) → x * p ≤ y * p + z → x * k * p ≤ y * k * p + z * k
-rescaled p x y z k h =
-    le-trans (le-of-eq (mul-right-comm x k p)) (le-trans (mul-le-mul-right k h) (le-of-eq (add-mul (y * p) z k ∙ ap (λ (n : ℕ). n + z * k) (mul-right-comm y p k))))
+      spread (q * k * b) n (b * k) p (le-trans (mul-le-mul-left (b * k) h) unit-le) (omega arith) (omega arith)

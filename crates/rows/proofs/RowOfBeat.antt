@@ -13,7 +13,7 @@ use lib.Ieee.Scale.{grid}
 use Rattle.ieee.specs.Rounding.{signed}
 use Rattle.rows.specs.Rows.{row, beatOf, mostRow}
 use Rattle.rows.proofs.NearestWhole.{NearestWhole, closest-is}
-use Rattle.rows.proofs.RoundedSize.{grid-le, grid-error, rescaled}
+use Rattle.rows.proofs.RoundedSize.{Near, grid-le, grid-near, near-scaled}
 use Rattle.rows.proofs.Values.{negative, signed-is}
 use Rattle.rows.proofs.RowValue.{rowSize, row-value, row-size-le, beat-sized}
 
@@ -27,13 +27,8 @@ tiny binary32 = lit≤ tt
 tiny binary64 = lit≤ tt
 
 -- ---- in units of one: r of them, the quotient times 48, and the product
-settled : (exact quotient product one r : ℕ) → exact ≡ r * one → r ≤ mostRow → 0 < one
-    → (quotient * 16777216 ≤ exact * 16777216 + exact) × (exact * 16777216 ≤ quotient * 16777216 + exact)
-    → (product * 16777216 ≤ quotient * 16777216 + quotient) × (quotient * 16777216 ≤ product * 16777216 + quotient)
-    → NearestWhole product one r
-settled exact quotient product one r e h O p q =
-    let l : r * one ≤ mostRow * one = mul-le-mul-right one h in
-    omega arith
+settled : (exact quotient product one r : ℕ) → exact ≡ r * one → r ≤ mostRow → 0 < one → Near 16777216 quotient exact → Near 16777216 product quotient → NearestWhole product one r
+settled exact quotient product one r e h O p q = let l : r * one ≤ mostRow * one = mul-le-mul-right one h in omega arith
 
 again : (f g : Format) (r : ℕ) → 0 < r → r ≤ mostRow → rowSize f (grid g r 48) (2 ^ low g) ≡ r
 again f g r R h =
@@ -43,15 +38,15 @@ again f g r R h =
     let w = grid f (v * 48) M in
     let p = 2 ^ (prec f - 1) in
     let lo : M ≤ r * M = le-trans (le-of-eq (sym (one-mul M))) (mul-le-mul-right M R) in
-    let first = grid-error g r 48 (zero-lt-suc 47) (le-trans (tiny g) lo) 8388608 (digits g) in
+    let first = grid-near g r 48 (zero-lt-suc 47) (le-trans (tiny g) lo) 8388608 (digits g) in
     let enough : M ≤ v * 2304 = omega arith in
     let normal : p * M ≤ v * 48 * L = le-trans (mul-le-mul-left p enough) (le-trans (le-of-eq (sym (mul-assoc p v 2304) ∙ ap (λ (n : ℕ). n * 2304) (mul-comm p v) ∙ sym (mul-mul-mul-comm v 48 p 48))) (mul-le-mul-left (v * 48) (tiny f))) in
-    let second = grid-error f (v * 48) M (pow-pos (low g)) normal 8388608 (digits f) in
+    let second = grid-near f (v * 48) M (pow-pos (low g)) normal 8388608 (digits f) in
     let P : 0 < L * M = mul-pos (pow-pos (low f)) (pow-pos (low g)) in
     closest-same w L (w * M) (L * M) (pow-pos (low f)) P (ap (λ (n : ℕ). w * n) (mul-comm L M) ∙ sym (mul-assoc w M L))
     ∙ closest-is (w * M) (L * M) r P
     (settled (r * M * L) (v * 48 * L) (w * M) (L * M) r (mul-assoc r M L ∙ ap (λ (n : ℕ). r * n) (mul-comm M L)) h P
-    (rescaled 16777216 (v * 48) (r * M) (r * M) L (first .0), rescaled 16777216 (r * M) (v * 48) (r * M) L (first .1)) second)
+    (near-scaled 16777216 (v * 48) (r * M) L first) second)
 
 size-again : (f g : Format) (r : ℕ) → r ≤ mostRow → rowSize f (grid g r 48) (2 ^ low g) ≡ r
 size-again f g r h = elim (eq-zero-or-pos r) [
