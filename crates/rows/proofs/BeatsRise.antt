@@ -12,16 +12,16 @@ use lib.Ieee.Bits.{is-true, is-false}
 use lib.Ieee.Scale.{finite}
 use Rattle.rows.specs.Rows.{row, beatOf, allowedBeat, mostRow}
 use Rattle.rows.proofs.FloatOrder.{lt-le, lt-not-le}
-use Rattle.rows.proofs.AllowedBeat.{allowed, allowed-finite}
+use Rattle.rows.proofs.Magnitude.{sized-within, within-finite}
 use Rattle.rows.proofs.RowValue.{beat-sized}
 use Rattle.rows.proofs.RowOfBeat.{row-of-beat}
 use Rattle.rows.proofs.RowsKeepOrder.{rows-rise}
 
 pub beat-allowed : (f : Format) (r : ℤ) → natAbs r ≤ mostRow → T (allowedBeat (beatOf f r))
-beat-allowed f r h = allowed (beatOf f r) (beat-sized f r h)
+beat-allowed f r h = sized-within 16 (beatOf f r) (beat-sized f r h)
 
 pub beat-finite : (f : Format) (r : ℤ) → natAbs r ≤ mostRow → T (finite (beatOf f r))
-beat-finite f r h = allowed-finite (beatOf f r) (beat-allowed f r h)
+beat-finite f r h = within-finite 16 (beatOf f r) (beat-allowed f r h)
 
 pub beat-of-zero : (f : Format) → beatOf f (pos 0) ≡ fin false 0 (pos 0)
 unfolding div ofInt

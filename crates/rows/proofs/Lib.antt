@@ -3,7 +3,7 @@ pub mod NearestWhole
 pub mod RoundedSize
 pub mod Values
 pub mod NarrowOwn
-pub mod AllowedBeat
+pub mod Magnitude
 pub mod RowValue
 pub mod RowOfBeat
 pub mod RowWithin

@@ -13,18 +13,18 @@ use Rattle.ieee.proofs.Narrow.{narrow-value}
 use Rattle.rows.specs.Rows.{row, beatOf, quantized, quantized32, allowedBeat}
 use Rattle.rows.proofs.RoundedSize.{round-value, grid-le, grid-fine}
 use Rattle.rows.proofs.NarrowOwn.{narrow-own}
-use Rattle.rows.proofs.AllowedBeat.{sized, allowed}
+use Rattle.rows.proofs.Magnitude.{sized, sized-within}
 use Rattle.rows.proofs.RowWithin.{row-within}
 use Rattle.rows.proofs.RowOfBeat.{row-of-beat}
 use Rattle.rows.proofs.BeatsRise.{beat-allowed}
 
 pub narrow-allowed : (beat : Float) → T (allowedBeat beat) → T (allowedBeat (narrow beat))
 narrow-allowed beat h =
-    let z = sized beat h in
+    let z = sized 16 beat h in
     let s = z .negative in
     let a = z .num in
     let c = z .den in
-    allowed (narrow beat)
+    sized-within 16 (narrow beat)
     (record {
       negative = s;
       num = grid binary32 a c;

@@ -15,7 +15,7 @@ use lib.Ieee.Scale.{grid, overflow}
 use Rattle.ieee.specs.Rounding.{signed, rint, hold}
 use Rattle.ieee.proofs.Rint.{closest-le, held-within}
 use Rattle.rows.specs.Rows.{row, beatOf, mostRow}
-use Rattle.rows.proofs.AllowedBeat.{Sized}
+use Rattle.rows.proofs.Magnitude.{Sized}
 use Rattle.rows.proofs.RoundedSize.{round-value, grid-le, grid-fine, grid-mono}
 use Rattle.rows.proofs.Values.{rint-value, mul-value, div-value, negative, whole-value}
 
@@ -54,7 +54,7 @@ mag-signed false n = le-refl n
 mag-signed true zero = zero-le
 mag-signed true (suc n) = le-suc n
 
-pub row-value : (f : Format) (x : Float) (z : Sized x) → row f x ≡ signed (z .negative) (rowSize f (z .num) (z .den))
+pub row-value : (f : Format) (x : Float) (z : Sized 16 x) → row f x ≡ signed (z .negative) (rowSize f (z .num) (z .den))
 row-value f x z =
     let s = z .negative in
     let a = z .num in
@@ -92,5 +92,5 @@ module _ (f : Format) (r : ℤ) (h : natAbs r ≤ mostRow) where
   pub beat-small : grid f (natAbs r) 48 ≤ 65536 * 2 ^ low f
   beat-small = grid-le f (natAbs r) 48 65536 (zero-lt-suc 47) (omega (arith, room f)) (omega arith)
 
-  unfoldable pub beat-sized : Sized (beatOf f r)
+  unfoldable pub beat-sized : Sized 16 (beatOf f r)
   beat-sized = record { negative = negative r; num = grid f (natAbs r) 48; den = 2 ^ low f; den-pos = pow-pos (low f); value = beat-value; small = beat-small }

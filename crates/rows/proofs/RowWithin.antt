@@ -7,10 +7,10 @@ use lib.Dec.{T}
 use lib.Ieee.{Float, Format}
 use Rattle.rows.specs.Rows.{row, allowedBeat, mostRow}
 use Rattle.rows.proofs.Values.{natAbs-signed}
-use Rattle.rows.proofs.AllowedBeat.{sized}
+use Rattle.rows.proofs.Magnitude.{sized}
 use Rattle.rows.proofs.RowValue.{rowSize, row-value, row-size-within}
 
 pub row-within : (f : Format) (beat : Float) → T (allowedBeat beat) → natAbs (row f beat) ≤ mostRow
 row-within f beat h =
-    let z = sized beat h in
+    let z = sized 16 beat h in
     le-trans (le-of-eq (ap natAbs (row-value f beat z) ∙ natAbs-signed (z .negative) (rowSize f (z .num) (z .den)))) (row-size-within f (z .num) (z .den) (z .den-pos) (z .small))

@@ -11,7 +11,7 @@ use lib.Pow.{pow-pos}
 use lib.Ieee.{Float, Format, prec, le, lt}
 use Rattle.rows.specs.Rows.{row, allowedBeat}
 use Rattle.rows.proofs.FloatOrder.{ordered-through, ordered-whole, le-sizes, lt-or-le}
-use Rattle.rows.proofs.AllowedBeat.{Sized, sized, allowed-finite}
+use Rattle.rows.proofs.Magnitude.{Sized, sized, within-finite}
 use Rattle.rows.proofs.RowValue.{rowSize, row-value, row-size-le, row-size-mono}
 
 row-size-zero : (f : Format) (a c d : ℕ) → 0 < c → 0 < d → a * d ≡ 0 → rowSize f a c ≡ 0
@@ -20,7 +20,7 @@ row-size-zero f a c d C D h =
     let l = row-size-le f a c C 0 (pow-pos (prec f)) (omega arith) in
     omega arith
 
-sized-mono : (f : Format) (x y : Float) → Sized x → Sized y → T (le x y) → T (leZ (row f x) (row f y))
+sized-mono : (f : Format) (x y : Float) → Sized 16 x → Sized 16 y → T (le x y) → T (leZ (row f x) (row f y))
 sized-mono f x y z w h =
     let s = z .negative in
     let t = w .negative in
@@ -35,11 +35,11 @@ sized-mono f x y z w h =
     (ordered-through s t (a * d) (b * c) (rowSize f a c) (rowSize f b d) there back (row-size-zero f a c d (z .den-pos) (w .den-pos)) (row-size-zero f b d c (w .den-pos) (z .den-pos)) (le-sizes x y s t a c b d (z .value) (w .value) h)))
 
 pub row-mono : (f : Format) (x y : Float) → T (allowedBeat x) → T (allowedBeat y) → T (le x y) → T (leZ (row f x) (row f y))
-row-mono f x y p q = sized-mono f x y (sized x p) (sized y q)
+row-mono f x y p q = sized-mono f x y (sized 16 x p) (sized 16 y q)
 
 -- so rows that rise come of beats that rise
 pub rows-rise : (f : Format) (x y : Float) → T (allowedBeat x) → T (allowedBeat y) → T (ltZ (row f x) (row f y)) → T (lt x y)
-rows-rise f x y p q h = elim (lt-or-le x y (allowed-finite x p) (allowed-finite y q)) [
+rows-rise f x y p q h = elim (lt-or-le x y (within-finite 16 x p) (within-finite 16 y q)) [
   | inl l ↦ l
   | inr g ↦ clashℤ {a = row f x} {b = row f y} (ltZ-yes h) (leZ-yes (row-mono f y x q p g))
 ]
