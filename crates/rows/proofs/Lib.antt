@@ -1,3 +1,13 @@
-pub mod RowWithin
+pub mod FloatOrder
+pub mod NearestWhole
+pub mod RoundedSize
+pub mod Values
+pub mod NarrowOwn
+pub mod Magnitude
+pub mod RowValue
 pub mod RowOfBeat
+pub mod RowWithin
 pub mod RowsKeepOrder
+pub mod BeatsRise
+pub mod NarrowedBeat
+pub mod Quantizing

@@ -1,8 +1,11 @@
 -- Rows and beats, 48 rows to a beat. Definitions only.
+use Prim.Native.Nat.{ℕ}
+use mathlib.Core.Bool.{Bool}
 use lib.IntN.{ℤ, pos}
 use lib.Ieee.{Float, Format, binary32, mul, div, ofInt}
 use Rattle.ieee.specs.Rounding.{rint, hold}
 use Rattle.ieee.specs.Narrowing.{narrow}
+use Rattle.rows.specs.Magnitude.{withinPower}
 
 -- the row of a beat: 48 times the beat, rounded, at the width f
 abbrev pub row : Format → Float → ℤ
@@ -18,3 +21,11 @@ quantized32 beat = beatOf binary32 (row binary32 beat)
 
 abbrev pub quantized : Float → Float
 quantized beat = quantized32 (narrow beat)
+
+-- the beats that are allowed: of at most 65,536 in size, which is 2 ^ 16
+abbrev pub allowedBeat : Float → Bool
+allowedBeat beat = withinPower 16 beat
+
+-- how far from 0 a row of one is at most: 48 times as far
+abbrev pub mostRow : ℕ
+mostRow = 3145728

@@ -1,0 +1,12 @@
+-- The played examples that are proved, a line each: what the definitions give is what it is to be.
+use mathlib.Core.Path.{_≡_}
+use mathlib.Core.List.{[], _∷_, map}
+use lib.IntN.{pos}
+use lib.Ieee.{binary32, binary64, neg}
+use Rattle.rows.specs.Rows.{row}
+use Rattle.played.specs.Numbers.{decimal, minus}
+
+pub record Examples : Type 0 where
+  -- rows of beats, at each width
+  pub rows-f64 : map (row binary64) (decimal 3125 5 ∷ decimal 9375 5 ∷ neg (decimal 3125 5) ∷ []) ≡ pos 2 ∷ pos 4 ∷ minus 2 ∷ []
+  pub rows-f32 : map (row binary32) (decimal 3125 5 ∷ decimal 9375 5 ∷ neg (decimal 3125 5) ∷ []) ≡ pos 2 ∷ pos 4 ∷ minus 2 ∷ []

@@ -1,0 +1,94 @@
+-- Floats by the fractions that they equal, each with its sign: the nearest whole number, a product, a quotient, a whole number as a float, and that a format has one float for a value. Assumes nothing.
+use mathlib.Core.Path.{_≡_, refl, sym, ap, ap₂, _∙_, subst}
+use mathlib.Core.Bool.{Bool, true, false, cond}
+use Prim.Native.Nat.{ℕ, zero, suc, _+_, _-_, _*_, _/_, _^_, _≤_, _<_}
+use native.Mathlib.Nat.{mul-comm, mul-mul-mul-comm, mul-pos, mul-right-comm, zero-mul, zero-lt-suc, lt-irrefl}
+use native.Mathlib.Omega.{arith}
+use lib.IntN.{ℤ, pos, negsuc, natAbs}
+use lib.Dec.{T, eqb, eqb→eq, not-T}
+use lib.Ieee.{Float, nan, inf, fin, Format, prec, low, hid, top, up, down, unlike, size, round, mul, div, ofInt, fits, toBits, ofBits}
+use lib.Ieee.Back.{round-whole}
+use lib.Ieee.Bits.{ofBits-toBits, cond-no}
+use lib.Ieee.Exact.{HasValue}
+use lib.Ieee.Fits.{down-pos, up-pos}
+use lib.Ieee.Nearest.{closest, closest-same, div-same}
+use lib.Ieee.Scale.{round-same}
+use Rattle.ieee.specs.Rounding.{signed, rint}
+
+pub rint-value : (x : Float) (s : Bool) (num den : ℕ) → 0 < den → HasValue x s num den → rint x ≡ signed s (closest num den)
+unfolding rint
+rint-value nan s num den D v = absurd v
+rint-value (inf t) s num den D v = absurd v
+rint-value (fin t m e) s num den D v =
+    ap (λ (b : Bool). signed b (closest (m * up e) (down e))) (v .0) ∙ ap (signed s) (closest-same (m * up e) (down e) num den (down-pos e) D (v .1))
+
+-- a fraction above 0 has a numerator above 0
+positive : (n u d b k : ℕ) → 0 < b → 0 < k → n * u * d ≡ b * k → 0 < n
+positive zero u d b k B K e = absurd (lt-irrefl 0 (subst (λ (x : ℕ). 0 < x) (sym e ∙ ap (λ (x : ℕ). x * d) (zero-mul u) ∙ zero-mul d) (mul-pos B K)))
+positive (suc n) u d b k B K e = zero-lt-suc n
+
+module _ (f : Format) where
+  pub mul-value : (x y : Float) (s t : Bool) (a c b d : ℕ) → 0 < c → 0 < d → HasValue x s a c → HasValue y t b d → mul f x y ≡ round f (unlike s t) (a * b) (c * d)
+  unfolding mul
+  mul-value nan y s t a c b d C D v w = absurd v
+  mul-value (inf u) y s t a c b d C D v w = absurd v
+  mul-value (fin u m e) nan s t a c b d C D v w = absurd w
+  mul-value (fin u m e) (inf z) s t a c b d C D v w = absurd w
+  mul-value (fin u m e) (fin z n g) s t a c b d C D v w =
+      ap₂ (λ (p q : Bool). round f (unlike p q) (m * up e * (n * up g)) (down e * down g)) (v .0) (w .0)
+      ∙ round-same f (unlike s t) (m * up e * (n * up g)) (down e * down g) (a * b) (c * d) (mul-pos (down-pos e) (down-pos g)) (mul-pos C D)
+      (mul-mul-mul-comm (m * up e) (n * up g) c d ∙ ap₂ _*_ (v .1) (w .1) ∙ mul-mul-mul-comm a (down e) b (down g))
+
+  pub div-value : (x y : Float) (s t : Bool) (a c b d : ℕ) → 0 < c → 0 < d → 0 < b → HasValue x s a c → HasValue y t b d → div f x y ≡ round f (unlike s t) (a * d) (b * c)
+  unfolding div
+  div-value nan y s t a c b d C D B v w = absurd v
+  div-value (inf u) y s t a c b d C D B v w = absurd v
+  div-value (fin u m e) nan s t a c b d C D B v w = absurd w
+  div-value (fin u m e) (inf z) s t a c b d C D B v w = absurd w
+  div-value (fin u m e) (fin z n g) s t a c b d C D B v w =
+      let x = m * up e in
+      let y = n * up g in
+      let N : 0 < n = positive n (up g) d b (down g) B (down-pos g) (w .1) in
+      cond-no (eqb n 0) (cond (eqb m 0) nan (inf (unlike u z))) (round f (unlike u z) (x * down g) (y * down e)) (not-T (eqb n 0) (λ h. let e = eqb→eq n 0 h in omega arith))
+      ∙ ap₂ (λ (p q : Bool). round f (unlike p q) (x * down g) (y * down e)) (v .0) (w .0)
+      ∙ round-same f (unlike s t) (x * down g) (y * down e) (a * d) (b * c) (mul-pos (mul-pos N (up-pos g)) (down-pos e)) (mul-pos B C)
+      (ap (λ (k : ℕ). x * down g * k) (mul-comm b c)
+      ∙ mul-mul-mul-comm x (down g) c b
+      ∙ ap₂ _*_ (v .1) (mul-comm (down g) b ∙ sym (w .1) ∙ mul-comm y d)
+      ∙ mul-mul-mul-comm a (down e) d y
+      ∙ ap (λ (k : ℕ). a * d * k) (mul-comm (down e) y))
+
+-- ---- a whole number as a float
+abbrev pub negative : ℤ → Bool
+negative (pos n) = false
+negative (negsuc n) = true
+
+pub signed-is : (z : ℤ) → signed (negative z) (natAbs z) ≡ z
+signed-is (pos n) = refl
+signed-is (negsuc n) = refl
+
+pub natAbs-signed : (s : Bool) (n : ℕ) → natAbs (signed s n) ≡ n
+natAbs-signed false n = refl
+natAbs-signed true zero = refl
+natAbs-signed true (suc n) = refl
+
+pub whole-value : (f : Format) (z : ℤ) → natAbs z ≤ 2 ^ prec f → HasValue (ofInt f z) (negative z) (natAbs z) 1
+unfolding ofInt
+whole-value f (pos n) h = round-whole f false n h
+whole-value f (negsuc n) h = round-whole f true (suc n) h
+
+-- ---- one float to a value
+bits-by-value : (f : Format) (x : Float) (s : Bool) (a c : ℕ) → 0 < c → HasValue x s a c
+    → toBits f x ≡ cond s (top f) 0 + (size (a * 2 ^ low f / c) - prec f) * hid f + a * 2 ^ low f / c / 2 ^ (size (a * 2 ^ low f / c) - prec f)
+unfolding toBits
+bits-by-value f nan s a c C v = absurd v
+bits-by-value f (inf t) s a c C v = absurd v
+bits-by-value f (fin t m e) s a c C v =
+    let i : m * up e * 2 ^ low f / down e ≡ a * 2 ^ low f / c =
+    div-same (m * up e * 2 ^ low f) (down e) (a * 2 ^ low f) c (down-pos e) C
+    (mul-right-comm (m * up e) (2 ^ low f) c ∙ ap (λ (k : ℕ). k * 2 ^ low f) (v .1) ∙ mul-right-comm a (down e) (2 ^ low f)) in
+    ap₂ (λ (b : Bool) (n : ℕ). cond b (top f) 0 + (size n - prec f) * hid f + n / 2 ^ (size n - prec f)) (v .0) i
+
+pub value-unique : (f : Format) (x y : Float) (s : Bool) (a c : ℕ) → 0 < c → T (fits f x) → T (fits f y) → HasValue x s a c → HasValue y s a c → x ≡ y
+value-unique f x y s a c C p q v w =
+    sym (ofBits-toBits f x p) ∙ ap (ofBits f) (bits-by-value f x s a c C v ∙ sym (bits-by-value f y s a c C w)) ∙ ofBits-toBits f y q
