@@ -1,0 +1,12 @@
+pub mod Compare
+pub mod OrderedList
+pub mod TidiedList
+pub mod Columns
+pub mod FallFound
+pub mod SummedBefore
+pub mod DealtByDigit
+pub mod InsertedInPlace
+pub mod SortedByHalves
+pub mod SortOutcome
+pub mod RowKeys
+pub mod FloatPattern
