@@ -1,0 +1,27 @@
+// What a call answers that lays a result over the front of lent columns.
+ghost use mathlib.Core.Path.{_≡_};
+ghost use Prim.Native.Nat.{min};
+ghost use Rattle.columns.specs.Laying.{roomNumber, refusedBy};
+
+// The refusal number, 0 where the call is taken, and how many entries were written.
+pub struct Outcome {
+    pub number: u32,
+    pub count: usize,
+}
+
+// The outcome of a call that is refused.
+pub fn refused(number: u32) -> Outcome
+    ensures { λ r. ⌜ r ≡ refusedBy number ⌝ }
+{
+    Outcome {
+        number: number,
+        count: 0,
+    }
+}
+
+// The room of a list of two columns: the shorter.
+pub fn room_of(first: usize, second: usize) -> usize
+    ensures { λ r. ⌜ r ≡ min first second ⌝ }
+{
+    if first < second { first } else { second }
+}
