@@ -1,8 +1,8 @@
 //! Finds the original and the port's archive.
 //!
-//! `RSSP_SRC` names the folder with timing.rs, bpm.rs and math.rs; by default it is looked for beside the repository.
+//! `RSSP_SRC` names the folder with timing.rs, bpm.rs and math.rs, from the repository's root; by default it stands beside the repository.
 //! Each file is included whole and unchanged in a module of its name, with a child module `probe`, src/probes/NAME.rs,
-//! which sees the file's private functions. With the feature `port`, `PORT_ARCHIVE` names the archive to link.
+//! which sees the file's private functions. With the feature `port` the port's archive is linked.
 
 use std::path::{Path, PathBuf};
 use std::{env, fs};
@@ -22,7 +22,7 @@ fn main() {
 
 fn include_original(here: &Path, root: &Path) {
     println!("cargo::rerun-if-env-changed=RSSP_SRC");
-    let from = env::var_os("RSSP_SRC").map_or_else(|| root.join(BESIDE), PathBuf::from);
+    let from = root.join(env::var_os("RSSP_SRC").unwrap_or_else(|| BESIDE.into()));
     let mut text = String::new();
     for name in FILES {
         let original = from.join(name).with_extension("rs");
@@ -30,7 +30,7 @@ fn include_original(here: &Path, root: &Path) {
             .unwrap_or_else(|why| panic!("{}: {why}. RSSP_SRC names the folder of the original", original.display()));
         let probe = here.join("src/probes").join(name).with_extension("rs");
         text += &format!(
-            "#[allow(dead_code, unused_imports)]\npub mod {name} {{\n    include!({original:?});\n    pub mod probe {{\n        include!({probe:?});\n    }}\n}}\n"
+            "#[allow(dead_code, unused_imports, clippy::all)]\npub mod {name} {{\n    include!({original:?});\n    pub mod probe {{\n        include!({probe:?});\n    }}\n}}\n"
         );
     }
     let out = PathBuf::from(env::var_os("OUT_DIR").unwrap()).join("original.rs");
@@ -38,11 +38,10 @@ fn include_original(here: &Path, root: &Path) {
 }
 
 fn link_port(root: &Path) {
-    println!("cargo::rerun-if-env-changed=PORT_ARCHIVE");
-    let archive = env::var_os("PORT_ARCHIVE").map_or_else(|| root.join("target/native/libexports.a"), PathBuf::from);
-    let archive = fs::canonicalize(&archive)
-        .unwrap_or_else(|why| panic!("{}: {why}. oracle/native-archive makes it", archive.display()));
+    let folder = root.join("target/native");
+    let archive = folder.join("libexports.a");
+    assert!(archive.is_file(), "{} is missing: oracle/native-archive exports", archive.display());
     println!("cargo::rerun-if-changed={}", archive.display());
-    println!("cargo::rustc-link-search=native={}", archive.parent().unwrap().display());
-    println!("cargo::rustc-link-lib=static:+verbatim={}", archive.file_name().unwrap().to_str().unwrap());
+    println!("cargo::rustc-link-search=native={}", folder.display());
+    println!("cargo::rustc-link-lib=static=exports");
 }

@@ -18,12 +18,12 @@ impl Work {
     /// co-prime to 2^32.
     fn patterns(self) -> impl Iterator<Item = u64> {
         let stride = 600u64.div_ceil(self.seconds.max(1)) | 1;
-        let start = Random::new(self.seed, "patterns").next();
+        let start = Random::new(self.seed, "patterns").bits();
         (0..(1u64 << 32).div_ceil(stride)).map(move |step| start.wrapping_add(step * stride) & 0xFFFF_FFFF)
     }
 
     fn turns(self) -> u64 {
-        self.seconds * 4_000_000
+        self.seconds * 2_000_000
     }
 }
 
@@ -99,10 +99,10 @@ impl Cases for f64 {
     fn by_chance(turn: u64, random: &mut Random) -> Self {
         match turn % 5 {
             // every exponent in its turn
-            0 => f64::from_bits(random.next() & !(0x7FF << 52) | (turn / 5 & 0x7FF) << 52),
+            0 => f64::from_bits(random.bits() & !(0x7FF << 52) | ((turn / 5) & 0x7FF) << 52),
             1 => near_f32_tie(random),
             // a row or a tie anywhere within an i32
-            2 => (f64::from(random.next() as i32) / 2.0 / 48.0).moved(random.below(5) as i64 - 2),
+            2 => (f64::from(random.bits() as i32) / 2.0 / 48.0).moved(random.below(5) as i64 - 2),
             3 => random.sign() * random.part() * 65_536.0,
             _ => Self::typical(random),
         }
@@ -132,7 +132,7 @@ impl Cases for f32 {
 
     fn by_chance(turn: u64, random: &mut Random) -> Self {
         match turn % 2 {
-            0 => f32::from_bits(random.next() as u32),
+            0 => f32::from_bits(random.bits() as u32),
             _ => f64::by_chance(turn, random) as f32,
         }
     }
@@ -158,7 +158,7 @@ impl Cases for i32 {
 
     fn by_chance(turn: u64, random: &mut Random) -> Self {
         match turn % 2 {
-            0 => random.next() as i32,
+            0 => random.bits() as i32,
             _ => Self::typical(random),
         }
     }
@@ -182,7 +182,7 @@ fn near_f32_tie(random: &mut Random) -> f64 {
     let exponent = random.below(280) as i32 - 151;
     // how many digits of the f64 stand below the f32's last one
     let below = 29 + (-126 - exponent).clamp(0, 23);
-    let fraction = random.next() >> 12 >> below << below | 1 << (below - 1);
+    let fraction = random.bits() >> 12 >> below << below | 1 << (below - 1);
     let tie = power(exponent).bits() | fraction;
     random.sign() * f64::from_bits(tie).moved(random.below(3) as i64 - 1)
 }

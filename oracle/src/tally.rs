@@ -43,8 +43,8 @@ pub struct Tally<C: Call> {
     kept: Vec<C::From>,
 }
 
-impl<C: Call> Tally<C> {
-    pub fn new() -> Self {
+impl<C: Call> Default for Tally<C> {
+    fn default() -> Self {
         Self {
             from: Vec::with_capacity(BLOCK),
             original: vec![C::To::default(); BLOCK],
@@ -55,7 +55,9 @@ impl<C: Call> Tally<C> {
             kept: Vec::new(),
         }
     }
+}
 
+impl<C: Call> Tally<C> {
     #[inline]
     pub fn give(&mut self, from: C::From) {
         self.from.push(from);

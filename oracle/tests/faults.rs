@@ -33,7 +33,7 @@ wrong! { NoSubnormals like narrow_f64(x: f64) -> f32 { if (x as f32).is_subnorma
 wrong! { OneRow like note_row_to_beat(row: i32) -> f64 { f64::from(row - i32::from(row == 3_145_728)) / 48.0 } }
 
 fn plainest<C: Call>() -> (C::From, u64) {
-    let mut tally = Tally::<C>::new();
+    let mut tally = Tally::<C>::default();
     C::From::every(Work { seed: 1, seconds: 0 }, &mut |from| tally.give(from));
     let first = tally.differing()[0];
     let mut total = Total::default();

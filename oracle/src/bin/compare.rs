@@ -27,7 +27,7 @@ struct Answers<'a> {
 
 impl Visit for Answers<'_> {
     fn visit<C: Call>(&mut self) {
-        let mut tally = Tally::<C>::new();
+        let mut tally = Tally::<C>::default();
         C::From::every(self.work, &mut |from| tally.give(from));
         tally.end(self.total);
     }
@@ -45,7 +45,7 @@ impl Visit for Columns<'_> {
         let (mut compared, mut shown) = (0, Vec::new());
         for (from_len, to_len) in (0..40).flat_map(|from| (0..40).map(move |to| (from, to))) {
             let from: Vec<_> = (0..from_len).map(|_| C::From::typical(&mut random)).collect();
-            let mut original: Vec<_> = (0..to_len).map(|_| C::To::of_bits(random.next())).collect();
+            let mut original: Vec<_> = (0..to_len).map(|_| C::To::of_bits(random.bits())).collect();
             let mut port = original.clone();
             C::original_each(&from, &mut original);
             C::port_each(&from, &mut port);
