@@ -15,6 +15,8 @@ pub trait Number: Copy + Default + 'static {
     fn neighbours(self) -> Vec<Self>;
     /// Less for a plainer number.
     fn plainness(self) -> (u32, u32, u64);
+    /// One for the numbers of a sign and a binade.
+    fn kind(self) -> u64;
 }
 
 impl Number for f64 {
@@ -41,6 +43,9 @@ impl Number for f64 {
     fn plainness(self) -> (u32, u32, u64) {
         FORMAT64.plainness(self.bits())
     }
+    fn kind(self) -> u64 {
+        self.bits() >> FORMAT64.fraction
+    }
 }
 
 impl Number for f32 {
@@ -66,6 +71,9 @@ impl Number for f32 {
     }
     fn plainness(self) -> (u32, u32, u64) {
         FORMAT32.plainness(self.bits())
+    }
+    fn kind(self) -> u64 {
+        self.bits() >> FORMAT32.fraction
     }
 }
 
@@ -94,6 +102,9 @@ impl Number for i32 {
     }
     fn plainness(self) -> (u32, u32, u64) {
         (0, (self < 0).into(), self.unsigned_abs().into())
+    }
+    fn kind(self) -> u64 {
+        u64::from(self.unsigned_abs().leading_zeros()) << 1 | u64::from(self < 0)
     }
 }
 

@@ -2,11 +2,11 @@
 
 use crate::calls::Call;
 use crate::numbers::Number;
+use std::collections::BTreeMap;
 
 const BLOCK: usize = 4_096;
 /// Each call by itself is asked once in so many blocks; its loop, always.
 const SAMPLE: u64 = 64;
-const KEPT: usize = 10_000;
 const PRINTED: usize = 20;
 
 /// What was compared and what differed, over all calls.
@@ -40,7 +40,8 @@ pub struct Tally<C: Call> {
     blocks: u64,
     compared: u64,
     different: u64,
-    kept: Vec<C::From>,
+    /// Of each kind the plainest case that differs.
+    kept: BTreeMap<u64, C::From>,
 }
 
 impl<C: Call> Default for Tally<C> {
@@ -52,7 +53,7 @@ impl<C: Call> Default for Tally<C> {
             blocks: 0,
             compared: 0,
             different: 0,
-            kept: Vec::new(),
+            kept: BTreeMap::new(),
         }
     }
 }
@@ -86,8 +87,9 @@ impl<C: Call> Tally<C> {
         for (from, (original, port)) in self.from.iter().zip(answers) {
             if original.answer() != port.answer() {
                 self.different += 1;
-                if self.kept.len() < KEPT {
-                    self.kept.push(*from);
+                let kept = self.kept.entry(from.kind()).or_insert(*from);
+                if from.plainness() < kept.plainness() {
+                    *kept = *from;
                 }
             }
         }
@@ -97,7 +99,7 @@ impl<C: Call> Tally<C> {
     /// The plainest cases found that differ, plainest first.
     pub fn differing(&mut self) -> Vec<C::From> {
         self.compare();
-        let mut found: Vec<_> = self.kept.iter().map(|from| plainest(*from, differs::<C>)).collect();
+        let mut found: Vec<_> = self.kept.values().map(|from| plainest(*from, differs::<C>)).collect();
         found.sort_by_key(|from| from.plainness());
         found.dedup_by_key(|from| from.bits());
         found

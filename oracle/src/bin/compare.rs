@@ -33,11 +33,13 @@ impl Visit for Answers<'_> {
     }
 }
 
-/// What each loop leaves in a column to its last place, at every pair of short lengths.
+/// What each loop leaves in a column, at every pair of short lengths, and in the places past the column's end.
 struct Columns<'a> {
     work: Work,
     total: &'a mut Total,
 }
+
+const PAST: usize = 4;
 
 impl Visit for Columns<'_> {
     fn visit<C: Call>(&mut self) {
@@ -45,21 +47,17 @@ impl Visit for Columns<'_> {
         let (mut compared, mut shown) = (0, Vec::new());
         for (from_len, to_len) in (0..40).flat_map(|from| (0..40).map(move |to| (from, to))) {
             let from: Vec<_> = (0..from_len).map(|_| C::From::typical(&mut random)).collect();
-            let mut original: Vec<_> = (0..to_len).map(|_| C::To::of_bits(random.bits())).collect();
+            let mut original: Vec<_> = (0..to_len + PAST).map(|_| C::To::of_bits(random.bits())).collect();
             let mut port = original.clone();
-            C::original_each(&from, &mut original);
-            C::port_each(&from, &mut port);
-            compared += to_len;
-            let places = original.iter().zip(&port).enumerate();
-            shown.extend(places.filter(|(_, (original, port))| original.answer() != port.answer()).map(
-                |(place, (original, port))| {
-                    format!(
-                        "{from_len} numbers over {to_len}, place {place}: original {}, port {}",
-                        original.shown(),
-                        port.shown()
-                    )
-                },
-            ));
+            C::original_each(&from, &mut original[..to_len]);
+            C::port_each(&from, &mut port[..to_len]);
+            compared += port.len() as u64;
+            for (place, (original, port)) in original.iter().zip(&port).enumerate() {
+                if original.answer() != port.answer() {
+                    let (original, port) = (original.shown(), port.shown());
+                    shown.push(format!("{from_len} over {to_len}, place {place}: original {original}, port {port}"));
+                }
+            }
         }
         self.total.add(&format!("columns of {}", C::NAME), compared, shown.len() as u64, shown);
     }
