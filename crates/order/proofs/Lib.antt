@@ -10,3 +10,8 @@ pub mod SortedByHalves
 pub mod SortOutcome
 pub mod RowKeys
 pub mod FloatPattern
+pub mod PatternsGrow
+pub mod FloatKeys
+pub mod LaidOverFront
+pub mod GatheredByPlaces
+pub mod OneOrder
