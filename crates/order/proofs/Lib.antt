@@ -8,6 +8,7 @@ pub mod DealtByDigit
 pub mod InsertedInPlace
 pub mod SortedByHalves
 pub mod SortOutcome
+pub mod SortTaken
 pub mod RowKeys
 pub mod FloatPattern
 pub mod PatternsGrow

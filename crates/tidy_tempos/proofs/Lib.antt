@@ -1,0 +1,2 @@
+pub mod KeptTurns
+pub mod FromZero
