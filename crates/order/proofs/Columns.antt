@@ -42,6 +42,11 @@ module _ {A B : Type 0} where
   entries-set (x ∷ firsts) (y ∷ seconds) zero a b = refl
   entries-set (x ∷ firsts) (y ∷ seconds) (suc i) a b = ap (_∷_ (x, y)) (entries-set firsts seconds i a b)
 
+  pub entries-columns : (l : List (A × B)) → entries (map first l) (map second l) ≡ l
+  unfolding entries
+  entries-columns [] = refl
+  entries-columns (e ∷ l) = ap (_∷_ e) (entries-columns l)
+
   -- a list that two columns make gives the columns back
   pub columns : (firsts : List A) (seconds : List B) (l : List (A × B)) → length firsts ≡ length seconds → entries firsts seconds ≡ l → (firsts ≡ map first l) × (seconds ≡ map second l)
   columns firsts seconds l h e = (sym (first-entries firsts seconds h) ∙ ap (map first) e, sym (second-entries firsts seconds h) ∙ ap (map second) e)

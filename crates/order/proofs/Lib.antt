@@ -1,9 +1,11 @@
 pub mod Compare
 pub mod OrderedList
+pub mod OrderedByTwoKeys
 pub mod TidiedList
 pub mod Columns
 pub mod FallFound
 pub mod SummedBefore
+pub mod CountedByDigit
 pub mod DealtByDigit
 pub mod InsertedInPlace
 pub mod SortedByHalves
