@@ -1,14 +1,20 @@
 -- The played examples hold, each by computation. A definition that one computes with stands on the `unfolding` line. Assumes nothing.
 use mathlib.Core.Path.{refl}
-use lib.Ieee.{mul, ofInt, neg}
+use lib.Ieee.{mul, ofInt, neg, eq, toBits}
 use Rattle.ieee.specs.Rounding.{rint, hold}
+use Rattle.order.specs.Order.{run, put, tidied}
+use Rattle.order.specs.Entries.{entries}
+use Rattle.order.specs.FloatKey.{floatKey}
+use Rattle.tidy_tempos.specs.TempoTidying.{fromZero, changesAfter, changes, tidyTempos}
 use Rattle.played.specs.Numbers.{decimal}
 use Rattle.played.specs.Table.{Examples}
 
 pub played : Examples
-unfolding decimal neg mul ofInt rint hold
+unfolding decimal neg mul ofInt rint hold eq toBits run put tidied entries floatKey fromZero changesAfter changes tidyTempos
 played =
     record {
       rows-f64 = refl;
       rows-f32 = refl;
+      tempos-of-one-beat = refl;
+      tempos-that-change = refl;
     }

@@ -44,3 +44,9 @@ some-kept (e ∷ next ∷ list) h = go (isLast e (next ∷ list)) (some-kept (ne
         → 0 < length (pick last (pick (ne (e .1) nan) (e ∷ keptAfter (e .1) (next ∷ list)) (keptAfter nan (next ∷ list))) (keptAfter nan (next ∷ list)))
     go true p = rw (other-than-nan (e .1)) (omega arith)
     go false p = p
+
+-- a list of one over the front of a room
+pub set-first : (x : Float) (old : List Float) → 0 < length old → set old 0 x ≡ laid (x ∷ []) old
+unfolding laid
+set-first x [] h = absurd (omega arith)
+set-first x (y ∷ old) h = refl

@@ -10,7 +10,7 @@ use Rattle.picks.specs.Pick.{pick}
 -- whether an entry is the last of its beat, before the entries of a list
 unfoldable pub isLast : Float × Float → List (Float × Float) → Bool
 isLast e [] = true
-isLast e (next ∷ list) = not (eq (next .0) (e .0))
+isLast e (next ∷ list) = not (eq (e .0) (next .0))
 
 -- of each beat the last entry, where its value is not that of the last kept one. After a NaN every value is kept
 unfoldable pub keptAfter : Float → List (Float × Float) → List (Float × Float)
@@ -21,7 +21,7 @@ keptAfter value (e ∷ list) = pick (isLast e list) (pick (ne (e .1) value) (e �
 unfoldable pub keeps : List Float → List Float → ℕ → Float → Bool
 keeps beats tempos i value =
     pick (ltb (i + 1) (length beats))
-    (pick (eq (getD beats (i + 1) nan) (getD beats i nan)) false (ne (getD tempos i nan) value))
+    (pick (eq (getD beats i nan) (getD beats (i + 1) nan)) false (ne (getD tempos i nan) value))
     (ne (getD tempos i nan) value)
 
 -- whether no beat is below the one before it
