@@ -1,9 +1,3 @@
-pub mod FloatOrder
-pub mod NearestWhole
-pub mod RoundedSize
-pub mod Values
-pub mod NarrowOwn
-pub mod Magnitude
 pub mod RowValue
 pub mod RowOfBeat
 pub mod RowWithin

@@ -13,20 +13,19 @@ use lib.Ieee.Fits.{round-is}
 use lib.Ieee.Nearest.{closest, closest-same}
 use lib.Ieee.Scale.{grid}
 use Rattle.ieee.specs.Narrowing.{narrow}
+use Rattle.ieee.specs.Nearest.{NearestWhole}
 use Rattle.ieee.proofs.Narrow.{narrow-value}
 use Rattle.ieee.proofs.Pack.{dropped, held, size-quot}
 use Rattle.ieee.proofs.Snap.{size-gt}
+use Rattle.ieee.proofs.NearestWhole.{closest-nearest, closest-is}
+use Rattle.ieee.proofs.RoundedSize.{Near, grid-ge, grid-near, near-scaled}
+use Rattle.ieee.proofs.SignedSizes.{negative}
 use Rattle.rows.specs.Rows.{beatOf, mostRow}
-use Rattle.rows.proofs.NearestWhole.{NearestWhole, closest-nearest, closest-is}
-use Rattle.rows.proofs.RoundedSize.{Near, grid-ge, grid-near, near-scaled}
-use Rattle.rows.proofs.Values.{negative}
 use Rattle.rows.proofs.RowValue.{beat-rounded, beat-value}
 
 -- y is off from t thirds by one part in 2 ^ 30 at most, and q is the whole number nearest to t thirds: then q is nearest to y too. In units of `one`
 thirds : (t q one y : ℕ) → 0 < one → t < 50331648 → NearestWhole t 3 q → Near 1073741824 (y * 3) (t * one) → NearestWhole y one q × (y < 16777216 * one)
 thirds t q one y O hi near close =
-    let a = near .not-above in
-    let b = near .not-below in
     let no-more : q * 3 ≤ t + 1 = omega arith in
     let no-less : t ≤ q * 3 + 1 = omega arith in
     let c = mul-le-mul-right one no-more in

@@ -1,19 +1,20 @@
--- Floats by the fractions that they equal, each with its sign: the nearest whole number, a product, a quotient, a whole number as a float, and that a format has one float for a value. Assumes nothing.
-use mathlib.Core.Path.{_≡_, refl, sym, ap, ap₂, _∙_, subst}
+-- What is made of floats, by the fractions that they equal: the nearest whole number, a product, a quotient; and a whole number as a float. Assumes nothing.
+use mathlib.Core.Path.{_≡_, sym, ap, ap₂, _∙_, subst}
 use mathlib.Core.Bool.{Bool, true, false, cond}
-use Prim.Native.Nat.{ℕ, zero, suc, _+_, _-_, _*_, _/_, _^_, _≤_, _<_}
-use native.Mathlib.Nat.{mul-comm, mul-mul-mul-comm, mul-pos, mul-right-comm, zero-mul, zero-lt-suc, lt-irrefl}
+use Prim.Native.Nat.{ℕ, zero, suc, _*_, _^_, _≤_, _<_}
+use native.Mathlib.Nat.{mul-comm, mul-mul-mul-comm, mul-pos, zero-mul, zero-lt-suc, lt-irrefl}
 use native.Mathlib.Omega.{arith}
 use lib.IntN.{ℤ, pos, negsuc, natAbs}
-use lib.Dec.{T, eqb, eqb→eq, not-T}
-use lib.Ieee.{Float, nan, inf, fin, Format, prec, low, hid, top, up, down, unlike, size, round, mul, div, ofInt, fits, toBits, ofBits}
+use lib.Dec.{eqb, eqb→eq, not-T}
+use lib.Ieee.{Float, nan, inf, fin, Format, prec, up, down, unlike, round, mul, div, ofInt}
 use lib.Ieee.Back.{round-whole}
-use lib.Ieee.Bits.{ofBits-toBits, cond-no}
+use lib.Ieee.Bits.{cond-no}
 use lib.Ieee.Exact.{HasValue}
 use lib.Ieee.Fits.{down-pos, up-pos}
-use lib.Ieee.Nearest.{closest, closest-same, div-same}
+use lib.Ieee.Nearest.{closest, closest-same}
 use lib.Ieee.Scale.{round-same}
 use Rattle.ieee.specs.Rounding.{signed, rint}
+use Rattle.ieee.proofs.SignedSizes.{negative}
 
 pub rint-value : (x : Float) (s : Bool) (num den : ℕ) → 0 < den → HasValue x s num den → rint x ≡ signed s (closest num den)
 unfolding rint
@@ -58,37 +59,7 @@ module _ (f : Format) where
       ∙ mul-mul-mul-comm a (down e) d y
       ∙ ap (λ (k : ℕ). a * d * k) (mul-comm (down e) y))
 
--- ---- a whole number as a float
-abbrev pub negative : ℤ → Bool
-negative (pos n) = false
-negative (negsuc n) = true
-
-pub signed-is : (z : ℤ) → signed (negative z) (natAbs z) ≡ z
-signed-is (pos n) = refl
-signed-is (negsuc n) = refl
-
-pub natAbs-signed : (s : Bool) (n : ℕ) → natAbs (signed s n) ≡ n
-natAbs-signed false n = refl
-natAbs-signed true zero = refl
-natAbs-signed true (suc n) = refl
-
 pub whole-value : (f : Format) (z : ℤ) → natAbs z ≤ 2 ^ prec f → HasValue (ofInt f z) (negative z) (natAbs z) 1
 unfolding ofInt
 whole-value f (pos n) h = round-whole f false n h
 whole-value f (negsuc n) h = round-whole f true (suc n) h
-
--- ---- one float to a value
-bits-by-value : (f : Format) (x : Float) (s : Bool) (a c : ℕ) → 0 < c → HasValue x s a c
-    → toBits f x ≡ cond s (top f) 0 + (size (a * 2 ^ low f / c) - prec f) * hid f + a * 2 ^ low f / c / 2 ^ (size (a * 2 ^ low f / c) - prec f)
-unfolding toBits
-bits-by-value f nan s a c C v = absurd v
-bits-by-value f (inf t) s a c C v = absurd v
-bits-by-value f (fin t m e) s a c C v =
-    let i : m * up e * 2 ^ low f / down e ≡ a * 2 ^ low f / c =
-    div-same (m * up e * 2 ^ low f) (down e) (a * 2 ^ low f) c (down-pos e) C
-    (mul-right-comm (m * up e) (2 ^ low f) c ∙ ap (λ (k : ℕ). k * 2 ^ low f) (v .1) ∙ mul-right-comm a (down e) (2 ^ low f)) in
-    ap₂ (λ (b : Bool) (n : ℕ). cond b (top f) 0 + (size n - prec f) * hid f + n / 2 ^ (size n - prec f)) (v .0) i
-
-pub value-unique : (f : Format) (x y : Float) (s : Bool) (a c : ℕ) → 0 < c → T (fits f x) → T (fits f y) → HasValue x s a c → HasValue y s a c → x ≡ y
-value-unique f x y s a c C p q v w =
-    sym (ofBits-toBits f x p) ∙ ap (ofBits f) (bits-by-value f x s a c C v ∙ sym (bits-by-value f y s a c C w)) ∙ ofBits-toBits f y q
