@@ -1,12 +1,12 @@
--- What is made of floats, by the fractions that they equal: the nearest whole number, a product, a quotient; and a whole number as a float. Assumes nothing.
-use mathlib.Core.Path.{_≡_, sym, ap, ap₂, _∙_, subst}
+-- What is made of floats, by the fractions that they equal: the nearest whole number, a sum of two of one sign, a product, a quotient; and a whole number as a float. Assumes nothing.
+use mathlib.Core.Path.{_≡_, refl, sym, ap, ap₂, _∙_, subst}
 use mathlib.Core.Bool.{Bool, true, false, cond}
-use Prim.Native.Nat.{ℕ, zero, suc, _*_, _^_, _≤_, _<_}
+use Prim.Native.Nat.{ℕ, zero, suc, _+_, _*_, _^_, _≤_, _<_}
 use native.Mathlib.Nat.{mul-comm, mul-mul-mul-comm, mul-pos, zero-mul, zero-lt-suc, lt-irrefl}
 use native.Mathlib.Omega.{arith}
 use lib.IntN.{ℤ, pos, negsuc, natAbs}
 use lib.Dec.{eqb, eqb→eq, not-T}
-use lib.Ieee.{Float, nan, inf, fin, Format, prec, up, down, unlike, round, mul, div, ofInt}
+use lib.Ieee.{Float, nan, inf, fin, Format, prec, up, down, unlike, round, sum, add, mul, div, ofInt}
 use lib.Ieee.Back.{round-whole}
 use lib.Ieee.Bits.{cond-no}
 use lib.Ieee.Exact.{HasValue}
@@ -29,6 +29,26 @@ positive zero u d b k B K e = absurd (lt-irrefl 0 (subst (λ (x : ℕ). 0 < x) (
 positive (suc n) u d b k B K e = zero-lt-suc n
 
 module _ (f : Format) where
+  -- two of one sign
+  pub add-value : (x y : Float) (s : Bool) (a c b d : ℕ) → 0 < c → 0 < d → HasValue x s a c → HasValue y s b d → add f x y ≡ round f s (a * d + b * c) (c * d)
+  unfolding add sum
+  add-value nan y s a c b d C D v w = absurd v
+  add-value (inf u) y s a c b d C D v w = absurd v
+  add-value (fin u m e) nan s a c b d C D v w = absurd w
+  add-value (fin u m e) (inf z) s a c b d C D v w = absurd w
+  add-value (fin u m e) (fin z n g) s a c b d C D v w =
+      let x = m * up e in
+      let y = n * up g in
+      let p = ap (λ (k : ℕ). k * (d * down g)) (v .1) in
+      let q = ap (λ (k : ℕ). k * (c * down e)) (w .1) in
+      ap₂ (λ (i j : Bool). sum f i (x * down g) j (y * down e) (down e * down g)) (v .0) (w .0)
+      ∙ alike s (x * down g) (y * down e) (down e * down g)
+      ∙ round-same f s (x * down g + y * down e) (down e * down g) (a * d + b * c) (c * d) (mul-pos (down-pos e) (down-pos g)) (mul-pos C D) (omega arith)
+    where
+      alike : (s : Bool) (a b c : ℕ) → sum f s a s b c ≡ round f s (a + b) c
+      alike true a b c = refl
+      alike false a b c = refl
+
   pub mul-value : (x y : Float) (s t : Bool) (a c b d : ℕ) → 0 < c → 0 < d → HasValue x s a c → HasValue y t b d → mul f x y ≡ round f (unlike s t) (a * b) (c * d)
   unfolding mul
   mul-value nan y s t a c b d C D v w = absurd v

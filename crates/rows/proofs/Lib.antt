@@ -3,5 +3,7 @@ pub mod RowOfBeat
 pub mod RowWithin
 pub mod RowsKeepOrder
 pub mod BeatsRise
+pub mod FortyEighths
 pub mod NarrowedBeat
+pub mod BeatBySum
 pub mod Quantizing

@@ -16,16 +16,12 @@ use Rattle.ieee.proofs.NearestWhole.{closest-is}
 use Rattle.ieee.proofs.RoundedSize.{Near, grid-le, grid-near, near-scaled}
 use Rattle.ieee.proofs.SignedSizes.{negative, signed-is}
 use Rattle.rows.specs.Rows.{row, beatOf, mostRow}
-use Rattle.rows.proofs.RowValue.{rowSize, row-value, row-size-le, beat-sized}
+use Rattle.rows.proofs.RowValue.{tiny, rowSize, row-value, row-size-le, beat-sized}
 
--- ---- a width has 24 digits at least, and its smallest unit is far below a 48th
+-- ---- a width has 24 digits at least
 digits : (f : Format) → 8388608 ≤ 2 ^ (prec f - 1)
 digits binary32 = lit≤ tt
 digits binary64 = lit≤ tt
-
-tiny : (f : Format) → 2 ^ (prec f - 1) * 48 ≤ 2 ^ low f
-tiny binary32 = lit≤ tt
-tiny binary64 = lit≤ tt
 
 -- ---- in units of one: r of them, the quotient times 48, and the product
 settled : (exact quotient product one r : ℕ) → exact ≡ r * one → r ≤ mostRow → 0 < one → Near 16777216 quotient exact → Near 16777216 product quotient → NearestWhole product one r

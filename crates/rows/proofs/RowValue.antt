@@ -1,11 +1,11 @@
 -- The row of an allowed beat by the beat's value, and the beat of a row: each is rounded once by the width and, for the row, once more to a whole number. Assumes nothing.
 use mathlib.Core.Path.{_≡_, refl, sym, ap, _∙_, subst}
 use mathlib.Core.Bool.{Bool, true, false}
-use Prim.Native.Nat.{ℕ, _*_, _^_, _≤_, _<_}
+use Prim.Native.Nat.{ℕ, _-_, _*_, _^_, _≤_, _<_}
 use native.Mathlib.Nat.{le-trans, le-of-eq, mul-one, mul-right-comm, mul-le-mul-right, zero-lt-suc}
 use native.Mathlib.Omega.{arith}
 use lib.IntN.{ℤ, pos, natAbs}
-use lib.Dec.{lit<}
+use lib.Dec.{lit<, lit≤}
 use lib.Pow.{pow-pos}
 use lib.Ieee.{Float, Format, binary32, binary64, prec, low, unlike, round, ofInt}
 use lib.Ieee.Exact.{HasValue}
@@ -26,10 +26,15 @@ room : (f : Format) → mostRow < 2 ^ prec f
 room binary32 = lit< tt
 room binary64 = lit< tt
 
+-- and its smallest unit is far below a 48th
+pub tiny : (f : Format) → 2 ^ (prec f - 1) * 48 ≤ 2 ^ low f
+tiny binary32 = lit≤ tt
+tiny binary64 = lit≤ tt
+
 like-48 : (f : Format) → HasValue (ofInt f (pos 48)) false 48 1
 like-48 f = whole-value f (pos 48) (omega (arith, room f))
 
-unlike-positive : (s : Bool) → unlike s false ≡ s
+pub unlike-positive : (s : Bool) → unlike s false ≡ s
 unlike-positive true = refl
 unlike-positive false = refl
 
@@ -74,16 +79,16 @@ row-size-mono f a c b d C D p q h =
     (le-trans (le-of-eq (mul-right-comm a 48 d)) (le-trans (mul-le-mul-right 48 h) (le-of-eq (mul-right-comm b c 48))))))
 
 -- ---- the beat of a row
-module _ (f : Format) (r : ℤ) (h : natAbs r ≤ mostRow) where
-  pub beat-rounded : beatOf f r ≡ round f (negative r) (natAbs r) 48
-  beat-rounded =
-      div-value f (ofInt f r) (ofInt f (pos 48)) (negative r) false (natAbs r) 1 48 1 (zero-lt-suc 0) (zero-lt-suc 0) (zero-lt-suc 47) (whole-value f r (omega (arith, room f))) (like-48 f)
-      ∙ ap (λ (b : Bool). round f b (natAbs r * 1) 48) (unlike-positive (negative r))
-      ∙ ap (λ (n : ℕ). round f (negative r) n 48) (mul-one (natAbs r))
+pub beat-rounded : (f : Format) (r : ℤ) → natAbs r ≤ 2 ^ prec f → beatOf f r ≡ round f (negative r) (natAbs r) 48
+beat-rounded f r h =
+    div-value f (ofInt f r) (ofInt f (pos 48)) (negative r) false (natAbs r) 1 48 1 (zero-lt-suc 0) (zero-lt-suc 0) (zero-lt-suc 47) (whole-value f r h) (like-48 f)
+    ∙ ap (λ (b : Bool). round f b (natAbs r * 1) 48) (unlike-positive (negative r))
+    ∙ ap (λ (n : ℕ). round f (negative r) n 48) (mul-one (natAbs r))
 
+module _ (f : Format) (r : ℤ) (h : natAbs r ≤ mostRow) where
   pub beat-value : HasValue (beatOf f r) (negative r) (grid f (natAbs r) 48) (2 ^ low f)
   beat-value =
-      subst (λ (x : Float). HasValue x (negative r) (grid f (natAbs r) 48) (2 ^ low f)) (sym beat-rounded)
+      subst (λ (x : Float). HasValue x (negative r) (grid f (natAbs r) 48) (2 ^ low f)) (sym (beat-rounded f r (omega (arith, room f))))
       (round-units f (negative r) (natAbs r) 48 (grid-fine f (natAbs r) 48 65536 (zero-lt-suc 47) (omega (arith, room f)) (omega arith)))
 
   pub beat-small : grid f (natAbs r) 48 ≤ 65536 * 2 ^ low f
