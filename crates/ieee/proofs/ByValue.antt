@@ -1,18 +1,20 @@
--- What is made of floats, by the fractions that they equal: the nearest whole number, a sum of two of one sign, a product, a quotient; and a whole number as a float. Assumes nothing.
+-- What is made of floats, by the fractions that they equal: the nearest whole number, a sum and a difference of two of one sign, a product, a quotient; and a whole number as a float. Assumes nothing.
 use mathlib.Core.Path.{_≡_, refl, sym, ap, ap₂, _∙_, subst}
-use mathlib.Core.Bool.{Bool, true, false, cond}
-use Prim.Native.Nat.{ℕ, zero, suc, _+_, _*_, _^_, _≤_, _<_}
-use native.Mathlib.Nat.{mul-comm, mul-mul-mul-comm, mul-pos, zero-mul, zero-lt-suc, lt-irrefl}
+use mathlib.Core.Bool.{Bool, true, false, not, cond}
+use Prim.Native.Nat.{ℕ, zero, suc, _+_, _-_, _*_, _^_, _≤_, _<_}
+use native.Mathlib.Nat.{le-of-eq, le-of-lt, lt-of-not-le, not-le-of-lt, eq-of-mul-eq-mul-right, mul-sub, mul-comm, mul-mul-mul-comm, mul-pos, zero-mul, zero-lt-suc, lt-irrefl}
 use native.Mathlib.Omega.{arith}
 use lib.IntN.{ℤ, pos, negsuc, natAbs}
 use lib.Dec.{eqb, eqb→eq, not-T}
-use lib.Ieee.{Float, nan, inf, fin, Format, prec, up, down, unlike, round, sum, add, mul, div, ofInt}
+use lib.Ieee.{Float, nan, inf, fin, Format, prec, up, down, unlike, round, sum, neg, add, sub, mul, div, ofInt}
 use lib.Ieee.Back.{round-whole}
 use lib.Ieee.Bits.{cond-no}
 use lib.Ieee.Exact.{HasValue}
 use lib.Ieee.Fits.{down-pos, up-pos}
 use lib.Ieee.Nearest.{closest, closest-same}
+use lib.Ieee.Order.{transfer}
 use lib.Ieee.Scale.{round-same}
+use borrow.Author.Tests.{lt-ltb, le-ltb}
 use Rattle.ieee.specs.Rounding.{signed, rint}
 use Rattle.ieee.proofs.SignedSizes.{negative}
 
@@ -28,7 +30,21 @@ positive : (n u d b k : ℕ) → 0 < b → 0 < k → n * u * d ≡ b * k → 0 <
 positive zero u d b k B K e = absurd (lt-irrefl 0 (subst (λ (x : ℕ). 0 < x) (sym e ∙ ap (λ (x : ℕ). x * d) (zero-mul u) ∙ zero-mul d) (mul-pos B K)))
 positive (suc n) u d b k B K e = zero-lt-suc n
 
+sub-mul : (a b k : ℕ) → (a - b) * k ≡ a * k - b * k
+sub-mul a b k = mul-comm (a - b) k ∙ mul-sub k a b ∙ ap₂ _-_ (mul-comm k a) (mul-comm k b)
+
 module _ (f : Format) where
+  -- two of unlike signs, where the first is the larger, and where they are as large
+  less-sum : (s : Bool) (a b c : ℕ) → b < a → sum f s a (not s) b c ≡ round f s (a - b) c
+  unfolding sum
+  less-sum true a b c h = rw (le-ltb a b (le-of-lt h), lt-ltb b a h)
+  less-sum false a b c h = rw (le-ltb a b (le-of-lt h))
+
+  equal-sum : (s : Bool) (a b c : ℕ) → a ≡ b → sum f s a (not s) b c ≡ round f false 0 c
+  unfolding sum
+  equal-sum true a b c h = rw (le-ltb a b (le-of-eq (sym h)), le-ltb b a (le-of-eq h)) (ap (λ (x : ℕ). round f false x c) (omega arith))
+  equal-sum false a b c h = rw (le-ltb a b (le-of-eq (sym h))) (ap (λ (x : ℕ). round f false x c) (omega arith))
+
   -- two of one sign
   pub add-value : (x y : Float) (s : Bool) (a c b d : ℕ) → 0 < c → 0 < d → HasValue x s a c → HasValue y s b d → add f x y ≡ round f s (a * d + b * c) (c * d)
   unfolding add sum
@@ -48,6 +64,42 @@ module _ (f : Format) where
       alike : (s : Bool) (a b c : ℕ) → sum f s a s b c ≡ round f s (a + b) c
       alike true a b c = refl
       alike false a b c = refl
+
+  -- and their difference: of a larger one and a smaller, and of two that are equal, which is +0
+  module _ (s : Bool) (a c b d : ℕ) (C : 0 < c) (D : 0 < d) where
+    pub sub-above : (x y : Float) → HasValue x s a c → HasValue y s b d → b * c < a * d → sub f x y ≡ round f s (a * d - b * c) (c * d)
+    unfolding sub add neg
+    sub-above nan y v w l = absurd v
+    sub-above (inf u) y v w l = absurd v
+    sub-above (fin u m e) nan v w l = absurd w
+    sub-above (fin u m e) (inf z) v w l = absurd w
+    sub-above (fin u m e) (fin z n g) v w l =
+        let x = m * up e * down g in
+        let y = n * up g * down e in
+        let p : x * (c * d) ≡ a * d * (down e * down g) = let p = ap (λ (k : ℕ). k * (d * down g)) (v .1) in omega arith in
+        let q : y * (c * d) ≡ b * c * (down e * down g) = let q = ap (λ (k : ℕ). k * (c * down e)) (w .1) in omega arith in
+        let less : y < x = lt-of-not-le (λ (h : x ≤ y). not-le-of-lt l (transfer a b c d (m * up e) (n * up g) (down e) (down g) (down-pos e) (down-pos g) (sym (v .1)) (sym (w .1)) h)) in
+        ap₂ (λ (i j : Bool). sum f i x (not j) y (down e * down g)) (v .0) (w .0)
+        ∙ less-sum s x y (down e * down g) less
+        ∙ round-same f s (x - y) (down e * down g) (a * d - b * c) (c * d) (mul-pos (down-pos e) (down-pos g)) (mul-pos C D)
+        (sub-mul x y (c * d) ∙ ap₂ _-_ p q ∙ sym (sub-mul (a * d) (b * c) (down e * down g)))
+
+    pub sub-equal : (x y : Float) → HasValue x s a c → HasValue y s b d → a * d ≡ b * c → sub f x y ≡ round f false 0 1
+    unfolding sub add neg
+    sub-equal nan y v w l = absurd v
+    sub-equal (inf u) y v w l = absurd v
+    sub-equal (fin u m e) nan v w l = absurd w
+    sub-equal (fin u m e) (inf z) v w l = absurd w
+    sub-equal (fin u m e) (fin z n g) v w l =
+        let x = m * up e * down g in
+        let y = n * up g * down e in
+        let p = ap (λ (k : ℕ). k * (d * down g)) (v .1) in
+        let q = ap (λ (k : ℕ). k * (c * down e)) (w .1) in
+        let r = ap (λ (k : ℕ). k * (down e * down g)) l in
+        let same : x ≡ y = eq-of-mul-eq-mul-right (c * d) (mul-pos C D) x y (omega arith) in
+        ap₂ (λ (i j : Bool). sum f i x (not j) y (down e * down g)) (v .0) (w .0)
+        ∙ equal-sum s x y (down e * down g) same
+        ∙ round-same f false 0 (down e * down g) 0 1 (mul-pos (down-pos e) (down-pos g)) (zero-lt-suc 0) (omega arith)
 
   pub mul-value : (x y : Float) (s t : Bool) (a c b d : ℕ) → 0 < c → 0 < d → HasValue x s a c → HasValue y t b d → mul f x y ≡ round f (unlike s t) (a * b) (c * d)
   unfolding mul

@@ -21,6 +21,7 @@ pub mod Steps
 pub mod NearestValue
 pub mod NearestValueUnique
 pub mod Convert
+pub mod WholeBySum
 pub mod KeepsOrder
 pub mod Narrow
 pub mod NarrowedPattern

@@ -6,4 +6,5 @@ pub mod BeatsRise
 pub mod FortyEighths
 pub mod NarrowedBeat
 pub mod BeatBySum
+pub mod WholeF32
 pub mod Quantizing
