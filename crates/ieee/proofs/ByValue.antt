@@ -1,4 +1,4 @@
--- What is made of floats, by the fractions that they equal: the nearest whole number, a sum and a difference of two of one sign, a product, a quotient; and a whole number as a float. Assumes nothing.
+-- What is made of floats, by the fractions that they equal: the nearest whole number, a sum, a difference, a product, a quotient; and a whole number as a float. Assumes nothing.
 use mathlib.Core.Path.{_≡_, refl, sym, ap, ap₂, _∙_, subst}
 use mathlib.Core.Bool.{Bool, true, false, not, cond}
 use Prim.Native.Nat.{ℕ, zero, suc, _+_, _-_, _*_, _^_, _≤_, _<_}
@@ -29,6 +29,12 @@ rint-value (fin t m e) s num den D v =
 positive : (n u d b k : ℕ) → 0 < b → 0 < k → n * u * d ≡ b * k → 0 < n
 positive zero u d b k B K e = absurd (lt-irrefl 0 (subst (λ (x : ℕ). 0 < x) (sym e ∙ ap (λ (x : ℕ). x * d) (zero-mul u) ∙ zero-mul d) (mul-pos B K)))
 positive (suc n) u d b k B K e = zero-lt-suc n
+
+neg-value : (x : Float) (s : Bool) (a c : ℕ) → HasValue x s a c → HasValue (neg x) (not s) a c
+unfolding neg
+neg-value nan s a c v = v
+neg-value (inf t) s a c v = v
+neg-value (fin t m e) s a c v = (ap not (v .0), v .1)
 
 sub-mul : (a b k : ℕ) → (a - b) * k ≡ a * k - b * k
 sub-mul a b k = mul-comm (a - b) k ∙ mul-sub k a b ∙ ap₂ _-_ (mul-comm k a) (mul-comm k b)
@@ -65,41 +71,50 @@ module _ (f : Format) where
       alike true a b c = refl
       alike false a b c = refl
 
-  -- and their difference: of a larger one and a smaller, and of two that are equal, which is +0
+  -- two of unlike signs, where the first is the larger, and where they are as large: the sum is +0 then
   module _ (s : Bool) (a c b d : ℕ) (C : 0 < c) (D : 0 < d) where
-    pub sub-above : (x y : Float) → HasValue x s a c → HasValue y s b d → b * c < a * d → sub f x y ≡ round f s (a * d - b * c) (c * d)
-    unfolding sub add neg
-    sub-above nan y v w l = absurd v
-    sub-above (inf u) y v w l = absurd v
-    sub-above (fin u m e) nan v w l = absurd w
-    sub-above (fin u m e) (inf z) v w l = absurd w
-    sub-above (fin u m e) (fin z n g) v w l =
+    pub add-less : (x y : Float) → HasValue x s a c → HasValue y (not s) b d → b * c < a * d → add f x y ≡ round f s (a * d - b * c) (c * d)
+    unfolding add
+    add-less nan y v w l = absurd v
+    add-less (inf u) y v w l = absurd v
+    add-less (fin u m e) nan v w l = absurd w
+    add-less (fin u m e) (inf z) v w l = absurd w
+    add-less (fin u m e) (fin z n g) v w l =
         let x = m * up e * down g in
         let y = n * up g * down e in
         let p : x * (c * d) ≡ a * d * (down e * down g) = let p = ap (λ (k : ℕ). k * (d * down g)) (v .1) in omega arith in
         let q : y * (c * d) ≡ b * c * (down e * down g) = let q = ap (λ (k : ℕ). k * (c * down e)) (w .1) in omega arith in
         let less : y < x = lt-of-not-le (λ (h : x ≤ y). not-le-of-lt l (transfer a b c d (m * up e) (n * up g) (down e) (down g) (down-pos e) (down-pos g) (sym (v .1)) (sym (w .1)) h)) in
-        ap₂ (λ (i j : Bool). sum f i x (not j) y (down e * down g)) (v .0) (w .0)
+        ap₂ (λ (i j : Bool). sum f i x j y (down e * down g)) (v .0) (w .0)
         ∙ less-sum s x y (down e * down g) less
         ∙ round-same f s (x - y) (down e * down g) (a * d - b * c) (c * d) (mul-pos (down-pos e) (down-pos g)) (mul-pos C D)
         (sub-mul x y (c * d) ∙ ap₂ _-_ p q ∙ sym (sub-mul (a * d) (b * c) (down e * down g)))
 
-    pub sub-equal : (x y : Float) → HasValue x s a c → HasValue y s b d → a * d ≡ b * c → sub f x y ≡ round f false 0 1
-    unfolding sub add neg
-    sub-equal nan y v w l = absurd v
-    sub-equal (inf u) y v w l = absurd v
-    sub-equal (fin u m e) nan v w l = absurd w
-    sub-equal (fin u m e) (inf z) v w l = absurd w
-    sub-equal (fin u m e) (fin z n g) v w l =
+    add-none : (x y : Float) → HasValue x s a c → HasValue y (not s) b d → a * d ≡ b * c → add f x y ≡ round f false 0 1
+    unfolding add
+    add-none nan y v w l = absurd v
+    add-none (inf u) y v w l = absurd v
+    add-none (fin u m e) nan v w l = absurd w
+    add-none (fin u m e) (inf z) v w l = absurd w
+    add-none (fin u m e) (fin z n g) v w l =
         let x = m * up e * down g in
         let y = n * up g * down e in
         let p = ap (λ (k : ℕ). k * (d * down g)) (v .1) in
         let q = ap (λ (k : ℕ). k * (c * down e)) (w .1) in
         let r = ap (λ (k : ℕ). k * (down e * down g)) l in
         let same : x ≡ y = eq-of-mul-eq-mul-right (c * d) (mul-pos C D) x y (omega arith) in
-        ap₂ (λ (i j : Bool). sum f i x (not j) y (down e * down g)) (v .0) (w .0)
+        ap₂ (λ (i j : Bool). sum f i x j y (down e * down g)) (v .0) (w .0)
         ∙ equal-sum s x y (down e * down g) same
         ∙ round-same f false 0 (down e * down g) 0 1 (mul-pos (down-pos e) (down-pos g)) (zero-lt-suc 0) (omega arith)
+
+    -- so the difference of two of one sign
+    pub sub-above : (x y : Float) → HasValue x s a c → HasValue y s b d → b * c < a * d → sub f x y ≡ round f s (a * d - b * c) (c * d)
+    unfolding sub
+    sub-above x y v w = add-less x (neg y) v (neg-value y s b d w)
+
+    pub sub-equal : (x y : Float) → HasValue x s a c → HasValue y s b d → a * d ≡ b * c → sub f x y ≡ round f false 0 1
+    unfolding sub
+    sub-equal x y v w = add-none x (neg y) v (neg-value y s b d w)
 
   pub mul-value : (x y : Float) (s t : Bool) (a c b d : ℕ) → 0 < c → 0 < d → HasValue x s a c → HasValue y t b d → mul f x y ≡ round f (unlike s t) (a * b) (c * d)
   unfolding mul

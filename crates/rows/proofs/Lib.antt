@@ -7,4 +7,5 @@ pub mod FortyEighths
 pub mod NarrowedBeat
 pub mod BeatBySum
 pub mod WholeF32
+pub mod RowByHalves
 pub mod Quantizing
