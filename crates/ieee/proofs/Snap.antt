@@ -24,7 +24,7 @@ size-is j l num den D lo hi =
     omega arith
 
 module _ (f : Format) (s : Bool) where
-  pub snap : (num den : ℕ) → 0 < den → 2 ^ (prec f - 1) * den ≤ num → num < 2 ^ prec f * den → round f s num den ≡ units f s (closest num den) (low f)
+  snap : (num den : ℕ) → 0 < den → 2 ^ (prec f - 1) * den ≤ num → num < 2 ^ prec f * den → round f s num den ≡ units f s (closest num den) (low f)
   snap num den D lo hi =
       let t = two f in
       let p : suc (prec f - 1) ≡ prec f = omega arith in

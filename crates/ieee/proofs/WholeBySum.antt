@@ -1,23 +1,24 @@
 -- Where a format has no digit after the point, which is from 2 ^ (prec - 1) on, over the format. That number with x's sign added to a smaller x, and taken away again, leaves x rounded to a whole number; and an x from there on is whole. Assumes nothing.
-use mathlib.Core.Path.{_≡_, refl, sym, ap, _∙_, subst}
+use mathlib.Core.Path.{_≡_, refl, sym, ap, ap₂, _∙_, subst}
 use mathlib.Core.Logic.{inl, inr}
 use Prim.Native.Nat.{ℕ, zero, suc, _+_, _-_, _*_, _%_, _^_, _≤_, _<_}
-use native.Mathlib.Nat.{le-trans, le-of-eq, le-of-lt, lt-of-le-of-lt, lt-of-lt-of-le, not-le-of-lt, mul-one, mul-assoc, mul-le-mul-right, mul-lt-mul-of-pos-right, le-of-mul-le-mul-right, eq-of-mul-eq-mul-right, zero-lt-suc}
+use native.Mathlib.Nat.{le-trans, le-of-eq, le-of-lt, lt-of-le-of-lt, lt-of-lt-of-le, not-le-of-lt, mul-one, mul-pos, mul-assoc, mul-le-mul-right, mul-lt-mul-of-pos-right, le-of-mul-le-mul-right, eq-of-mul-eq-mul-right, zero-lt-suc}
 use native.Mathlib.Omega.{arith}
 use mathlib.Core.Bool.{Bool, true, false}
 use lib.IntN.{ℤ, pos}
 use lib.Dec.{T, lit<}
 use lib.Pow.{pow-add, pow-pos, pow-lt, pow-mono}
-use lib.Ieee.{Float, nan, inf, fin, Format, binary32, binary64, prec, emax, low, up, down, fits, units, round, add, sub, ofInt}
+use lib.Ieee.{Float, nan, inf, fin, Format, binary32, binary64, prec, emax, low, up, down, fits, round, add, sub, ofInt}
 use lib.Ieee.Fits.{down-pos, two}
-use lib.Ieee.Exact.{HasValue, units-val}
-use lib.Ieee.Nearest.{closest}
+use lib.Ieee.Exact.{HasValue}
+use lib.Ieee.Nearest.{closest, closest-same}
+use lib.Ieee.Scale.{grid, overflow}
 use Rattle.ieee.specs.Rounding.{signed, rint}
 use Rattle.ieee.proofs.Closest.{lt-or-ge}
 use Rattle.ieee.proofs.ClosestLaws.{closest-le, closest-add}
-use Rattle.ieee.proofs.Snap.{snap}
+use Rattle.ieee.proofs.Pack.{dropped, held, size-quot}
 use Rattle.ieee.proofs.ByValue.{add-value, sub-above, sub-equal}
-use Rattle.ieee.proofs.Units.{in-units}
+use Rattle.ieee.proofs.Units.{in-units, round-units}
 use Rattle.ieee.proofs.Convert.{convert-value, convert-own}
 
 -- 2 ^ (prec - 1) with a sign
@@ -53,11 +54,19 @@ module _ (f : Format) where
 
   snap-value : (s : Bool) (num den : ℕ) → 0 < den → 2 ^ (prec f - 1) * den ≤ num → num < 2 ^ prec f * den → HasValue (round f s num den) s (closest num den) 1
   snap-value s num den D lo hi =
+      let L = 2 ^ low f in
       let q = closest num den in
-      let few : q * 2 ^ low f < 2 ^ (low f + suc (emax f)) =
-      lt-of-le-of-lt (mul-le-mul-right (2 ^ low f) (closest-le (2 ^ prec f) num den D (le-of-lt hi)))
+      let t = two f in
+      let i : suc (prec f - 1 + low f) ≡ prec f + low f = omega arith in
+      let at-least : 2 ^ (prec f - 1 + low f) * den ≤ num * L = let p = ap (λ (x : ℕ). x * den) (pow-add 2 (prec f - 1) (low f)) in let l = mul-le-mul-right L lo in omega arith in
+      let less-than : num * L < 2 ^ suc (prec f - 1 + low f) * den = let p = ap (λ (x : ℕ). x * den) (ap (λ (x : ℕ). 2 ^ x) i ∙ pow-add 2 (prec f) (low f)) in let l = mul-lt-mul-of-pos-right hi (pow-pos (low f)) in omega arith in
+      let drops : dropped f num den ≡ low f = ap (λ (x : ℕ). x - prec f) (size-quot (num * L) den (prec f - 1 + low f) D at-least less-than) ∙ omega arith in
+      let keeps : held f num den ≡ q = ap (λ (x : ℕ). closest (num * L) (den * 2 ^ x)) drops ∙ closest-same (num * L) (den * L) num den (mul-pos D (pow-pos (low f))) D (omega arith) in
+      let whole : grid f num den ≡ q * L = ap₂ (λ (n k : ℕ). n * 2 ^ k) keeps drops in
+      let few : q * L < overflow f =
+      lt-of-le-of-lt (mul-le-mul-right L (closest-le (2 ^ prec f) num den D (le-of-lt hi)))
       (lt-of-lt-of-le (mul-lt-mul-of-pos-right (pow-lt (far-reach f)) (pow-pos (low f))) (le-of-eq (let p = pow-add 2 (low f) (suc (emax f)) in omega arith))) in
-      subst (λ (y : Float). HasValue y s q 1) (sym (snap f s num den D lo hi)) (in-ones (units f s q (low f)) s q (2 ^ low f) (pow-pos (low f)) (units-val f s q (low f) few))
+      in-ones (round f s num den) s q L (pow-pos (low f)) (subst (λ (n : ℕ). HasValue (round f s num den) s n L) whole (round-units f s num den (subst (λ (n : ℕ). n < overflow f) (sym whole) few)))
 
   from-value : (s : Bool) → HasValue (wholeFrom f s) s (2 ^ (prec f - 1)) 1
   from-value s = (refl, omega arith)
