@@ -41,7 +41,7 @@ zeros a b h = go (eqb a b) (eqb a 0) (eqb→eq a b) (eqb→eq a 0) h
     go true false p q h = absurd h
     go false y p q h = absurd h
 
-or-left : (x y : Bool) → T x → T (x || y)
+pub or-left : (x y : Bool) → T x → T (x || y)
 or-left true y t = tt
 or-left false y t = absurd t
 
