@@ -1,0 +1,75 @@
+//! compare SEED SECONDS: the port against the original, bit for bit; a NaN equals any NaN.
+
+use oracle::calls::{self, Call, Visit, called};
+use oracle::cases::{Cases, LAST_ROW, Work};
+use oracle::numbers::Number;
+use oracle::random::Random;
+use oracle::tally::{Tally, Total};
+use std::process::ExitCode;
+
+fn main() -> ExitCode {
+    let words: Vec<u64> =
+        std::env::args().skip(1).map(|word| word.parse().expect("SEED and SECONDS are numbers")).collect();
+    let work = Work { seed: words.first().copied().unwrap_or(1), seconds: words.get(1).copied().unwrap_or(10) };
+    let mut total = Total::default();
+    calls::visit_all(&mut Answers { work, total: &mut total });
+    calls::visit_all(&mut Columns { work, total: &mut total });
+    there_and_back::<called::note_row_to_beat, called::beat_to_note_row>(&mut total);
+    there_and_back::<called::note_row_to_beat_f32, called::beat_to_note_row_f32>(&mut total);
+    if total.end() { ExitCode::SUCCESS } else { ExitCode::FAILURE }
+}
+
+/// What each call answers.
+struct Answers<'a> {
+    work: Work,
+    total: &'a mut Total,
+}
+
+impl Visit for Answers<'_> {
+    fn visit<C: Call>(&mut self) {
+        let mut tally = Tally::<C>::default();
+        C::From::every(self.work, &mut |from| tally.give(from));
+        tally.end(self.total);
+    }
+}
+
+/// What each loop leaves in a column to its last place, at every pair of short lengths.
+struct Columns<'a> {
+    work: Work,
+    total: &'a mut Total,
+}
+
+impl Visit for Columns<'_> {
+    fn visit<C: Call>(&mut self) {
+        let mut random = Random::new(self.work.seed, C::NAME);
+        let (mut compared, mut shown) = (0, Vec::new());
+        for (from_len, to_len) in (0..40).flat_map(|from| (0..40).map(move |to| (from, to))) {
+            let from: Vec<_> = (0..from_len).map(|_| C::From::typical(&mut random)).collect();
+            let mut original: Vec<_> = (0..to_len).map(|_| C::To::of_bits(random.bits())).collect();
+            let mut port = original.clone();
+            C::original_each(&from, &mut original);
+            C::port_each(&from, &mut port);
+            compared += to_len;
+            let places = original.iter().zip(&port).enumerate();
+            shown.extend(places.filter(|(_, (original, port))| original.answer() != port.answer()).map(
+                |(place, (original, port))| {
+                    format!(
+                        "{from_len} numbers over {to_len}, place {place}: original {}, port {}",
+                        original.shown(),
+                        port.shown()
+                    )
+                },
+            ));
+        }
+        self.total.add(&format!("columns of {}", C::NAME), compared, shown.len() as u64, shown);
+    }
+}
+
+/// The row of the beat of every row within the limit.
+fn there_and_back<There: Call<From = i32>, Back: Call<From = There::To, To = i32>>(total: &mut Total) {
+    let different = |row: &i32| Back::port(There::port(*row)) != Back::original(There::original(*row));
+    let shown: Vec<_> = (-LAST_ROW..=LAST_ROW).filter(different).collect();
+    let name = format!("{} of {}", Back::NAME, There::NAME);
+    let lines = shown.iter().map(|row| format!("row {row}: port {}", Back::port(There::port(*row))));
+    total.add(&name, 2 * LAST_ROW as u64 + 1, shown.len() as u64, lines);
+}

@@ -1,0 +1,24 @@
+//! The original, built whole and unchanged, beside the port: what `compare`, `vectors` and `bench` are made of.
+
+/// For each line, a public function that is the private one of the same name, inlined where it is called.
+macro_rules! probes {
+    ($from:ident => $(fn $name:ident($($arg:ident: $type:ty),* $(,)?) $(-> $answer:ty)?;)*) => {
+        $(#[inline(always)]
+        pub fn $name($($arg: $type),*) $(-> $answer)? {
+            $from::$name($($arg),*)
+        })*
+    };
+}
+pub(crate) use probes;
+
+include!(concat!(env!("OUT_DIR"), "/original.rs"));
+
+mod missing;
+use missing::{nps, parse, resolve_difficulty_label, stats, supported_stepstype_lanes_bytes};
+
+pub mod calls;
+pub mod cases;
+pub mod numbers;
+pub mod random;
+#[cfg(feature = "port")]
+pub mod tally;

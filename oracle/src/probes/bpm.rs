@@ -1,0 +1,3 @@
+// Probes into bpm.rs.
+
+crate::probes! { super => }

@@ -1,0 +1,10 @@
+// Probes into timing.rs: a line each, `fn NAME(ARGUMENTS) -> ANSWER;` as the original has it.
+
+crate::probes! { super =>
+    fn note_row_to_beat(row: i32) -> f64;
+    fn note_row_to_beat_f32(row: i32) -> f32;
+    fn beat_to_note_row(beat: f64) -> i32;
+    fn beat_to_note_row_f32(beat: f32) -> i32;
+    fn quantize_beat(beat: f64) -> f64;
+    fn quantize_beat_f32(beat: f32) -> f32;
+}
