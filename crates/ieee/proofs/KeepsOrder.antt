@@ -105,7 +105,7 @@ le-opposite (fin true m e) (fin false n d) h k s t = not-above (m * up e * down 
 le-opposite (fin false m e) (fin b n d) h k s t = absurd (true≢false (sym s))
 
 -- ---- `round`
-round-number : (f : Format) (s : Bool) (num den : ℕ) → T (not (isNan (round f s num den)))
+pub round-number : (f : Format) (s : Bool) (num den : ℕ) → T (not (isNan (round f s num den)))
 unfolding units odd isNan
 round-number f s num den = subst (λ (y : Float). T (not (isNan y))) (sym (round-is f s num den)) (go (ltb (grid f num den) (overflow f)) (held f num den))
   where
@@ -114,7 +114,7 @@ round-number f s num den = subst (λ (y : Float). T (not (isNan y))) (sym (round
     go true (suc q) = tt
     go false q = tt
 
-round-zero : (f : Format) (s : Bool) (num den : ℕ) → 0 < den → num ≡ 0 → round f s num den ≡ fin s 0 (pos 0)
+pub round-zero : (f : Format) (s : Bool) (num den : ℕ) → 0 < den → num ≡ 0 → round f s num den ≡ fin s 0 (pos 0)
 unfolding fits
 round-zero f s num den D z = round-same f s num den 0 1 D (zero-lt-suc 0) (omega arith) ∙ round-own f s 0 (pos 0) tt
 

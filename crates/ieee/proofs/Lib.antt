@@ -6,6 +6,8 @@ pub mod Held
 pub mod Tests
 pub mod Snap
 pub mod RintBySum
+pub mod HoldFirst
+pub mod FiniteTest
 pub mod Rint
 pub mod Pack
 pub mod Fields

@@ -1,4 +1,4 @@
--- Finite floats by the numbers that they are (`HasValue`): that they are finite, their sign, and when two of them differ. Assumes nothing.
+-- Finite floats by the numbers that they are (`HasValue`): that they are finite, and so no NaN, their sign, and when two of them differ. Assumes nothing.
 use mathlib.Core.Path.{_≡_, sym, ap, _∙_, subst}
 use mathlib.Core.Logic.{_⊎_, _≢_, inl, inr}
 use Prim.Native.Nat.{ℕ, _*_, _<_}
@@ -6,11 +6,17 @@ use native.Mathlib.Nat.{mul-pos, eq-of-mul-eq-mul-right}
 use native.Mathlib.Omega.{arith}
 use mathlib.Core.Bool.{Bool, true, false, not, _&&_, _||_, Bool·beq}
 use lib.Dec.{T, eqb, eqb→eq, not-T}
-use lib.Ieee.{Float, nan, inf, fin, up, down, eq, ne}
+use lib.Ieee.{Float, nan, inf, fin, up, down, eq, ne, isNan}
 use lib.Ieee.Fits.{eq→eqb, and-l, down-pos}
 use lib.Ieee.Exact.{HasValue}
 use lib.Ieee.Scale.{finite}
 use Rattle.ieee.specs.Nearest.{signOf}
+
+pub finite-number : (x : Float) → T (finite x) → T (not (isNan x))
+unfolding isNan
+finite-number nan t = t
+finite-number (inf s) t = tt
+finite-number (fin s m e) t = tt
 
 pub finite-of : (y : Float) (s : Bool) (n c : ℕ) → HasValue y s n c → T (finite y)
 finite-of nan s n c v = absurd v

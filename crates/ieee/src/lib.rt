@@ -1,28 +1,52 @@
 ghost use mathlib.Core.Path.{_≡_};
 ghost use Prim.Native.Nat.{_<_, _≤_, _^_};
 ghost use lib.Ieee.Nearest.{closest};
-ghost use Rattle.ieee.specs.Rounding.{rint, hold};
+ghost use lib.Dec.{T};
+ghost use lib.Ieee.Scale.{finite};
+ghost use Rattle.ieee.specs.Rounding.{rint, hold, Within};
 ghost use Rattle.ieee.specs.Narrowing.{narrow, Narrowed};
 
-// The whole number nearest to x, a tie to the even one, held at the ends of an i32; 0 for a NaN or an infinity.
+// x held at the ends of an i32.
+fn within_i32(x: f64) -> f64
+    requires { ⌜ T (finite x) ⌝ }
+    ensures { λ r. ⌜ Within r × (rint r ≡ hold (rint x)) ⌝ }
+{
+    let below = if x < 2147483647.0 { x } else { 2147483647.0 };
+    if below > -2147483648.0 {
+        below
+    } else {
+        -2147483648.0
+    }
+}
+
+// The whole number nearest to x, a tie to the even one.
+fn whole(x: f64) -> i32
+    requires { ⌜ Within x ⌝ }
+    ensures { λ r. ⌜ r ≡ rint x ⌝ }
+{
+    // 1.5 * 2^52: at this size an f64 has no fraction, so the sum rounds, and its pattern counts on from this number's
+    ((f64::to_bits(x + 6755399441055744.0) as i64) - 0x4338_0000_0000_0000) as i32
+}
+
+// The whole number nearest to x, a tie to the even one, held at the ends of an i32; 0 for a NaN or an infinity, which differ from themselves by a NaN.
 pub fn lrint_f64(x: f64) -> i32
     ensures { λ r. ⌜ r ≡ hold (rint x) ⌝ }
 {
-    if x >= -2147483648.0 {
-        if x <= 2147483647.0 {
-            // 1.5 * 2^52: at this size an f64 has no fraction, so the sum rounds
-            return (((x + 6755399441055744.0) as i64) - 6755399441055744) as i32;
-        }
-        if x < 1.0 / 0.0 { 2147483647 } else { 0 }
+    if x - x == 0.0 {
+        whole(within_i32(x))
     } else {
-        if x > -1.0 / 0.0 { -2147483648 } else { 0 }
+        0
     }
 }
 
 pub fn lrint_f32(x: f32) -> i32
     ensures { λ r. ⌜ r ≡ hold (rint x) ⌝ }
 {
-    lrint_f64(std::num::f32_to_f64_with_nan(x))
+    if x - x == 0.0 {
+        whole(within_i32(x as f64))
+    } else {
+        0
+    }
 }
 
 // m / 2^k, rounded to the nearest whole number, a tie to the even one.
