@@ -1,7 +1,6 @@
 pub mod Closest
 pub mod NearestWhole
 pub mod ClosestLaws
-pub mod ShiftRounds
 pub mod Held
 pub mod Tests
 pub mod Snap
@@ -21,5 +20,8 @@ pub mod NearestValueUnique
 pub mod Convert
 pub mod KeepsOrder
 pub mod Narrow
-pub mod NarrowedPattern
-pub mod SignAndMagnitude
+pub mod SumByValue
+pub mod Signs
+pub mod StepPower
+pub mod AnchorPattern
+pub mod NarrowBySum

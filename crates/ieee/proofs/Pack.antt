@@ -7,11 +7,10 @@ use native.Mathlib.Nat.{le-refl, le-trans, le-of-eq, lt-of-lt-of-le, lt-of-le-of
 use native.Mathlib.Omega.{arith}
 use mathlib.Core.Bool.{Bool, cond}
 use lib.Pow.{pow-add, pow-pos, pow-mono, pow-lt}
-use lib.Ieee.{Float, nan, inf, fin, Format, prec, emax, low, hid, ones, top, up, down, size, odd, units, round, toBits, ofBits}
+use lib.Ieee.{Float, nan, inf, fin, Format, prec, emax, low, hid, ones, top, up, down, size, odd, units, round, toBits}
 use lib.Ieee.Digits.{size-lt, size-le, size-reaches}
-use lib.Ieee.Fits.{round-is, round-fits, two, reach, kept-lt, nearest-le, down-pos}
+use lib.Ieee.Fits.{round-is, two, reach, kept-lt, nearest-le, down-pos}
 use lib.Ieee.Exact.{HasValue, units-val}
-use lib.Ieee.Bits.{ofBits-toBits}
 use lib.Ieee.Nearest.{nearest-ge}
 use lib.Ieee.Order.{drop, kept}
 use borrow.Author.Tests.{le-ltb}
@@ -168,7 +167,3 @@ module _ (f : Format) (num den : ℕ) where
         ∙ ap (λ (b : Bool). toBits f (cond b (odd (suc (prec f)) s held dropped (low f)) (inf s))) (le-ltb (held * 2 ^ dropped) (2 ^ (low f + suc (emax f))) past)
         ∙ ap (λ (x : ℕ). cond s (top f) 0 + x) (sym (min-eq-right (past-range (prec f) (emax f) dropped held (two f) (omega (arith, two f, reach f)) held-le held-ge past)))
   ]
-
-  -- so the pattern stands for the rounded value
-  pub packed : (s : Bool) → ofBits f (cond s (top f) 0 + min (dropped * hid f + held) (ones f * hid f)) ≡ round f s num den
-  packed s = ap (ofBits f) (sym (pattern s)) ∙ ofBits-toBits f (round f s num den) (round-fits f s num den)

@@ -17,7 +17,7 @@ use mir.ValLaws.{toZ-pos, toZ-ofZ}
 use borrow.Author.Tests.{lt-ltb, le-ltb}
 use Rattle.ieee.specs.Rounding.{rint, leastFloat, mostFloat, Within}
 use Rattle.ieee.proofs.ClosestLaws.{closest-le, closest-add, closest-sub}
-use Rattle.ieee.proofs.KeepsOrder.{round-number}
+use Rattle.ieee.proofs.Units.{round-number}
 use Rattle.ieee.proofs.Tests.{or-eq, eq-or}
 use Rattle.ieee.proofs.Snap.{whole-pattern}
 

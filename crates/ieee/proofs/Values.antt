@@ -18,6 +18,12 @@ finite-number nan t = t
 finite-number (inf s) t = tt
 finite-number (fin s m e) t = tt
 
+pub number-of-eq : (x : Float) → eq x x ≡ true → T (not (isNan x))
+unfolding eq isNan
+number-of-eq nan h = subst T (sym h) tt
+number-of-eq (inf s) h = tt
+number-of-eq (fin s m e) h = tt
+
 pub finite-of : (y : Float) (s : Bool) (n c : ℕ) → HasValue y s n c → T (finite y)
 finite-of nan s n c v = absurd v
 finite-of (inf t) s n c v = absurd v
@@ -27,6 +33,15 @@ pub sign-of : (x : Float) (s : Bool) (n c : ℕ) → HasValue x s n c → signOf
 sign-of nan s n c v = absurd v
 sign-of (inf t) s n c v = absurd v
 sign-of (fin t m e) s n c v = v .0
+
+-- by another fraction of the same size
+pub rescaled : (x : Float) (s : Bool) (a c b d : ℕ) → 0 < c → b * c ≡ a * d → HasValue x s a c → HasValue x s b d
+rescaled nan s a c b d C e v = v
+rescaled (inf t) s a c b d C e v = v
+rescaled (fin t m k) s a c b d C e v =
+    let p = ap (λ (z : ℕ). z * d) (v .1) in
+    let q = ap (λ (z : ℕ). z * down k) e in
+    (v .0, eq-of-mul-eq-mul-right c C (m * up k * d) (b * down k) (omega arith))
 
 -- ---- as `!=` tells them apart
 level-not : (x y z : Bool) → T (not (x && (y || z))) → T x → T y ⊎ T z → ⊥
