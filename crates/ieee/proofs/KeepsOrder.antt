@@ -1,41 +1,34 @@
 -- Rounding keeps the order of numbers of either sign, over the format: of two fractions, and of two floats at another format. Assumes nothing.
 use mathlib.Core.Path.{_≡_, refl, sym, ap, _∙_, subst}
-use Prim.Native.Nat.{ℕ, zero, suc, _*_, _^_, _<_}
+use Prim.Native.Nat.{ℕ, zero, suc, _*_, _^_, _≤_, _<_}
 use native.Mathlib.Nat.{eq-of-mul-eq-mul-right, zero-mul, zero-lt-suc}
 use native.Mathlib.Omega.{arith}
 use mathlib.Core.Bool.{Bool, true, false, not, cond, true≢false}
 use lib.IntN.{pos}
 use lib.Signed.{_≤ℤ_}
-use lib.Dec.{T, ltb, leb→le}
-use lib.Ieee.{Float, nan, inf, fin, Format, prec, low, up, down, fits, odd, units, round, neg, le, isNan}
-use lib.Ieee.Fits.{down-pos, round-is}
+use lib.Dec.{T, leb→le}
+use lib.Ieee.{Float, nan, inf, fin, Format, up, down, fits, round, neg, le, isNan}
+use lib.Ieee.Fits.{down-pos}
 use lib.Ieee.Order.{round-mono}
-use lib.Ieee.Scale.{grid, overflow, round-same}
+use lib.Ieee.Scale.{round-same}
 use Rattle.ieee.specs.Rounding.{signed}
-use Rattle.ieee.specs.Narrowing.{convert}
+use Rattle.ieee.specs.Narrowing.{convert, withSign}
 use Rattle.ieee.specs.Nearest.{signOf}
 use Rattle.ieee.proofs.Tests.{or-false, not-above}
 use Rattle.ieee.proofs.SignedSizes.{ordered-turned, ordered-whole, whole-ordered, test-ordered, ordered-test}
-use Rattle.ieee.proofs.Pack.{dropped, held}
-use Rattle.ieee.proofs.Units.{round-sign}
+use Rattle.ieee.proofs.Signs.{round-signed}
+use Rattle.ieee.proofs.Units.{round-sign, round-number}
 use Rattle.ieee.proofs.Convert.{round-own}
 
 -- ---- the other sign
-odd-neg : (d q k l : ℕ) → odd d true q k l ≡ neg (odd d false q k l)
-unfolding odd neg
-odd-neg d zero k l = refl
-odd-neg d (suc q) k l = refl
-
-units-neg : (f : Format) (q k : ℕ) → units f true q k ≡ neg (units f false q k)
-unfolding units neg
-units-neg f q k = go (ltb (q * 2 ^ k) (overflow f))
-  where
-    go : (b : Bool) → cond b (odd (suc (prec f)) true q k (low f)) (inf true) ≡ neg (cond b (odd (suc (prec f)) false q k (low f)) (inf false))
-    go true = odd-neg (suc (prec f)) q k (low f)
-    go false = refl
+neg-signed : (x : Float) → signOf x ≡ false → withSign true x ≡ neg x
+unfolding withSign neg
+neg-signed nan e = refl
+neg-signed (inf s) e = ap (λ (t : Bool). inf (not t)) (sym e)
+neg-signed (fin s m k) e = ap (λ (t : Bool). fin (not t) m k) (sym e)
 
 round-neg : (f : Format) (num den : ℕ) → round f true num den ≡ neg (round f false num den)
-round-neg f num den = round-is f true num den ∙ units-neg f (held f num den) (dropped f num den) ∙ ap neg (sym (round-is f false num den))
+round-neg f num den = round-signed f true false num den ∙ neg-signed (round f false num den) (round-sign f false num den)
 
 -- ---- and the order, turned round
 le-neg-neg : (x y : Float) → T (le y x) → T (le (neg x) (neg y))
@@ -75,16 +68,7 @@ le-opposite (fin true m e) (fin false n d) h k s t = not-above (m * up e * down 
 le-opposite (fin false m e) (fin b n d) h k s t = absurd (true≢false (sym s))
 
 -- ---- `round`
-round-number : (f : Format) (s : Bool) (num den : ℕ) → T (not (isNan (round f s num den)))
-unfolding units odd isNan
-round-number f s num den = subst (λ (y : Float). T (not (isNan y))) (sym (round-is f s num den)) (go (ltb (grid f num den) (overflow f)) (held f num den))
-  where
-    go : (b : Bool) (q : ℕ) → T (not (isNan (cond b (odd (suc (prec f)) s q (dropped f num den) (low f)) (inf s))))
-    go true zero = tt
-    go true (suc q) = tt
-    go false q = tt
-
-round-zero : (f : Format) (s : Bool) (num den : ℕ) → 0 < den → num ≡ 0 → round f s num den ≡ fin s 0 (pos 0)
+pub round-zero : (f : Format) (s : Bool) (num den : ℕ) → 0 < den → num ≡ 0 → round f s num den ≡ fin s 0 (pos 0)
 unfolding fits
 round-zero f s num den D z = round-same f s num den 0 1 D (zero-lt-suc 0) (omega arith) ∙ round-own f s 0 (pos 0) tt
 

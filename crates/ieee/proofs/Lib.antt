@@ -1,7 +1,6 @@
 pub mod Closest
 pub mod NearestWhole
 pub mod ClosestLaws
-pub mod ShiftRounds
 pub mod Held
 pub mod Tests
 pub mod SignedSizes
@@ -9,6 +8,8 @@ pub mod FloatOrder
 pub mod ByValue
 pub mod Snap
 pub mod RintBySum
+pub mod HoldFirst
+pub mod FiniteTest
 pub mod Pack
 pub mod Fields
 pub mod Values
@@ -24,5 +25,8 @@ pub mod Convert
 pub mod WholeBySum
 pub mod KeepsOrder
 pub mod Narrow
-pub mod NarrowedPattern
-pub mod SignAndMagnitude
+pub mod SumByValue
+pub mod Signs
+pub mod StepPower
+pub mod AnchorPattern
+pub mod NarrowBySum
