@@ -10,3 +10,6 @@ pub mod SortedByHalves
 pub mod SortOutcome
 pub mod RowKeys
 pub mod FloatPattern
+pub mod LastEntries
+pub mod FallsCounted
+pub mod SortedColumns
