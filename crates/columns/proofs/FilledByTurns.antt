@@ -110,3 +110,8 @@ module _ {A B : Type 0} where
   pub each-all : {whole : List (A × B)} {firstOld firstNew : List A} {secondOld secondNew : List B} {i : ℕ} → length whole ≤ i
       → Laying whole (drop i whole) firstOld firstNew secondOld secondNew i i → (firstNew ≡ laid (map first whole) firstOld) × (secondNew ≡ laid (map second whole) secondOld)
   each-all {whole} h p = laying-all p (drop-of-length-le whole h) (omega arith)
+
+-- ---- a list as long as its room takes it all
+pub laid-whole : {A : Type 0} (new old : List A) → length old ≤ length new → laid new old ≡ new
+unfolding laid
+laid-whole new old h = ap (_++_ new) (drop-of-length-le old h) ∙ append-nil new

@@ -1,3 +1,4 @@
 pub mod OneOutcome
 pub mod Rooms
 pub mod FilledByTurns
+pub mod LastsLaid

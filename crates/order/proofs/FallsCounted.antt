@@ -13,6 +13,14 @@ use lib.Seq.{drop-cons}
 use Rattle.order.specs.Order.{mayPrecede, neverFalls}
 use Rattle.order.proofs.Compare.{below?}
 
+-- ---- one fall, as 0 or 1
+pub fall-few : (a b : ℕ) {fall : ℕ} → fall ≡ cond (ltb a b) 1 0 → fall ≤ 1
+fall-few a b e = ⊎-elim (λ t. omega (arith, rw (lt-ltb a b t) at e)) (λ t. omega (arith, rw (le-ltb a b t) at e)) (below? a b)
+
+no-fall : (a b : ℕ) {fall : ℕ} → fall ≡ cond (ltb a b) 1 0 → fall ≡ 0 → b ≤ a
+no-fall a b e z = ⊎-elim (λ t. absurd (omega (arith, rw (lt-ltb a b t) at e))) (λ t. t) (below? a b)
+
+-- ---- all of them
 module _ {A : Type 0} (key : A → ℕ) where
   -- after i neighbours, of which so many fall to the next
   pub record Falls (xs : List A) (i falls : ℕ) : Type 0 where
@@ -21,12 +29,6 @@ module _ {A : Type 0} (key : A → ℕ) where
 
   pub falls-none : {xs : List A} → Falls xs 0 0
   falls-none = record { few = omega arith; order = λ e. refl }
-
-  pub fall-few : (a b : ℕ) {fall : ℕ} → fall ≡ cond (ltb a b) 1 0 → fall ≤ 1
-  fall-few a b e = ⊎-elim (λ t. omega (arith, rw (lt-ltb a b t) at e)) (λ t. omega (arith, rw (le-ltb a b t) at e)) (below? a b)
-
-  no-fall : (a b : ℕ) {fall : ℕ} → fall ≡ cond (ltb a b) 1 0 → fall ≡ 0 → b ≤ a
-  no-fall a b e z = ⊎-elim (λ t. absurd (omega (arith, rw (lt-ltb a b t) at e))) (λ t. t) (below? a b)
 
   module _ (none : A) (xs : List A) (i : ℕ) where
     pair : i + 1 < length xs → drop i xs ≡ getD xs i none ∷ getD xs (i + 1) none ∷ drop (suc (suc i)) xs

@@ -10,16 +10,32 @@ use borrow.Author.Tests.{eq-eqb, ne-eqb}
 use lib.Dec.{eqb}
 use lib.ListN.{length, getD, drop, length-map, length-drop}
 use Rattle.order.specs.Order.{lasts}
+use Rattle.order.specs.Entries.{entries, first}
 use Rattle.order.proofs.Compare.{same?}
 use Rattle.order.proofs.OrderedList.{through}
-use Rattle.order.proofs.TidiedList.{lasts-nil, lasts-one, lasts-same, lasts-other, lasts-skip, lasts-keep}
+use Rattle.order.proofs.Columns.{first-entries}
+use Rattle.order.proofs.TidiedList.{lasts-nil, lasts-one, lasts-same, lasts-other, lasts-skip, lasts-keep, length-lasts}
 
+-- ---- one repeat, as 0 or 1
+pub repeat-few : (a b : ℕ) {same : ℕ} → same ≡ cond (eqb a b) 1 0 → same ≤ 1
+repeat-few a b e = ⊎-elim (λ t. omega (arith, rw (eq-eqb a b t) at e)) (λ t. omega (arith, rw (ne-eqb a b t) at e)) (same? a b)
+
+-- ---- what is kept
 module _ {A : Type 0} (key : A → ℕ) where
   pub lasts-some : (l : List A) → 0 < length l → 0 < length (lasts key l)
   lasts-some [] h = absurd (omega arith)
   lasts-some (x ∷ []) h = rw (lasts-one key x) (omega arith)
   lasts-some (x ∷ y ∷ l) h =
       ⊎-elim (λ e. rw (lasts-same key x y l e) (lasts-some (y ∷ l) (omega arith))) (λ n. rw (lasts-other key x y l n) (omega arith))
+      (same? (key x) (key y))
+
+  -- one that keeps as many as it has is kept whole
+  pub lasts-whole : (l : List A) → length (lasts key l) ≡ length l → lasts key l ≡ l
+  lasts-whole [] h = lasts-nil key
+  lasts-whole (x ∷ []) h = lasts-one key x
+  lasts-whole (x ∷ y ∷ l) h =
+      ⊎-elim (λ e. absurd (omega (arith, length-lasts key (y ∷ l), rw (lasts-same key x y l e) at h)))
+      (λ n. lasts-other key x y l n ∙ ap (_∷_ x) (lasts-whole (y ∷ l) (omega (arith, rw (lasts-other key x y l n) at h))))
       (same? (key x) (key y))
 
   -- ---- after i neighbours, of which so many repeat the next key
@@ -29,10 +45,6 @@ module _ {A : Type 0} (key : A → ℕ) where
 
   pub repeats-none : {xs : List A} → Repeats xs 0 0
   repeats-none = record { few = omega arith; kept = refl }
-
-  pub repeat-few : (a b : ℕ) {same : ℕ} → same ≡ cond (eqb a b) 1 0 → same ≤ 1
-  repeat-few a b {same} e =
-      ⊎-elim (λ t. omega (arith, rw (eq-eqb a b t) at e)) (λ t. omega (arith, rw (ne-eqb a b t) at e)) (same? a b)
 
   pub repeats-turn : (none : A) {xs : List A} {i repeats same : ℕ} → i + 1 < length xs → same ≡ cond (eqb (key (getD xs i none)) (key (getD xs (i + 1) none))) 1 0
       → Repeats xs i repeats → Repeats xs (i + 1) (repeats + same)
@@ -70,3 +82,9 @@ module _ {A B : Type 0} (g : A → B) (key : B → ℕ) where
 
   pub length-lasts-map : (l : List A) → length (lasts key (map g l)) ≡ length (lasts (through g key) l)
   length-lasts-map l = ap length (lasts-map l) ∙ length-map (lasts (through g key) l) g
+
+-- ---- of two columns, by the first
+pub length-lasts-entries : {A B : Type 0} (key : A → ℕ) (firsts : List A) (seconds : List B) → length firsts ≡ length seconds
+    → length (lasts (λ (e : A × B). key (first e)) (entries firsts seconds)) ≡ length (lasts key firsts)
+length-lasts-entries {A} key firsts seconds same =
+    sym (length-lasts-map first key (entries firsts seconds)) ∙ ap (λ (l : List A). length (lasts key l)) (first-entries firsts seconds same)

@@ -1,0 +1,3 @@
+pub mod TakenList
+pub mod BothWays
+pub mod Outcomes
