@@ -13,3 +13,4 @@ pub mod FloatPattern
 pub mod LastEntries
 pub mod FallsCounted
 pub mod SortedColumns
+pub mod EachEntry
