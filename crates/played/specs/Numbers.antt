@@ -9,6 +9,10 @@ unfoldable pub decimal : ℕ → ℕ → Float
 unfolding round
 decimal n places = round binary64 false n (10 ^ places)
 
+-- n, as a float
+abbrev pub whole : ℕ → Float
+whole n = decimal n 0
+
 -- -n
 abbrev pub minus : ℕ → ℤ
 minus n = negℤ (pos n)
