@@ -18,3 +18,7 @@ pub mod FloatKeys
 pub mod LaidOverFront
 pub mod GatheredByPlaces
 pub mod OneOrder
+pub mod LastEntries
+pub mod FallsCounted
+pub mod SortedColumns
+pub mod EachEntry

@@ -1,0 +1,21 @@
+-- The tidied list is no longer than the given one, whatever is given. Assumes nothing.
+use Prim.Native.Nat.{ℕ, _≤_, min}
+use mathlib.Core.List.{List, [], _∷_}
+use native.Mathlib.Omega.{arith}
+use lib.ListN.{length, length-map}
+use lib.Ieee.{Float}
+use Rattle.order.specs.Order.{tidied}
+use Rattle.order.specs.Entries.{entries}
+use Rattle.order.proofs.TidiedList.{tidied-length}
+use Rattle.tidy_rows.specs.RowTidying.{rowKeyOf, onItsRow, tidyRows}
+
+entries-short : (beats values : List Float) → length (entries beats values) ≤ min (length beats) (length values)
+unfolding entries
+entries-short [] values = omega arith
+entries-short (beat ∷ beats) [] = omega arith
+entries-short (beat ∷ beats) (value ∷ values) = omega (arith, entries-short beats values)
+
+pub tidy-no-longer : (beats values : List Float) → length (tidyRows beats values) ≤ min (length beats) (length values)
+unfolding tidyRows
+tidy-no-longer beats values =
+    omega (arith, length-map (tidied rowKeyOf (entries beats values)) onItsRow, tidied-length rowKeyOf (entries beats values), entries-short beats values)

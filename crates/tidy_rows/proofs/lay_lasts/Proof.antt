@@ -1,0 +1,199 @@
+-- `tidy_rows::lay_lasts` lays the last entry of each row. Assumes nothing.
+use Prim.Native.Nat.{ℕ, _+_, _-_, _≤_, _<_}
+use mathlib.Core.Path.{_≡_, ap, sym, _∙_}
+use native.Mathlib.Omega.{arith}
+use lib.Ieee.{Float, nan}
+use lib.ListN.{length, getD, length-set}
+use Rattle.order.specs.Entries.{entries}
+use Rattle.order.proofs.Columns.{length-entries}
+use Rattle.order.proofs.LastEntries.{repeat-few}
+use Rattle.columns.proofs.LastsLaid.{LastsLaying, lasts-none, lasts-room, lasts-turn, lasts-all}
+use Rattle.tidy_rows.specs.RowTidying.{rowKeyAt, rowKeyOf, onItsRow}
+use Rattle.tidy_rows.proofs.BothWays.{entry-at}
+use borrow.Author.Needs.{needs}
+use Rattle.tidy_rows.proofs.lay_lasts.Statement.{statement}
+use Rattle.tidy_rows.proofs.lay_lasts.Tie as tie
+
+abbrev Inv-loop : tie.InvT-loop
+Inv-loop beats values out-beats₀ out-values₀ count₀ i₀ out-beats out-values count i = (i < length beats) × LastsLaying rowKeyOf onItsRow (entries beats values) out-beats₀ out-beats out-values₀ out-values i count
+
+abbrev μ-loop : tie.MeasureT-loop
+μ-loop beats values out-beats₀ out-values₀ count₀ i₀ out-beats out-values count i = length beats - i
+
+room : (c : tie.At-loop Inv-loop μ-loop) → (c .loop .count < length (c .loop .out-beats)) × (c .loop .count < length (c .loop .out-values))
+room c =
+    let start = c .before .before .before .before .before in
+    let same = start .pre .0 .1 in
+    lasts-room rowKeyOf onItsRow (c .loop .inv .1) (start .pre .1) (omega (arith, length-entries (start .args .beats .now) (start .args .values .now) same))
+
+single : (c : tie.After-repeats Inv-loop μ-loop) → c .repeats .result ≤ 1
+single c =
+    let at = c .before .before .before .before .before .before .before in
+    let beats = at .before .before .before .before .before .args .beats .now in
+    let i = at .loop .i in
+    repeat-few (rowKeyAt (getD beats i nan)) (rowKeyAt (getD beats (i + 1) nan)) (c .repeats .ensures)
+
+loop-holds : tie.Need-loop-holds Inv-loop μ-loop
+loop-holds c = (c .before .before .before .before .pre .0 .0, lasts-none rowKeyOf onItsRow)
+
+add-loop : tie.Need-add-loop Inv-loop μ-loop
+add-loop c = search needs
+
+mul-on-row : tie.Need-mul-on-row Inv-loop μ-loop
+mul-on-row c = search needs
+
+shared-slice-read-on-row : tie.Need-shared-slice-read-on-row Inv-loop μ-loop
+shared-slice-read-on-row c = search needs
+
+on-row-requires : tie.Need-on-row-requires Inv-loop μ-loop
+on-row-requires c κs = search needs
+
+mul-out-beats : tie.Need-mul-out-beats Inv-loop μ-loop
+mul-out-beats c = search needs
+
+slice-write-out-beats : tie.Need-slice-write-out-beats Inv-loop μ-loop
+slice-write-out-beats c = room (c .before .before .before) .0
+
+mul-out-values : tie.Need-mul-out-values Inv-loop μ-loop
+mul-out-values c = search needs
+
+shared-slice-read-out-values : tie.Need-shared-slice-read-out-values Inv-loop μ-loop
+shared-slice-read-out-values c = search needs
+
+mul-out-values-2 : tie.Need-mul-out-values-2 Inv-loop μ-loop
+mul-out-values-2 c = search needs
+
+slice-write-out-values : tie.Need-slice-write-out-values Inv-loop μ-loop
+slice-write-out-values c = room (c .before .before .before .before) .1
+
+mul-repeats : tie.Need-mul-repeats Inv-loop μ-loop
+mul-repeats c = search needs
+
+shared-slice-read-repeats : tie.Need-shared-slice-read-repeats Inv-loop μ-loop
+shared-slice-read-repeats c = search needs
+
+add-repeats : tie.Need-add-repeats Inv-loop μ-loop
+add-repeats c = search needs
+
+mul-repeats-2 : tie.Need-mul-repeats-2 Inv-loop μ-loop
+mul-repeats-2 c = search needs
+
+shared-slice-read-repeats-2 : tie.Need-shared-slice-read-repeats-2 Inv-loop μ-loop
+shared-slice-read-repeats-2 c = search needs
+
+repeats-requires : tie.Need-repeats-requires Inv-loop μ-loop
+repeats-requires c κs = search needs
+
+sub-count : tie.Need-sub-count Inv-loop μ-loop
+sub-count c = omega (arith, single c)
+
+add-count : tie.Need-add-count Inv-loop μ-loop
+add-count c = record { fits = omega (arith, c .before .before .before .before .before .before .before .loop .inv .1 .few) }
+
+add-i : tie.Need-add-i Inv-loop μ-loop
+add-i c = search needs
+
+loop-less : tie.Need-loop-less Inv-loop μ-loop
+loop-less c = search needs
+
+loop-again : tie.Need-loop-again Inv-loop μ-loop
+loop-again c =
+    let at = c .before .before .before .before .before .before .before in
+    let start = at .before .before .before .before .before in
+    let beats = start .args .beats .now in
+    let values = start .args .values .now in
+    let same = start .pre .0 .1 in
+    let i = at .loop .i in (
+      omega arith,
+      lasts-turn rowKeyOf onItsRow (at .loop .inv .1) (start .pre .1) (nan, nan) (c .before .before .before .before .on-row .result) (getD values i nan)
+          (ap (λ (beat : Float). (beat, getD values i nan)) (c .before .before .before .before .on-row .ensures) ∙ ap onItsRow (sym (entry-at beats values same i)))
+          (omega (arith, length-entries beats values same)) (c .repeats .result) (rw (entry-at beats values same i, entry-at beats values same (i + 1)) (c .repeats .ensures)),
+    )
+
+mul-on-row-2 : tie.Need-mul-on-row-2 Inv-loop μ-loop
+mul-on-row-2 c = search needs
+
+shared-slice-read-on-row-2 : tie.Need-shared-slice-read-on-row-2 Inv-loop μ-loop
+shared-slice-read-on-row-2 c = search needs
+
+on-row-requires-2 : tie.Need-on-row-requires-2 Inv-loop μ-loop
+on-row-requires-2 c κs = search needs
+
+mul-out-beats-2 : tie.Need-mul-out-beats-2 Inv-loop μ-loop
+mul-out-beats-2 c = search needs
+
+slice-write-out-beats-2 : tie.Need-slice-write-out-beats-2 Inv-loop μ-loop
+slice-write-out-beats-2 c = room (c .before .before .before) .0
+
+mul-out-values-3 : tie.Need-mul-out-values-3 Inv-loop μ-loop
+mul-out-values-3 c = search needs
+
+shared-slice-read-out-values-2 : tie.Need-shared-slice-read-out-values-2 Inv-loop μ-loop
+shared-slice-read-out-values-2 c = search needs
+
+mul-out-values-4 : tie.Need-mul-out-values-4 Inv-loop μ-loop
+mul-out-values-4 c = search needs
+
+slice-write-out-values-2 : tie.Need-slice-write-out-values-2 Inv-loop μ-loop
+slice-write-out-values-2 c = room (c .before .before .before .before) .1
+
+same-length : tie.Need-same-length Inv-loop μ-loop
+same-length c = simp length-set (c .before .before .before .before .loop .inv .1 .laying .firsts .size)
+
+same-length-2 : tie.Need-same-length-2 Inv-loop μ-loop
+same-length-2 c = simp length-set (c .before .before .before .before .loop .inv .1 .laying .seconds .size)
+
+returns : tie.Need-returns Inv-loop μ-loop
+returns c =
+    let at = c .before .before .before .before in
+    let start = at .before .before .before .before .before in
+    let beats = start .args .beats .now in
+    let values = start .args .values .now in
+    let same = start .pre .0 .1 in
+    let i = at .loop .i in
+    let laid =
+    lasts-all rowKeyOf onItsRow (at .loop .inv .1) (start .pre .1) (nan, nan) (c .before .on-row2 .result) (getD values i nan)
+    (ap (λ (beat : Float). (beat, getD values i nan)) (c .before .on-row2 .ensures) ∙ ap onItsRow (sym (entry-at beats values same i)))
+    (omega (arith, length-entries beats values same)) (omega (arith, length-entries beats values same)) in
+    record { beatsAre = laid .0; valuesAre = laid .1 }
+
+pub lay-lasts-spec : {M : Type 1} → statement M
+lay-lasts-spec =
+    tie.close
+    (tie.spec
+    Inv-loop
+    μ-loop
+    loop-holds
+    add-loop
+    mul-on-row
+    shared-slice-read-on-row
+    on-row-requires
+    mul-out-beats
+    slice-write-out-beats
+    mul-out-values
+    shared-slice-read-out-values
+    mul-out-values-2
+    slice-write-out-values
+    mul-repeats
+    shared-slice-read-repeats
+    add-repeats
+    mul-repeats-2
+    shared-slice-read-repeats-2
+    repeats-requires
+    sub-count
+    add-count
+    add-i
+    loop-less
+    loop-again
+    mul-on-row-2
+    shared-slice-read-on-row-2
+    on-row-requires-2
+    mul-out-beats-2
+    slice-write-out-beats-2
+    mul-out-values-3
+    shared-slice-read-out-values-2
+    mul-out-values-4
+    slice-write-out-values-2
+    same-length
+    same-length-2
+    returns)

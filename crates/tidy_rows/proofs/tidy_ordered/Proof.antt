@@ -1,0 +1,102 @@
+-- `tidy_rows::tidy_ordered` tidies a list whose rows never fall. Assumes nothing.
+use Prim.Native.Nat.{ℕ, _+_, _-_, _≤_, _<_, min}
+use mathlib.Core.Path.{_≡_, _∙_}
+use mathlib.Core.List.{map}
+use native.Mathlib.Omega.{arith}
+use lib.ListN.{length, length-map}
+use Rattle.order.specs.Order.{lasts}
+use Rattle.order.specs.Entries.{entries}
+use Rattle.tidy_rows.specs.RowTidying.{rowKeyAt, rowKeyOf, onItsRow}
+use Rattle.limits.proofs.ListTaken.{list-taken}
+use Rattle.tidy_rows.proofs.BothWays.{each-length, lasts-length, ordered-way, plain-way}
+use Rattle.tidy_rows.proofs.Outcomes.{no-room, all-laid}
+use borrow.Author.Needs.{needs}
+use Rattle.tidy_rows.proofs.tidy_ordered.Statement.{statement}
+use Rattle.tidy_rows.proofs.tidy_ordered.Tie as tie
+
+even : (c : tie.Start) → length (c .args .beats .now) ≡ length (c .args .values .now)
+even c = list-taken (c .pre .0) .even
+
+kept : (c : tie.Start) → length (c .args .beats .now) - c .args .repeated ≡ length (lasts rowKeyOf (entries (c .args .beats .now) (c .args .values .now)))
+kept c = omega (arith, c .pre .1 .1, lasts-length (c .args .beats .now) (c .args .values .now) (even c))
+
+sub-count : tie.Need-sub-count
+sub-count c = search needs
+
+room-of-requires : tie.Need-room-of-requires
+room-of-requires c κs = search needs
+
+refused-requires : tie.Need-refused-requires
+refused-requires c κs = search needs
+
+returns : tie.Need-returns
+returns c =
+    let start = c .before .before .before .before .before .before .before in
+    let given = start .args in
+    let list = lasts rowKeyOf (entries (given .beats .now) (given .values .now)) in
+    rw (c .refused .ensures)
+    (no-room (given .beats .now) (given .values .now) (given .out-beats .now) (given .out-values .now) (start .pre .0) (map onItsRow list) (ordered-way (given .beats .now) (given .values .now) (even start) (start .pre .1 .0))
+    (omega (arith, kept start, length-map list onItsRow, c .before .before .room-of .ensures, c .before .if1 .taken)))
+
+lay-each-requires : tie.Need-lay-each-requires
+lay-each-requires c κs =
+    let start = c .before .before .before .before .before .before .before .before .before in
+    (even start, omega (arith, c .before .before .before .before .room-of .ensures, c .before .before .before .if1 .left, c .before .before .if2 .taken))
+
+same-length : tie.Need-same-length
+same-length c = search needs
+
+same-length-2 : tie.Need-same-length-2
+same-length-2 c = search needs
+
+returns-2 : tie.Need-returns-2
+returns-2 c =
+    let start = c .before .before .before .before .before .before .before .before .before .before .before .before .before .before in
+    let given = start .args in
+    let same = even start in
+    let list = map onItsRow (entries (given .beats .now) (given .values .now)) in
+    let long = each-length (given .beats .now) (given .values .now) same in
+    let none = c .before .before .before .before .before .before .before .if2 .taken in
+    all-laid (given .beats .now) (given .values .now) (given .out-beats .now) (given .out-values .now) (start .pre .0) list
+    (plain-way (given .beats .now) (given .values .now) same (start .pre .1 .0) (omega (arith, start .pre .1 .1, none)))
+    (length (given .beats .now) - given .repeated) (omega (arith, long, none)) (omega (arith, long, none, c .before .before .before .before .before .before .before .before .before .room-of .ensures, c .before .before .before .before .before .before .before .before .if1 .left))
+    (c .before .before .before .before .lay-each .ensures)
+
+lay-lasts-requires : tie.Need-lay-lasts-requires
+lay-lasts-requires c κs =
+    let start = c .before .before .before .before .before .before .before .before .before in
+    ((omega (arith, start .pre .1 .1, c .before .before .if2 .left), even start), omega (arith, kept start, c .before .before .before .before .room-of .ensures, c .before .before .before .if1 .left))
+
+same-length-3 : tie.Need-same-length-3
+same-length-3 c = search needs
+
+same-length-4 : tie.Need-same-length-4
+same-length-4 c = search needs
+
+returns-3 : tie.Need-returns-3
+returns-3 c =
+    let start = c .before .before .before .before .before .before .before .before .before .before .before .before .before .before in
+    let given = start .args in
+    let list = lasts rowKeyOf (entries (given .beats .now) (given .values .now)) in
+    let long = length-map list onItsRow in
+    all-laid (given .beats .now) (given .values .now) (given .out-beats .now) (given .out-values .now) (start .pre .0) (map onItsRow list)
+    (ordered-way (given .beats .now) (given .values .now) (even start) (start .pre .1 .0))
+    (length (given .beats .now) - given .repeated) (omega (arith, long, kept start)) (omega (arith, long, kept start, c .before .before .before .before .before .before .before .before .before .room-of .ensures, c .before .before .before .before .before .before .before .before .if1 .left))
+    (c .before .before .before .before .lay-lasts .ensures)
+
+pub tidy-ordered-spec : {M : Type 1} → statement M
+tidy-ordered-spec =
+    tie.close
+    (tie.spec
+    sub-count
+    room-of-requires
+    refused-requires
+    returns
+    lay-each-requires
+    same-length
+    same-length-2
+    returns-2
+    lay-lasts-requires
+    same-length-3
+    same-length-4
+    returns-3)

@@ -1,0 +1,2 @@
+pub mod RowTidying
+pub mod Ways
