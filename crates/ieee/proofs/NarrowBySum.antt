@@ -36,7 +36,7 @@ units-of m k = mul-assoc m (wide k) (2 ^ 149) ∙ ap (λ (x : ℕ). m * x) (widt
 abbrev bias : ℕ
 bias = 2 ^ 52
 
-module _ (a c : Float) (n k : ℕ) (v : HasValue a false n (2 ^ 1074)) (w : HasValue c false (bias * wide k) (2 ^ 1074)) (drops : dropped binary32 n (2 ^ 1074) ≡ k) (room : n < 2 ^ 51 * wide k) (few : k ≤ 253) where
+module _ (a c : Float) (n k : ℕ) (v : HasValue a false n (2 ^ 1074)) (w : HasValue c false (bias * wide k) (2 ^ 1074)) (drops : dropped binary32 n (2 ^ 1074) ≡ k) (room : n < 2 ^ 52 * wide k) (few : k ≤ 253) where
   -- a in steps, rounded: what `round` keeps at binary32
   abbrev steps : ℕ
   steps = closest n (wide k)

@@ -1,16 +1,17 @@
 -- What `round` drops and keeps of a fraction, by the binade that it lies in, over the format. From 2 ^ (prec - 1) up and below 2 ^ prec there is no digit
 -- after the point: the fraction rounds to the nearest whole number, and the pattern counts those numbers one by one. Assumes nothing.
-pub use Rattle.ieee.proofs.Pack.{size-gt}
 use mathlib.Core.Path.{_≡_, ap, ap₂, _∙_}
 use Prim.Native.Nat.{ℕ, suc, _+_, _-_, _*_, _^_, _≤_, _<_, min}
 use native.Mathlib.Nat.{le-trans, le-of-eq, lt-of-lt-of-le, add-mul, mul-assoc, mul-comm, mul-right-comm, mul-le-mul-right, mul-lt-mul-of-pos-right, mul-pos, min-eq-left, two-pow-succ}
 use native.Mathlib.Omega.{arith}
 use mathlib.Core.Bool.{Bool, cond}
 use lib.Pow.{pow-add, pow-pos}
-use lib.Ieee.{Format, prec, low, hid, ones, top, units, round, toBits}
-use lib.Ieee.Fits.{round-is, two, reach}
+use lib.Ieee.{Format, prec, low, hid, ones, top, round, toBits}
+use lib.Ieee.Fits.{two, reach}
 use lib.Ieee.Nearest.{closest, closest-same}
 use Rattle.ieee.proofs.Pack.{size-quot, dropped, held, held-le, pattern}
+-- a name that other crates' proofs take from here
+pub use Rattle.ieee.proofs.Pack.{size-gt}
 
 module _ (f : Format) (num den : ℕ) (D : 0 < den) where
   -- from 2 ^ (prec - 1) steps of 2 ^ j units up, and below 2 ^ prec
@@ -51,6 +52,3 @@ module _ (f : Format) (num den : ℕ) (D : 0 < den) where
         pattern f num den s
         ∙ ap₂ (λ (x y : ℕ). cond s (top f) 0 + min (x * hid f + y) (ones f * hid f)) whole-drops k
         ∙ ap (λ (x : ℕ). cond s (top f) 0 + x) (min-eq-left few)
-
-pub snap : (f : Format) (s : Bool) (num den : ℕ) → 0 < den → 2 ^ (prec f - 1) * den ≤ num → num < 2 ^ prec f * den → round f s num den ≡ units f s (closest num den) (low f)
-snap f s num den D lo hi = round-is f s num den ∙ ap₂ (units f s) (whole-keeps f num den D lo hi) (whole-drops f num den D lo hi)

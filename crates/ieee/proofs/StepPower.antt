@@ -41,7 +41,7 @@ size-cut n t = elim (lt-or-ge t (size n)) [
 pub record Around (a : Float) (n : ℕ) : Type 0 where
   pub is : HasValue a false n (2 ^ 1074)
   pub drops : dropped binary32 n (2 ^ 1074) ≡ stepPower a
-  pub room : n < 2 ^ 51 * 2 ^ (925 + stepPower a)
+  pub room : n < 2 ^ 52 * 2 ^ (925 + stepPower a)
   pub field : toBits binary64 a / 2 ^ 52 ≤ 1150
   pub small : ¬ Overflows binary32 n (2 ^ 1074)
 
@@ -70,8 +70,8 @@ module _ (a : Float) (n : ℕ) (v : HasValue a false n (2 ^ 1074)) where
       let f = field-is in
       ap (λ (x : ℕ). size x - 24) c ∙ ap (λ (x : ℕ). x - 24) (size-cut n 925) ∙ omega arith
 
-  room-is : n < 2 ^ 51 * 2 ^ (925 + stepPower a)
-  room-is = let f = field-is in lt-of-lt-of-le (size-lt n) (le-trans (pow-mono {j = 51 + (925 + stepPower a)} (omega arith)) (le-of-eq (pow-add 2 51 (925 + stepPower a))))
+  room-is : n < 2 ^ 52 * 2 ^ (925 + stepPower a)
+  room-is = let f = field-is in lt-of-lt-of-le (size-lt n) (le-trans (pow-mono {j = 52 + (925 + stepPower a)} (omega arith)) (le-of-eq (pow-add 2 52 (925 + stepPower a))))
 
 -- ---- below the boundary
 boundary-value : HasValue boundary false ((2 ^ 25 - 1) * 2 ^ 103 * 2 ^ 1074) (2 ^ 1074)
