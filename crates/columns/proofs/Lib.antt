@@ -1,4 +1,5 @@
 pub mod OneOutcome
 pub mod Rooms
-pub mod FilledByTurns
+pub mod LaidEach
+pub mod EachOverFront
 pub mod LastsLaid

@@ -5,7 +5,7 @@ ghost use lib.Ieee.{Float, binary32, binary64};
 ghost use Rattle.ieee.specs.Rounding.{rint, hold};
 ghost use Rattle.ieee.specs.Narrowing.{narrow};
 ghost use Rattle.rows.specs.Rows.{row, beatOf, quantized, quantized32};
-ghost use Rattle.exports.specs.Each.{laidEach};
+ghost use Rattle.columns.specs.Each.{laidEach};
 
 #[no_mangle]
 pub extern "C" fn marrighentu_lrint_f64(x: f64) -> i32

@@ -1,9 +1,9 @@
 -- Two columns of one length, firsts one list of entries: parts, stores, reads and the columns back. Assumes nothing.
 use mathlib.Core.Path.{_≡_, refl, ap, sym, _∙_}
-use mathlib.Core.List.{List, [], _∷_, _++_, map}
-use Prim.Native.Nat.{ℕ, zero, suc, _≤_, _<_}
+use mathlib.Core.List.{List, [], _∷_, map}
+use Prim.Native.Nat.{ℕ, zero, suc}
 use native.Mathlib.Omega.{arith}
-use lib.ListN.{length, getD, take, drop, set}
+use lib.ListN.{length, getD, set}
 use Rattle.order.specs.Entries.{entries, first, second}
 
 module _ {A B : Type 0} where
@@ -41,6 +41,11 @@ module _ {A B : Type 0} where
   entries-set (x ∷ firsts) [] (suc i) a b = refl
   entries-set (x ∷ firsts) (y ∷ seconds) zero a b = refl
   entries-set (x ∷ firsts) (y ∷ seconds) (suc i) a b = ap (_∷_ (x, y)) (entries-set firsts seconds i a b)
+
+  pub entries-columns : (l : List (A × B)) → entries (map first l) (map second l) ≡ l
+  unfolding entries
+  entries-columns [] = refl
+  entries-columns (e ∷ l) = ap (_∷_ e) (entries-columns l)
 
   -- a list that two columns make gives the columns back
   pub columns : (firsts : List A) (seconds : List B) (l : List (A × B)) → length firsts ≡ length seconds → entries firsts seconds ≡ l → (firsts ≡ map first l) × (seconds ≡ map second l)

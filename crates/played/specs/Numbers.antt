@@ -9,7 +9,7 @@ unfoldable pub decimal : ℕ → ℕ → Float
 unfolding round
 decimal n places = round binary64 false n (10 ^ places)
 
--- n, as a float
+-- the float n
 abbrev pub whole : ℕ → Float
 whole n = decimal n 0
 

@@ -1,4 +1,3 @@
-pub mod TakenList
 pub mod TakenBeats
 pub mod BothWays
 pub mod Outcomes

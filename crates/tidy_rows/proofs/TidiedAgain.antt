@@ -8,7 +8,7 @@ use Rattle.order.specs.Order.{tidied}
 use Rattle.order.specs.Entries.{entries, first, second}
 use Rattle.order.proofs.OrderedList.{Each}
 use Rattle.order.proofs.TidiedList.{tidied-still}
-use Rattle.order.proofs.SortedColumns.{entries-columns}
+use Rattle.order.proofs.Columns.{entries-columns}
 use Rattle.tidy_rows.specs.RowTidying.{onRow, rowKeyOf, onItsRow, tidyRows, rowsNumber}
 use Rattle.tidy_rows.proofs.RowsRise.{Allowed, same-row, kept-allowed, tidy-rows-rise}
 

@@ -4,12 +4,12 @@ use native.Mathlib.Omega.{arith}
 use borrow.Author.Needs.{needs}
 use lib.Ieee.{nan, binary32}
 use Rattle.rows.specs.Rows.{row}
-use Rattle.exports.proofs.Laying.{Laying, begun, turned, ended}
+use Rattle.columns.proofs.LaidEach.{LayingEach, begun, turned, ended}
 use Rattle.exports.proofs.marrighentu_each_beat_to_note_row_f32.Statement.{statement}
 use Rattle.exports.proofs.marrighentu_each_beat_to_note_row_f32.Tie as tie
 
 abbrev Inv-loop : tie.InvT-loop
-Inv-loop beats rows₀ n i₀ rows i = Laying (row binary32) beats rows₀ n rows i
+Inv-loop beats rows₀ n i₀ rows i = LayingEach (row binary32) beats rows₀ n rows i
 
 abbrev μ-loop : tie.MeasureT-loop
 μ-loop beats rows₀ n i₀ rows i = n - i

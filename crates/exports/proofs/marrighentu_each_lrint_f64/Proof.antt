@@ -4,12 +4,12 @@ use native.Mathlib.Omega.{arith}
 use borrow.Author.Needs.{needs}
 use lib.Ieee.{Float, nan}
 use Rattle.ieee.specs.Rounding.{rint, hold}
-use Rattle.exports.proofs.Laying.{Laying, begun, turned, ended}
+use Rattle.columns.proofs.LaidEach.{LayingEach, begun, turned, ended}
 use Rattle.exports.proofs.marrighentu_each_lrint_f64.Statement.{statement}
 use Rattle.exports.proofs.marrighentu_each_lrint_f64.Tie as tie
 
 abbrev Inv-loop : tie.InvT-loop
-Inv-loop from to₀ n i₀ to i = Laying (λ (x : Float). hold (rint x)) from to₀ n to i
+Inv-loop from to₀ n i₀ to i = LayingEach (λ (x : Float). hold (rint x)) from to₀ n to i
 
 abbrev μ-loop : tie.MeasureT-loop
 μ-loop from to₀ n i₀ to i = n - i

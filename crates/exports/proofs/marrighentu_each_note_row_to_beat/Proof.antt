@@ -8,12 +8,12 @@ use mir.Syntax.{w32}
 use mir.ValLaws.{toZ-ofZ}
 use lib.Ieee.{binary64}
 use Rattle.rows.specs.Rows.{beatOf}
-use Rattle.exports.proofs.Laying.{Laying, begun, turned, ended}
+use Rattle.columns.proofs.LaidEach.{LayingEach, begun, turned, ended}
 use Rattle.exports.proofs.marrighentu_each_note_row_to_beat.Statement.{statement}
 use Rattle.exports.proofs.marrighentu_each_note_row_to_beat.Tie as tie
 
 abbrev Inv-loop : tie.InvT-loop
-Inv-loop rows beats₀ n i₀ beats i = Laying (beatOf binary64) rows beats₀ n beats i
+Inv-loop rows beats₀ n i₀ beats i = LayingEach (beatOf binary64) rows beats₀ n beats i
 
 abbrev μ-loop : tie.MeasureT-loop
 μ-loop rows beats₀ n i₀ beats i = n - i

@@ -1,0 +1,31 @@
+-- The changes of tempo among entries whose beats never fall, by the tests that the code makes. Definitions only.
+use Prim.Native.Nat.{ℕ, _+_, _<_}
+use mathlib.Core.Bool.{Bool, true, false, not}
+use mathlib.Core.List.{List, [], _∷_}
+use lib.Dec.{ltb}
+use lib.ListN.{length, getD}
+use lib.Ieee.{Float, nan, eq, ne, lt}
+use Rattle.picks.specs.Pick.{pick}
+
+-- whether an entry is the last of its beat, before the entries of a list
+unfoldable pub isLast : Float × Float → List (Float × Float) → Bool
+isLast e [] = true
+isLast e (next ∷ list) = not (eq (e .0) (next .0))
+
+-- of each beat the last entry, where its value is not that of the last kept one. After a NaN every value is kept
+unfoldable pub keptAfter : Float → List (Float × Float) → List (Float × Float)
+keptAfter value [] = []
+keptAfter value (e ∷ list) = pick (isLast e list) (pick (ne (e .1) value) (e ∷ keptAfter (e .1) list) (keptAfter value list)) (keptAfter value list)
+
+-- whether the entry at i is kept
+unfoldable pub keeps : List Float → List Float → ℕ → Float → Bool
+keeps beats tempos i value =
+    pick (ltb (i + 1) (length beats))
+    (pick (eq (getD beats i nan) (getD beats (i + 1) nan)) false (ne (getD tempos i nan) value))
+    (ne (getD tempos i nan) value)
+
+-- whether no beat is below the one before it
+unfoldable pub inOrder : List Float → Bool
+inOrder [] = true
+inOrder (b ∷ []) = true
+inOrder (b ∷ next ∷ beats) = pick (lt next b) false (inOrder (next ∷ beats))

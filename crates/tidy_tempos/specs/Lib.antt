@@ -1,0 +1,3 @@
+pub mod TempoTidying
+pub mod Keeping
+pub mod Sorting
