@@ -2,17 +2,18 @@
 use mathlib.Core.Path.{_≡_, refl, ap, _∙_, subst}
 use mathlib.Core.Logic.{_↔_}
 use Prim.Native.Nat.{ℕ, _*_, _^_, _<_}
-use mathlib.Core.Bool.{Bool}
+use mathlib.Core.Bool.{Bool, not}
 use lib.IntN.{ℤ}
 use lib.Dec.{T}
 use lib.Pow.{pow-pos}
-use lib.Ieee.{Float, nan, inf, fin, Format, low, up, down, fits, round}
+use lib.Ieee.{Float, nan, inf, fin, Format, low, up, down, fits, isNan, round}
 use lib.Ieee.Fits.{down-pos, nan-fits, inf-fits, round-fits}
 use lib.Ieee.Exact.{HasValue, round-exact}
 use lib.Ieee.Scale.{finite, round-same}
-use Rattle.ieee.specs.Narrowing.{convert}
+use Rattle.ieee.specs.Narrowing.{convert, withSign}
 use Rattle.ieee.specs.Nearest.{valueOf, NearestValue, Overflows, TiesToEven}
-use Rattle.ieee.proofs.Units.{in-units, same-units}
+use Rattle.ieee.proofs.Signs.{round-signed}
+use Rattle.ieee.proofs.Units.{in-units, same-units, round-number}
 use Rattle.ieee.proofs.NearestValue.{round-ties-to-even, round-infinite}
 
 module _ (f : Format) where
@@ -49,6 +50,19 @@ module _ (f : Format) where
   convert-fits nan = nan-fits f
   convert-fits (inf s) = inf-fits f s
   convert-fits (fin s m e) = round-fits f s (m * up e) (down e)
+
+  pub convert-number : (x : Float) → T (not (isNan x)) → T (not (isNan (convert f x)))
+  unfolding convert isNan
+  convert-number nan h = h
+  convert-number (inf s) h = tt
+  convert-number (fin s m e) h = round-number f s (m * up e) (down e)
+
+  -- the sign goes through
+  pub convert-signed : (s : Bool) (x : Float) → convert f (withSign s x) ≡ withSign s (convert f x)
+  unfolding convert withSign
+  convert-signed s nan = refl
+  convert-signed s (inf t) = refl
+  convert-signed s (fin t m e) = round-signed f s t (m * up e) (down e)
 
   -- what the format holds
   pub round-own : (s : Bool) (m : ℕ) (e : ℤ) → T (fits f (fin s m e)) → round f s (m * up e) (down e) ≡ fin s m e

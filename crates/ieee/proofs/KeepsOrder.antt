@@ -1,76 +1,36 @@
 -- Rounding keeps the order of numbers of either sign, over the format: of two fractions, and of two floats at another format. Assumes nothing.
 use mathlib.Core.Path.{_≡_, refl, sym, ap, _∙_, subst}
-use Prim.Native.Nat.{ℕ, zero, suc, _*_, _^_, _≤_, _<_, zero-le}
+use Prim.Native.Nat.{ℕ, zero, suc, _*_, _^_, _≤_, _<_}
 use native.Mathlib.Nat.{eq-of-mul-eq-mul-right, zero-mul, zero-lt-suc}
 use native.Mathlib.Omega.{arith}
-use mathlib.Core.Bool.{Bool, true, false, not, _||_, cond, true≢false}
-use lib.IntN.{pos, negℤ}
-use lib.Signed.{leZ, _≤ℤ_}
-use lib.Dec.{T, ltb, leb→le, le→leb}
-use lib.Ieee.{Float, nan, inf, fin, Format, prec, low, up, down, below, level, fits, odd, units, round, neg, le, isNan}
-use lib.Ieee.Fits.{down-pos, round-is}
+use mathlib.Core.Bool.{Bool, true, false, not, cond, true≢false}
+use lib.IntN.{pos}
+use lib.Signed.{_≤ℤ_}
+use lib.Dec.{T, leb→le}
+use lib.Ieee.{Float, nan, inf, fin, Format, up, down, fits, round, neg, le, isNan}
+use lib.Ieee.Fits.{down-pos}
 use lib.Ieee.Order.{round-mono}
-use lib.Ieee.Scale.{grid, overflow, round-same}
+use lib.Ieee.Scale.{round-same}
 use Rattle.ieee.specs.Rounding.{signed}
-use Rattle.ieee.specs.Narrowing.{convert}
+use Rattle.ieee.specs.Narrowing.{convert, withSign}
 use Rattle.ieee.specs.Nearest.{signOf}
-use Rattle.ieee.proofs.Tests.{or-eq, eq-or, zeros, or-false, at-most, at-least, not-above}
-use Rattle.ieee.proofs.Pack.{dropped, held}
-use Rattle.ieee.proofs.Units.{round-sign}
+use Rattle.ieee.proofs.Tests.{or-false, not-above}
+use Rattle.ieee.proofs.SignedSizes.{ordered-turned, ordered-whole, whole-ordered, test-ordered, ordered-test}
+use Rattle.ieee.proofs.Signs.{round-signed}
+use Rattle.ieee.proofs.Units.{round-sign, round-number}
 use Rattle.ieee.proofs.Convert.{round-own}
 
--- ---- whole numbers with a sign, by their sizes
-neg-le : (a b : ℕ) → b ≤ a → T (leZ (negℤ (pos a)) (negℤ (pos b)))
-neg-le zero zero h = tt
-neg-le zero (suc b) h = absurd (omega arith)
-neg-le (suc a) zero h = tt
-neg-le (suc a) (suc b) h = le→leb b a (omega arith)
-
-le-neg : (a b : ℕ) → T (leZ (negℤ (pos a)) (negℤ (pos b))) → b ≤ a
-le-neg zero zero h = zero-le
-le-neg zero (suc b) h = absurd h
-le-neg (suc a) zero h = zero-le
-le-neg (suc a) (suc b) h = let l = leb→le b a h in omega arith
-
-neg-pos : (a b : ℕ) → T (leZ (negℤ (pos a)) (pos b))
-neg-pos zero b = le→leb 0 b zero-le
-neg-pos (suc a) b = tt
-
-pos-neg : (a b : ℕ) → T (leZ (pos a) (negℤ (pos b))) → (a ≡ 0) × (b ≡ 0)
-pos-neg a zero h = let l = leb→le a 0 h in (omega arith, refl)
-pos-neg a (suc b) h = absurd h
-
--- ---- `<=` of two finite floats is the order of their numbers
-signed-le : (s : Bool) (a : ℕ) (t : Bool) (b : ℕ) → T (below s a t b || level s a t b) → T (leZ (signed s a) (signed t b))
-signed-le false a false b h = le→leb a b (or-eq a b true h)
-signed-le false a true b h = let z = zeros a b h in rw (z .0, z .1) tt
-signed-le true a false b h = neg-pos a b
-signed-le true a true b h = neg-le a b (eq-or b a true h)
-
 -- ---- the other sign
-odd-neg : (d q k l : ℕ) → odd d true q k l ≡ neg (odd d false q k l)
-unfolding odd neg
-odd-neg d zero k l = refl
-odd-neg d (suc q) k l = refl
-
-units-neg : (f : Format) (q k : ℕ) → units f true q k ≡ neg (units f false q k)
-unfolding units neg
-units-neg f q k = go (ltb (q * 2 ^ k) (overflow f))
-  where
-    go : (b : Bool) → cond b (odd (suc (prec f)) true q k (low f)) (inf true) ≡ neg (cond b (odd (suc (prec f)) false q k (low f)) (inf false))
-    go true = odd-neg (suc (prec f)) q k (low f)
-    go false = refl
+neg-signed : (x : Float) → signOf x ≡ false → withSign true x ≡ neg x
+unfolding withSign neg
+neg-signed nan e = refl
+neg-signed (inf s) e = ap (λ (t : Bool). inf (not t)) (sym e)
+neg-signed (fin s m k) e = ap (λ (t : Bool). fin (not t) m k) (sym e)
 
 round-neg : (f : Format) (num den : ℕ) → round f true num den ≡ neg (round f false num den)
-round-neg f num den = round-is f true num den ∙ units-neg f (held f num den) (dropped f num den) ∙ ap neg (sym (round-is f false num den))
+round-neg f num den = round-signed f true false num den ∙ neg-signed (round f false num den) (round-sign f false num den)
 
 -- ---- and the order, turned round
-turn : (s : Bool) (a : ℕ) (t : Bool) (b : ℕ) → T (below t b s a || level t b s a) → T (below (not s) a (not t) b || level (not s) a (not t) b)
-turn false a false b h = at-least a b (or-eq b a true h)
-turn false a true b h = not-above a b
-turn true a false b h = let z = zeros b a h in rw (z .0, z .1) tt
-turn true a true b h = at-most a b (eq-or a b true h)
-
 le-neg-neg : (x y : Float) → T (le y x) → T (le (neg x) (neg y))
 unfolding le neg
 le-neg-neg nan nan h = absurd h
@@ -85,7 +45,10 @@ le-neg-neg (inf s) (fin t n d) h = h
 le-neg-neg (fin s m e) nan h = absurd h
 le-neg-neg (fin s m e) (inf true) h = tt
 le-neg-neg (fin s m e) (inf false) h = absurd h
-le-neg-neg (fin s m e) (fin t n d) h = turn s (m * up e * down d) t (n * up d * down e) h
+le-neg-neg (fin s m e) (fin t n d) h =
+    let a = m * up e * down d in
+    let b = n * up d * down e in
+    ordered-test (not s) (not t) a b (ordered-turned s t a b (test-ordered t s b a h))
 
 -- what is not negative, and what is not positive
 le-opposite : (x y : Float) → T (not (isNan x)) → T (not (isNan y)) → signOf x ≡ true → signOf y ≡ false → T (le x y)
@@ -105,16 +68,7 @@ le-opposite (fin true m e) (fin false n d) h k s t = not-above (m * up e * down 
 le-opposite (fin false m e) (fin b n d) h k s t = absurd (true≢false (sym s))
 
 -- ---- `round`
-round-number : (f : Format) (s : Bool) (num den : ℕ) → T (not (isNan (round f s num den)))
-unfolding units odd isNan
-round-number f s num den = subst (λ (y : Float). T (not (isNan y))) (sym (round-is f s num den)) (go (ltb (grid f num den) (overflow f)) (held f num den))
-  where
-    go : (b : Bool) (q : ℕ) → T (not (isNan (cond b (odd (suc (prec f)) s q (dropped f num den) (low f)) (inf s))))
-    go true zero = tt
-    go true (suc q) = tt
-    go false q = tt
-
-round-zero : (f : Format) (s : Bool) (num den : ℕ) → 0 < den → num ≡ 0 → round f s num den ≡ fin s 0 (pos 0)
+pub round-zero : (f : Format) (s : Bool) (num den : ℕ) → 0 < den → num ≡ 0 → round f s num den ≡ fin s 0 (pos 0)
 unfolding fits
 round-zero f s num den D z = round-same f s num den 0 1 D (zero-lt-suc 0) (omega arith) ∙ round-own f s 0 (pos 0) tt
 
@@ -122,12 +76,12 @@ round-zero f s num den D z = round-same f s num den 0 1 D (zero-lt-suc 0) (omega
 pub round-keeps-order : (f : Format) (s t : Bool) (a b c d : ℕ) → 0 < b → 0 < d → signed s (a * d) ≤ℤ signed t (c * b) → T (le (round f s a b) (round f t c d))
 round-keeps-order f false false a b c d B D h = round-mono f a b c d B D (leb→le (a * d) (c * b) (h .le))
 round-keeps-order f false true a b c d B D h =
-    let z = pos-neg (a * d) (c * b) (h .le) in
+    let z = whole-ordered false true (a * d) (c * b) (h .le) in
     let x = round-zero f false a b B (eq-of-mul-eq-mul-right d D a 0 (z .0 ∙ sym (zero-mul d))) in
     let y = round-zero f true c d D (eq-of-mul-eq-mul-right b B c 0 (z .1 ∙ sym (zero-mul b))) in
     rw (x, y) (unfold le in tt)
 round-keeps-order f true false a b c d B D h = le-opposite (round f true a b) (round f false c d) (round-number f true a b) (round-number f false c d) (round-sign f true a b) (round-sign f false c d)
-round-keeps-order f true true a b c d B D h = rw (round-neg f a b, round-neg f c d) (le-neg-neg (round f false a b) (round f false c d) (round-mono f c d a b D B (le-neg (a * d) (c * b) (h .le))))
+round-keeps-order f true true a b c d B D h = rw (round-neg f a b, round-neg f c d) (le-neg-neg (round f false a b) (round f false c d) (round-mono f c d a b D B (whole-ordered true true (a * d) (c * b) (h .le))))
 
 -- ---- a float at another format
 inf-le : (s : Bool) (y : Float) → T s → T (not (isNan y)) → T (le (inf s) y)
@@ -154,4 +108,7 @@ convert-keeps-order f (inf s) (inf t) h = h
 convert-keeps-order f (inf s) (fin t n d) h = inf-le s (round f t (n * up d) (down d)) (or-false s h) (round-number f t (n * up d) (down d))
 convert-keeps-order f (fin s m e) nan h = absurd h
 convert-keeps-order f (fin s m e) (inf t) h = le-inf (round f s (m * up e) (down e)) t (or-false (not t) h) (round-number f s (m * up e) (down e))
-convert-keeps-order f (fin s m e) (fin t n d) h = round-keeps-order f s t (m * up e) (down e) (n * up d) (down d) (down-pos e) (down-pos d) (record { le = signed-le s (m * up e * down d) t (n * up d * down e) h })
+convert-keeps-order f (fin s m e) (fin t n d) h =
+    let a = m * up e * down d in
+    let b = n * up d * down e in
+    round-keeps-order f s t (m * up e) (down e) (n * up d) (down d) (down-pos e) (down-pos d) (record { le = ordered-whole s t a b (test-ordered s t a b h) })

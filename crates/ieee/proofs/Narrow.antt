@@ -1,16 +1,17 @@
 -- `narrow`, in IEEE 754's words: the laws of `Convert.antt` and `KeepsOrder.antt` at binary32. Assumes nothing.
-use mathlib.Core.Path.{_≡_}
+use mathlib.Core.Path.{_≡_, sym, ap, _∙_}
 use mathlib.Core.Logic.{_↔_}
 use Prim.Native.Nat.{ℕ, _*_, _<_}
-use mathlib.Core.Bool.{Bool}
+use mathlib.Core.Bool.{Bool, false, not}
 use lib.IntN.{ℤ}
 use lib.Dec.{T}
-use lib.Ieee.{Float, nan, inf, fin, binary32, up, down, fits, round, le}
+use lib.Ieee.{Float, nan, inf, fin, binary32, up, down, fits, isNan, round, le}
 use lib.Ieee.Exact.{HasValue}
 use lib.Ieee.Scale.{finite}
-use Rattle.ieee.specs.Narrowing.{narrow}
-use Rattle.ieee.specs.Nearest.{valueOf, NearestValue, Overflows, TiesToEven}
-use Rattle.ieee.proofs.Convert.{convert-ties-to-even, convert-nearest, convert-infinite, convert-value, convert-nan, convert-inf, convert-fits, convert-own, convert-twice}
+use Rattle.ieee.specs.Narrowing.{narrow, withSign}
+use Rattle.ieee.specs.Nearest.{valueOf, NearestValue, Overflows, signOf, TiesToEven}
+use Rattle.ieee.proofs.Convert.{convert-ties-to-even, convert-nearest, convert-infinite, convert-value, convert-nan, convert-inf, convert-fits, convert-number, convert-signed, convert-own, convert-twice}
+use Rattle.ieee.proofs.Signs.{own-sign, sign-sign}
 use Rattle.ieee.proofs.KeepsOrder.{convert-keeps-order}
 
 -- a finite float: all that the standard says, and by parts
@@ -42,6 +43,17 @@ narrow-inf = convert-inf binary32
 pub narrow-fits : (x : Float) → T (fits binary32 (narrow x))
 unfolding narrow
 narrow-fits = convert-fits binary32
+
+pub narrow-number : (x : Float) → T (not (isNan x)) → T (not (isNan (narrow x)))
+unfolding narrow
+narrow-number = convert-number binary32
+
+pub narrow-signed : (s : Bool) (x : Float) → narrow (withSign s x) ≡ withSign s (narrow x)
+unfolding narrow
+narrow-signed = convert-signed binary32
+
+pub narrow-by-size : (x : Float) → withSign (signOf x) (narrow (withSign false x)) ≡ narrow x
+narrow-by-size x = sym (narrow-signed (signOf x) (withSign false x)) ∙ ap narrow (sign-sign (signOf x) false x ∙ own-sign x)
 
 pub narrow-own : (x : Float) → T (fits binary32 x) → narrow x ≡ x
 unfolding narrow

@@ -7,18 +7,19 @@ use native.Mathlib.Nat.{le-refl, le-trans, le-of-eq, lt-of-lt-of-le, lt-of-le-of
 use native.Mathlib.Omega.{arith}
 use mathlib.Core.Bool.{Bool, cond}
 use lib.Pow.{pow-add, pow-pos, pow-mono, pow-lt}
-use lib.Ieee.{Float, nan, inf, fin, Format, prec, emax, low, hid, ones, top, up, down, size, odd, units, round, toBits, ofBits}
-use lib.Ieee.Digits.{size-le, size-reaches}
-use lib.Ieee.Fits.{round-is, round-fits, two, reach, kept-lt, nearest-le, down-pos}
+use lib.Ieee.{Float, nan, inf, fin, Format, prec, emax, low, hid, ones, top, up, down, size, odd, units, round, toBits}
+use lib.Ieee.Digits.{size-lt, size-le, size-reaches}
+use lib.Ieee.Fits.{round-is, two, reach, kept-lt, nearest-le, down-pos}
 use lib.Ieee.Exact.{HasValue, units-val}
-use lib.Ieee.Bits.{ofBits-toBits}
 use lib.Ieee.Nearest.{nearest-ge}
 use lib.Ieee.Order.{drop, kept}
 use borrow.Author.Tests.{le-ltb}
 use Rattle.ieee.proofs.Closest.{lt-or-ge}
-use Rattle.ieee.proofs.Snap.{size-gt}
 
 -- ---- how many digits: from 2 ^ j up and below 2 ^ (j + 1)
+pub size-gt : (n j : ℕ) → 2 ^ j ≤ n → j < size n
+size-gt n j h = lt-of-not-le (λ (g : size n ≤ j). not-le-of-lt (lt-of-lt-of-le (size-lt n) (pow-mono g)) h)
+
 pub size-between : (n j : ℕ) → 2 ^ j ≤ n → n < 2 ^ suc j → size n ≡ suc j
 size-between n j lo hi = let a = size-gt n j lo in let b = size-le n (suc j) hi in omega arith
 
@@ -154,7 +155,7 @@ module _ (f : Format) (num den : ℕ) where
       let a : 2 ^ (prec f - 1) * 2 ^ dropped ≤ w = le-trans (le-of-eq (sym (pow-add 2 (prec f - 1) dropped))) (size-reaches w (prec f - 1 + dropped) (omega arith)) in
       le-trans (subst (λ (x : ℕ). 2 ^ (prec f - 1) ≤ x) (div-div-eq-div-mul n den (2 ^ dropped)) (le-div-iff-mul-le (pow-pos dropped) .1 a)) (nearest-ge (n / u) (compare (n % u * 2) u))
 
-  pattern : (s : Bool) → toBits f (round f s num den) ≡ cond s (top f) 0 + min (dropped * hid f + held) (ones f * hid f)
+  pub pattern : (s : Bool) → toBits f (round f s num den) ≡ cond s (top f) 0 + min (dropped * hid f + held) (ones f * hid f)
   unfolding units toBits
   pattern s = elim (lt-or-ge (held * 2 ^ dropped) (2 ^ (low f + suc (emax f)))) [
     | inl l ↦
@@ -166,7 +167,3 @@ module _ (f : Format) (num den : ℕ) where
         ∙ ap (λ (b : Bool). toBits f (cond b (odd (suc (prec f)) s held dropped (low f)) (inf s))) (le-ltb (held * 2 ^ dropped) (2 ^ (low f + suc (emax f))) past)
         ∙ ap (λ (x : ℕ). cond s (top f) 0 + x) (sym (min-eq-right (past-range (prec f) (emax f) dropped held (two f) (omega (arith, two f, reach f)) held-le held-ge past)))
   ]
-
-  -- so the pattern stands for the rounded value
-  pub packed : (s : Bool) → ofBits f (cond s (top f) 0 + min (dropped * hid f + held) (ones f * hid f)) ≡ round f s num den
-  packed s = ap (ofBits f) (sym (pattern s)) ∙ ofBits-toBits f (round f s num den) (round-fits f s num den)

@@ -1,45 +1,56 @@
--- Where a format has no digit after the point: a fraction from 2 ^ (prec - 1) up and below 2 ^ prec rounds to a whole number, the nearest one. Over the format. Assumes nothing.
-use mathlib.Core.Path.{_≡_, sym, ap, _∙_, subst}
-use Prim.Native.Nat.{ℕ, suc, _+_, _-_, _*_, _/_, _^_, _≤_, _<_}
-use native.Mathlib.Nat.{le-trans, le-of-eq, lt-of-lt-of-le, lt-of-not-le, not-le-of-lt, mul-one, mul-comm, mul-assoc, mul-right-comm, mul-le-mul-right, mul-lt-mul-of-pos-right, mul-pos, le-div-iff-mul-le, div-lt-iff-lt-mul, zero-lt-suc}
+-- What `round` drops and keeps of a fraction, by the binade that it lies in, over the format. From 2 ^ (prec - 1) up and below 2 ^ prec there is no digit
+-- after the point: the fraction rounds to the nearest whole number, and the pattern counts those numbers one by one. Assumes nothing.
+pub use Rattle.ieee.proofs.Pack.{size-gt}
+use mathlib.Core.Path.{_≡_, ap, ap₂, _∙_}
+use Prim.Native.Nat.{ℕ, suc, _+_, _-_, _*_, _^_, _≤_, _<_, min}
+use native.Mathlib.Nat.{le-trans, le-of-eq, lt-of-lt-of-le, add-mul, mul-assoc, mul-comm, mul-right-comm, mul-le-mul-right, mul-lt-mul-of-pos-right, mul-pos, min-eq-left, two-pow-succ}
 use native.Mathlib.Omega.{arith}
-use mathlib.Core.Bool.{Bool}
-use lib.Pow.{pow-add, pow-pos, pow-mono}
-use lib.Ieee.{Format, prec, low, size, units, round}
-use lib.Ieee.Digits.{size-lt, size-le}
-use lib.Ieee.Fits.{round-is, two}
+use mathlib.Core.Bool.{Bool, cond}
+use lib.Pow.{pow-add, pow-pos}
+use lib.Ieee.{Format, prec, low, hid, ones, top, units, round, toBits}
+use lib.Ieee.Fits.{round-is, two, reach}
 use lib.Ieee.Nearest.{closest, closest-same}
-use Rattle.ieee.proofs.ClosestLaws.{closest-whole}
+use Rattle.ieee.proofs.Pack.{size-quot, dropped, held, held-le, pattern}
 
-pub size-gt : (n j : ℕ) → 2 ^ j ≤ n → j < size n
-size-gt n j h = lt-of-not-le (λ (g : size n ≤ j). not-le-of-lt (lt-of-lt-of-le (size-lt n) (pow-mono g)) h)
+module _ (f : Format) (num den : ℕ) (D : 0 < den) where
+  -- from 2 ^ (prec - 1) steps of 2 ^ j units up, and below 2 ^ prec
+  module _ (j : ℕ) (lo : 2 ^ (prec f - 1) * 2 ^ j * den ≤ num * 2 ^ low f) (hi : num * 2 ^ low f < 2 ^ prec f * 2 ^ j * den) where
+    pub drops-at : dropped f num den ≡ j
+    drops-at =
+        let t = two f in
+        let p : suc (prec f - 1 + j) ≡ prec f + j = omega arith in
+        let z = size-quot (num * 2 ^ low f) den (prec f - 1 + j) D (rw (pow-add 2 (prec f - 1) j) lo) (rw (p, pow-add 2 (prec f) j) hi) in
+        ap (λ (x : ℕ). x - prec f) z ∙ omega arith
 
--- 2 ^ j ≤ num / den < 2 ^ (j + 1), in units of 2 ^ -l
-size-is : (j l num den : ℕ) → 0 < den → 2 ^ j * den ≤ num → num < 2 ^ suc j * den → size (num * 2 ^ l / den) ≡ suc j + l
-size-is j l num den D lo hi =
-    let a : 2 ^ (j + l) * den ≤ num * 2 ^ l = le-trans (le-of-eq (ap (λ (x : ℕ). x * den) (pow-add 2 j l) ∙ mul-right-comm (2 ^ j) (2 ^ l) den)) (mul-le-mul-right (2 ^ l) lo) in
-    let b : num * 2 ^ l < 2 ^ (suc j + l) * den = lt-of-lt-of-le (mul-lt-mul-of-pos-right hi (pow-pos l)) (le-of-eq (mul-right-comm (2 ^ suc j) den (2 ^ l) ∙ ap (λ (x : ℕ). x * den) (sym (pow-add 2 (suc j) l)))) in
-    let u = size-le (num * 2 ^ l / den) (suc j + l) (div-lt-iff-lt-mul D .1 b) in
-    let g = size-gt (num * 2 ^ l / den) (j + l) (le-div-iff-mul-le D .1 a) in
-    omega arith
+    pub keeps-at : held f num den ≡ closest (num * 2 ^ low f) (den * 2 ^ j)
+    keeps-at = ap (λ (x : ℕ). closest (num * 2 ^ low f) (den * 2 ^ x)) drops-at
 
-module _ (f : Format) (s : Bool) where
-  snap : (num den : ℕ) → 0 < den → 2 ^ (prec f - 1) * den ≤ num → num < 2 ^ prec f * den → round f s num den ≡ units f s (closest num den) (low f)
-  snap num den D lo hi =
-      let t = two f in
-      let p : suc (prec f - 1) ≡ prec f = omega arith in
-      let z = size-is (prec f - 1) (low f) num den D lo (subst (λ (x : ℕ). num < 2 ^ x * den) (sym p) hi) in
-      let k : size (num * 2 ^ low f / den) - prec f ≡ low f = omega arith in
-      round-is f s num den
-      ∙ ap (λ (x : ℕ). units f s (closest (num * 2 ^ low f) (den * 2 ^ x)) x) k
-      ∙ ap (λ (x : ℕ). units f s x (low f)) (closest-same (num * 2 ^ low f) (den * 2 ^ low f) num den (mul-pos D (pow-pos (low f))) D
-      (mul-assoc num (2 ^ low f) den ∙ ap (λ (x : ℕ). num * x) (mul-comm (2 ^ low f) den)))
+  -- where steps are whole numbers
+  module _ (lo : 2 ^ (prec f - 1) * den ≤ num) (hi : num < 2 ^ prec f * den) where
+    lo' : 2 ^ (prec f - 1) * 2 ^ low f * den ≤ num * 2 ^ low f
+    lo' = le-trans (le-of-eq (mul-right-comm (2 ^ (prec f - 1)) (2 ^ low f) den)) (mul-le-mul-right (2 ^ low f) lo)
 
-  -- so what is rounded is that whole number
-  pub snap-whole : (num den : ℕ) → 0 < den → 2 ^ (prec f - 1) * den ≤ num → num < 2 ^ prec f * den → 2 ^ (prec f - 1) ≤ closest num den → closest num den < 2 ^ prec f
-      → round f s num den ≡ round f s (closest num den) 1
-  snap-whole num den D lo hi l h =
-      let q = closest num den in
-      snap num den D lo hi
-      ∙ sym (snap q 1 (zero-lt-suc 0) (le-trans (le-of-eq (mul-one (2 ^ (prec f - 1)))) l) (lt-of-lt-of-le h (le-of-eq (sym (mul-one (2 ^ prec f)))))
-      ∙ ap (λ (x : ℕ). units f s x (low f)) (ap (λ (x : ℕ). closest x 1) (sym (mul-one q)) ∙ closest-whole q 1 (zero-lt-suc 0)))
+    hi' : num * 2 ^ low f < 2 ^ prec f * 2 ^ low f * den
+    hi' = lt-of-lt-of-le (mul-lt-mul-of-pos-right hi (pow-pos (low f))) (le-of-eq (mul-right-comm (2 ^ prec f) den (2 ^ low f)))
+
+    whole-drops : dropped f num den ≡ low f
+    whole-drops = drops-at (low f) lo' hi'
+
+    whole-keeps : held f num den ≡ closest num den
+    whole-keeps =
+        let l = 2 ^ low f in
+        keeps-at (low f) lo' hi' ∙ closest-same (num * l) (den * l) num den (mul-pos D (pow-pos (low f))) D (mul-assoc num l den ∙ ap (λ (x : ℕ). num * x) (mul-comm l den))
+
+    pub whole-pattern : (s : Bool) → toBits f (round f s num den) ≡ cond s (top f) 0 + (low f * hid f + closest num den)
+    whole-pattern s =
+        let t = two f in
+        let k = whole-keeps in
+        let digits : 2 ^ prec f ≡ hid f + hid f = ap (λ (x : ℕ). 2 ^ x) (omega arith) ∙ two-pow-succ (prec f - 1) in
+        let room = mul-le-mul-right {m = low f + 2} {n = ones f} (hid f) (omega (arith, reach f)) in
+        let few : low f * hid f + closest num den ≤ ones f * hid f = omega (arith, add-mul (low f) 2 (hid f), held-le f num den) in
+        pattern f num den s
+        ∙ ap₂ (λ (x y : ℕ). cond s (top f) 0 + min (x * hid f + y) (ones f * hid f)) whole-drops k
+        ∙ ap (λ (x : ℕ). cond s (top f) 0 + x) (min-eq-left few)
+
+pub snap : (f : Format) (s : Bool) (num den : ℕ) → 0 < den → 2 ^ (prec f - 1) * den ≤ num → num < 2 ^ prec f * den → round f s num den ≡ units f s (closest num den) (low f)
+snap f s num den D lo hi = round-is f s num den ∙ ap₂ (units f s) (whole-keeps f num den D lo hi) (whole-drops f num den D lo hi)

@@ -1,11 +1,11 @@
 -- What the tests inside `le` say of numbers: `ltb a b || (eqb a b && true)` of a ≤ b, and so for two that are negative or of unlike signs. Assumes nothing.
-use mathlib.Core.Path.{_≡_, sym, _∙_, subst}
+use mathlib.Core.Path.{_≡_, sym, _∙_}
 use mathlib.Core.Logic.{inl, inr}
 use Prim.Native.Nat.{ℕ, _+_, _≤_, _<_}
 use native.Mathlib.Nat.{le-of-eq, le-of-lt, eq-or-lt-of-le, eq-zero-or-pos}
 use native.Mathlib.Omega.{arith}
-use mathlib.Core.Bool.{Bool, true, false, not, _&&_, _||_}
-use lib.Dec.{T, ltb, eqb, ltb→lt, lt→ltb, nltb→le, eqb→eq}
+use mathlib.Core.Bool.{Bool, true, false, _&&_, _||_}
+use lib.Dec.{T, ltb, eqb, ltb→lt, lt→ltb, eqb→eq}
 use lib.Ieee.Fits.{eq→eqb}
 
 -- ---- from a test to the order
@@ -25,13 +25,6 @@ eq-or a b t = go (ltb a b) (eqb b a) (ltb→lt a b) (eqb→eq b a)
     go false true p q h = le-of-eq (sym (q tt))
     go false false p q h = absurd h
 
-pub not-or : (a b : ℕ) (t : Bool) → ltb a b || t ≡ false → b ≤ a
-not-or a b t = go (ltb a b) (nltb→le a b)
-  where
-    go : (x : Bool) → (T (not x) → b ≤ a) → x || t ≡ false → b ≤ a
-    go true p h = let z : _≡_ {A = Bool} true false = h in absurd (subst T z tt)
-    go false p h = p tt
-
 -- two of unlike signs that are equal
 pub zeros : (a b : ℕ) → T (eqb a b && (false || eqb a 0)) → (a ≡ 0) × (b ≡ 0)
 zeros a b h = go (eqb a b) (eqb a 0) (eqb→eq a b) (eqb→eq a 0) h
@@ -41,7 +34,7 @@ zeros a b h = go (eqb a b) (eqb a 0) (eqb→eq a b) (eqb→eq a 0) h
     go true false p q h = absurd h
     go false y p q h = absurd h
 
-or-left : (x y : Bool) → T x → T (x || y)
+pub or-left : (x y : Bool) → T x → T (x || y)
 or-left true y t = tt
 or-left false y t = absurd t
 

@@ -3,11 +3,11 @@ use mathlib.Core.Path.{_≡_, refl, sym, ap, _∙_, subst}
 use Prim.Native.Nat.{ℕ, zero, suc, _+_, _-_, _*_, _%_, _^_, _≤_, _<_}
 use native.Mathlib.Nat.{le-of-eq, lt-of-lt-of-le, lt-of-mul-lt-mul-right, mul-lt-mul-of-pos-right}
 use native.Mathlib.Omega.{arith}
-use mathlib.Core.Bool.{Bool, true, false, _&&_, cond}
+use mathlib.Core.Bool.{Bool, true, false, not, _&&_, cond}
 use lib.IntN.{ℤ, pos, negsuc}
 use lib.Dec.{T, ltb, leb, eqb, ltb→lt, leb→le}
 use lib.Pow.{pow-add, pow-pos}
-use lib.Ieee.{Float, nan, inf, fin, Format, prec, emax, low, up, down, fits, odd, units, round, ofBits}
+use lib.Ieee.{Float, nan, inf, fin, Format, prec, emax, low, up, down, fits, isNan, odd, units, round, ofBits}
 use lib.Ieee.Fits.{and-l, and-r, round-is}
 use lib.Ieee.Exact.{HasValue, odd-sign, units-val}
 use lib.Ieee.Bits.{ofBits-toBits}
@@ -86,3 +86,12 @@ module _ (f : Format) (s : Bool) (num den : ℕ) where
 
   pub round-sign : signOf (round f s num den) ≡ s
   round-sign = ap signOf (round-is f s num den) ∙ units-sign f s (held f num den) (dropped f num den)
+
+  pub round-number : T (not (isNan (round f s num den)))
+  unfolding units odd isNan
+  round-number = subst (λ (y : Float). T (not (isNan y))) (sym (round-is f s num den)) (go (ltb (grid f num den) (overflow f)) (held f num den))
+    where
+      go : (b : Bool) (q : ℕ) → T (not (isNan (cond b (odd (suc (prec f)) s q (dropped f num den) (low f)) (inf s))))
+      go true zero = tt
+      go true (suc q) = tt
+      go false q = tt

@@ -1,4 +1,4 @@
--- Finite floats by the numbers that they are (`HasValue`): that they are finite, their sign, and when two of them differ. Assumes nothing.
+-- Finite floats by the numbers that they are (`HasValue`): that they are finite, and so no NaN, their sign, and when two of them differ. Assumes nothing.
 use mathlib.Core.Path.{_≡_, sym, ap, _∙_, subst}
 use mathlib.Core.Logic.{_⊎_, _≢_, inl, inr}
 use Prim.Native.Nat.{ℕ, _*_, _<_}
@@ -6,11 +6,23 @@ use native.Mathlib.Nat.{mul-pos, eq-of-mul-eq-mul-right}
 use native.Mathlib.Omega.{arith}
 use mathlib.Core.Bool.{Bool, true, false, not, _&&_, _||_, Bool·beq}
 use lib.Dec.{T, eqb, eqb→eq, not-T}
-use lib.Ieee.{Float, nan, inf, fin, up, down, eq, ne}
+use lib.Ieee.{Float, nan, inf, fin, up, down, eq, ne, isNan}
 use lib.Ieee.Fits.{eq→eqb, and-l, down-pos}
 use lib.Ieee.Exact.{HasValue}
 use lib.Ieee.Scale.{finite}
 use Rattle.ieee.specs.Nearest.{signOf}
+
+pub finite-number : (x : Float) → T (finite x) → T (not (isNan x))
+unfolding isNan
+finite-number nan t = t
+finite-number (inf s) t = tt
+finite-number (fin s m e) t = tt
+
+pub number-of-eq : (x : Float) → eq x x ≡ true → T (not (isNan x))
+unfolding eq isNan
+number-of-eq nan h = subst T (sym h) tt
+number-of-eq (inf s) h = tt
+number-of-eq (fin s m e) h = tt
 
 pub finite-of : (y : Float) (s : Bool) (n c : ℕ) → HasValue y s n c → T (finite y)
 finite-of nan s n c v = absurd v
@@ -21,6 +33,15 @@ pub sign-of : (x : Float) (s : Bool) (n c : ℕ) → HasValue x s n c → signOf
 sign-of nan s n c v = absurd v
 sign-of (inf t) s n c v = absurd v
 sign-of (fin t m e) s n c v = v .0
+
+-- by another fraction of the same size
+pub rescaled : (x : Float) (s : Bool) (a c b d : ℕ) → 0 < c → b * c ≡ a * d → HasValue x s a c → HasValue x s b d
+rescaled nan s a c b d C e v = v
+rescaled (inf t) s a c b d C e v = v
+rescaled (fin t m k) s a c b d C e v =
+    let p = ap (λ (z : ℕ). z * d) (v .1) in
+    let q = ap (λ (z : ℕ). z * down k) e in
+    (v .0, eq-of-mul-eq-mul-right c C (m * up k * d) (b * down k) (omega arith))
 
 -- ---- as `!=` tells them apart
 level-not : (x y z : Bool) → T (not (x && (y || z))) → T x → T y ⊎ T z → ⊥

@@ -1,3 +1,4 @@
 pub mod Rounding
 pub mod Narrowing
 pub mod Nearest
+pub mod Magnitude

@@ -1,8 +1,9 @@
 -- A float at another format, and so an f64 as an f32. Definitions only.
-use Prim.Native.Nat.{ℕ, _*_, _+_, _≤_}
-use mathlib.Core.Bool.{Bool, cond}
-use mathlib.Core.Path.{_≡_}
-use lib.Ieee.{Float, nan, inf, fin, Format, binary32, binary64, up, down, round, ofBits}
+use Prim.Native.Nat.{ℕ, _-_, _*_, _/_, _^_}
+use mathlib.Core.Bool.{Bool, false}
+use lib.IntN.{pos}
+use lib.Ieee.{Float, nan, inf, fin, Format, binary32, binary64, up, down, round, toBits}
+use lib.Ieee.Exact.{HasValue}
 
 -- A float at the format f: the nearest value, a tie to the one whose last digit is even, an infinity past the format's range, and a NaN for a NaN.
 -- `Nearest.antt` has this in IEEE 754's terms, and `round` is proved to be it.
@@ -17,7 +18,22 @@ unfoldable pub narrow : Float → Float
 unfolding convert
 narrow x = convert binary32 x
 
--- At either sign, r is the pattern of the binary32 magnitude to which the binary64 magnitude of the pattern a narrows.
-pub record Narrowed (a r : ℕ) : Type 0 where
-  pub small : r ≤ 0x7f80_0000
-  pub same : (s : Bool) → ofBits binary32 (cond s 0x8000_0000 0 + r) ≡ narrow (ofBits binary64 (cond s 0x8000_0000_0000_0000 0 + a))
+-- ---- what the steps of narrowing speak of
+
+-- x with the sign s
+unfoldable pub withSign : Bool → Float → Float
+withSign s nan = nan
+withSign s (inf t) = inf s
+withSign s (fin t m e) = fin s m e
+
+-- half way from the largest value of binary32 to 2 ^ 128
+abbrev pub boundary : Float
+boundary = fin false (2 ^ 25 - 1) (pos 103)
+
+-- Around a, a binary64 that is not negative, the values of binary32 are 2 ^ stepPower a times its smallest one apart. The exponent's field of a says how far, and from 897 down they are the smallest one apart.
+abbrev pub stepPower : Float → ℕ
+stepPower a = toBits binary64 a / 2 ^ 52 - 897
+
+-- c is 2 ^ 52 of those steps
+abbrev pub Anchor : Float → Float → Type 0
+Anchor a c = HasValue c false (2 ^ 52 * 2 ^ stepPower a) (2 ^ 149)

@@ -56,3 +56,12 @@ module _ {A : Type 0} (test : A → Bool) where
       let none : drop i list ≡ [] = drop-of-length-le list h in
       let all : n ≡ misses test list = omega (arith, rw none at (c .same)) in
       ap (λ (m : ℕ). eqb m 0) all ∙ misses-none list
+
+-- what passes throughout passes first, and in the rest
+pub every-rest : {A : Type 0} (test : A → Bool) (x : A) (list : List A) → every test (x ∷ list) ≡ true → (test x ≡ true) × (every test list ≡ true)
+unfolding every
+every-rest test x list h = go (test x) refl h
+  where
+    go : (t : Bool) → test x ≡ t → pick t (every test list) false ≡ true → (test x ≡ true) × (every test list ≡ true)
+    go true e k = (e, k)
+    go false e k = let z : _≡_ {A = ℕ} 0 1 = cc in absurd (omega arith)

@@ -15,7 +15,7 @@ use Rattle.limits.specs.Refusals.{listNumber}
 
 pub record Taken (beat value : Range) (beats values : List Float) : Type 0 where
   pub few : length beats ≤ 1024
-  pub same : length beats ≡ length values
+  pub even : length beats ≡ length values
   pub beatsIn : allIn beat beats ≡ true
   pub valuesIn : allIn value values ≡ true
 
@@ -28,8 +28,8 @@ passed false false false beats values h = absurd (omega arith)
 passed false false true false values h = absurd (omega arith)
 passed false false true true false h = absurd (omega arith)
 
-pub list-taken : (beat value : Range) (beats values : List Float) → listNumber beat value beats values ≡ 0 → Taken beat value beats values
+pub list-taken : {beat value : Range} {beats values : List Float} → listNumber beat value beats values ≡ 0 → Taken beat value beats values
 unfolding listNumber
-list-taken beat value beats values h =
+list-taken {beat} {value} {beats} {values} h =
     let p = passed (ltb 1024 (length beats)) (ltb 1024 (length values)) (eqb (length beats) (length values)) (allIn beat beats) (allIn value values) h in
-    record { few = ltb-false 1024 (length beats) (p .0); same = eqb-true (length beats) (length values) (p .1); beatsIn = p .2; valuesIn = p .3 }
+    record { few = ltb-false 1024 (length beats) (p .0); even = eqb-true (length beats) (length values) (p .1); beatsIn = p .2; valuesIn = p .3 }

@@ -17,7 +17,7 @@ played =
     record {
       rows-f64 = refl;
       rows-f32 = refl;
-      stops-of-two-rows = refl;
+      stops = refl;
       tempos-of-one-beat = refl;
       tempos-that-change = refl;
     }

@@ -9,7 +9,7 @@ unfoldable pub decimal : ℕ → ℕ → Float
 unfolding round
 decimal n places = round binary64 false n (10 ^ places)
 
--- the float n
+-- n, as a float
 abbrev pub whole : ℕ → Float
 whole n = decimal n 0
 

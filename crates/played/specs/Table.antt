@@ -6,14 +6,14 @@ use lib.Ieee.{binary32, binary64, neg}
 use Rattle.rows.specs.Rows.{row}
 use Rattle.tidy_rows.specs.RowTidying.{tidyRows}
 use Rattle.tidy_tempos.specs.TempoTidying.{tidyTempos}
-use Rattle.played.specs.Numbers.{decimal, minus, whole}
+use Rattle.played.specs.Numbers.{decimal, whole, minus}
 
 pub record Examples : Type 0 where
   -- rows of beats, at each width
   pub rows-f64 : map (row binary64) (decimal 3125 5 ∷ decimal 9375 5 ∷ neg (decimal 3125 5) ∷ []) ≡ pos 2 ∷ pos 4 ∷ minus 2 ∷ []
   pub rows-f32 : map (row binary32) (decimal 3125 5 ∷ decimal 9375 5 ∷ neg (decimal 3125 5) ∷ []) ≡ pos 2 ∷ pos 4 ∷ minus 2 ∷ []
-  -- stops, tidied by row: the last of each row
-  pub stops-of-two-rows : tidyRows (whole 4 ∷ whole 2 ∷ whole 4 ∷ []) (whole 1 ∷ whole 3 ∷ whole 2 ∷ []) ≡ (whole 2, whole 3) ∷ (whole 4, whole 2) ∷ []
+  -- row tidying: beats and values, and the entries that they give
+  pub stops : tidyRows (whole 4 ∷ whole 2 ∷ whole 4 ∷ []) (whole 1 ∷ whole 3 ∷ whole 2 ∷ []) ≡ (whole 2, whole 3) ∷ (whole 4, whole 2) ∷ []
   -- tempos, tidied: of equal beats the last, moved to 0; and an equal tempo left out
   pub tempos-of-one-beat : tidyTempos (whole 1 ∷ whole 1 ∷ []) (whole 150 ∷ whole 160 ∷ []) ≡ (whole 0, whole 160) ∷ []
   pub tempos-that-change : tidyTempos (whole 0 ∷ whole 4 ∷ whole 8 ∷ []) (whole 120 ∷ whole 120 ∷ whole 60 ∷ []) ≡ (whole 0, whole 120) ∷ (whole 8, whole 60) ∷ []

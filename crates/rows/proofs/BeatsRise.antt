@@ -10,9 +10,9 @@ use lib.Dec.{T, leb→le, lt→ltb, not-T}
 use lib.Ieee.{Float, fin, Format, binary32, binary64, div, ofInt, lt}
 use lib.Ieee.Bits.{is-true, is-false}
 use lib.Ieee.Scale.{finite}
+use Rattle.ieee.proofs.FloatOrder.{lt-le, lt-not-le}
+use Rattle.ieee.proofs.Magnitude.{sized-within, within-finite}
 use Rattle.rows.specs.Rows.{row, beatOf, allowedBeat, mostRow}
-use Rattle.rows.proofs.FloatOrder.{lt-le, lt-not-le}
-use Rattle.rows.proofs.Magnitude.{sized-within, within-finite}
 use Rattle.rows.proofs.RowValue.{beat-sized}
 use Rattle.rows.proofs.RowOfBeat.{row-of-beat}
 use Rattle.rows.proofs.RowsKeepOrder.{rows-rise}

@@ -1,13 +1,11 @@
-pub mod FloatOrder
-pub mod NearestWhole
-pub mod RoundedSize
-pub mod Values
-pub mod NarrowOwn
-pub mod Magnitude
 pub mod RowValue
 pub mod RowOfBeat
 pub mod RowWithin
 pub mod RowsKeepOrder
 pub mod BeatsRise
+pub mod FortyEighths
 pub mod NarrowedBeat
+pub mod BeatBySum
+pub mod WholeF32
+pub mod RowByHalves
 pub mod Quantizing

@@ -9,11 +9,11 @@ use lib.Ieee.Exact.{HasValue}
 use lib.Ieee.Fits.{div-fits}
 use lib.Ieee.Scale.{grid}
 use Rattle.ieee.specs.Narrowing.{narrow}
-use Rattle.ieee.proofs.Narrow.{narrow-value}
+use Rattle.ieee.proofs.Narrow.{narrow-value, narrow-own}
+use Rattle.ieee.proofs.Units.{round-units}
+use Rattle.ieee.proofs.RoundedSize.{grid-le, grid-fine}
+use Rattle.ieee.proofs.Magnitude.{sized, sized-within}
 use Rattle.rows.specs.Rows.{row, beatOf, quantized, quantized32, allowedBeat}
-use Rattle.rows.proofs.RoundedSize.{round-value, grid-le, grid-fine}
-use Rattle.rows.proofs.NarrowOwn.{narrow-own}
-use Rattle.rows.proofs.Magnitude.{sized, sized-within}
 use Rattle.rows.proofs.RowWithin.{row-within}
 use Rattle.rows.proofs.RowOfBeat.{row-of-beat}
 use Rattle.rows.proofs.BeatsRise.{beat-allowed}
@@ -32,7 +32,7 @@ narrow-allowed beat h =
       den-pos = pow-pos (low binary32);
       value =
           subst (λ (x : Float). HasValue x s (grid binary32 a c) (2 ^ low binary32)) (sym (narrow-value beat s a c (z .den-pos) (z .value)))
-          (round-value binary32 a c s (grid-fine binary32 a c 65536 (z .den-pos) (lit< tt) (z .small)));
+          (round-units binary32 s a c (grid-fine binary32 a c 65536 (z .den-pos) (lit< tt) (z .small)));
       small = grid-le binary32 a c 65536 (z .den-pos) (lit< tt) (z .small);
     })
 

@@ -1,7 +1,7 @@
 -- A row's beat has that row again, whichever widths the two are worked out at: the quotient and the product are each off by at most one part in 2 ^ 24. Assumes nothing.
 use mathlib.Core.Path.{_≡_, sym, ap, _∙_}
 use mathlib.Core.Logic.{inl, inr}
-use Prim.Native.Nat.{ℕ, _+_, _-_, _*_, _^_, _≤_, _<_}
+use Prim.Native.Nat.{ℕ, _-_, _*_, _^_, _≤_, _<_}
 use native.Mathlib.Nat.{le-trans, le-of-eq, one-mul, mul-comm, mul-assoc, mul-pos, mul-le-mul-right, mul-le-mul-left, mul-mul-mul-comm, zero-lt-suc, eq-zero-or-pos}
 use native.Mathlib.Omega.{arith}
 use lib.IntN.{ℤ, natAbs}
@@ -11,20 +11,17 @@ use lib.Ieee.{Format, binary32, binary64, prec, low}
 use lib.Ieee.Nearest.{closest-same}
 use lib.Ieee.Scale.{grid}
 use Rattle.ieee.specs.Rounding.{signed}
+use Rattle.ieee.specs.Nearest.{NearestWhole}
+use Rattle.ieee.proofs.NearestWhole.{closest-is}
+use Rattle.ieee.proofs.RoundedSize.{Near, grid-le, grid-near, near-scaled}
+use Rattle.ieee.proofs.SignedSizes.{negative, signed-is}
 use Rattle.rows.specs.Rows.{row, beatOf, mostRow}
-use Rattle.rows.proofs.NearestWhole.{NearestWhole, closest-is}
-use Rattle.rows.proofs.RoundedSize.{Near, grid-le, grid-near, near-scaled}
-use Rattle.rows.proofs.Values.{negative, signed-is}
-use Rattle.rows.proofs.RowValue.{rowSize, row-value, row-size-le, beat-sized}
+use Rattle.rows.proofs.RowValue.{tiny, rowSize, row-value, row-size-le, beat-sized}
 
--- ---- a width has 24 digits at least, and its smallest unit is far below a 48th
+-- ---- a width has 24 digits at least
 digits : (f : Format) → 8388608 ≤ 2 ^ (prec f - 1)
 digits binary32 = lit≤ tt
 digits binary64 = lit≤ tt
-
-tiny : (f : Format) → 2 ^ (prec f - 1) * 48 ≤ 2 ^ low f
-tiny binary32 = lit≤ tt
-tiny binary64 = lit≤ tt
 
 -- ---- in units of one: r of them, the quotient times 48, and the product
 settled : (exact quotient product one r : ℕ) → exact ≡ r * one → r ≤ mostRow → 0 < one → Near 16777216 quotient exact → Near 16777216 product quotient → NearestWhole product one r

@@ -1,33 +1,40 @@
 -- The row of an allowed beat by the beat's value, and the beat of a row: each is rounded once by the width and, for the row, once more to a whole number. Assumes nothing.
 use mathlib.Core.Path.{_≡_, refl, sym, ap, _∙_, subst}
 use mathlib.Core.Bool.{Bool, true, false}
-use Prim.Native.Nat.{ℕ, zero, suc, _*_, _^_, _≤_, _<_, zero-le}
-use native.Mathlib.Nat.{le-refl, le-suc, le-trans, le-of-eq, mul-one, mul-right-comm, mul-le-mul-right, zero-lt-suc}
+use Prim.Native.Nat.{ℕ, _-_, _*_, _^_, _≤_, _<_}
+use native.Mathlib.Nat.{le-trans, le-of-eq, mul-one, mul-right-comm, mul-le-mul-right, zero-lt-suc}
 use native.Mathlib.Omega.{arith}
 use lib.IntN.{ℤ, pos, natAbs}
-use lib.Signed.{mag}
-use lib.Dec.{lit<}
+use lib.Dec.{lit<, lit≤}
 use lib.Pow.{pow-pos}
 use lib.Ieee.{Float, Format, binary32, binary64, prec, low, unlike, round, ofInt}
 use lib.Ieee.Exact.{HasValue}
 use lib.Ieee.Nearest.{closest, closest-mono}
 use lib.Ieee.Scale.{grid, overflow}
 use Rattle.ieee.specs.Rounding.{signed, rint, hold}
-use Rattle.ieee.proofs.Rint.{closest-le, held-within}
+use Rattle.ieee.proofs.ClosestLaws.{closest-le}
+use Rattle.ieee.proofs.Held.{held-within}
+use Rattle.ieee.proofs.SignedSizes.{negative, mag-signed}
+use Rattle.ieee.proofs.Magnitude.{Sized}
+use Rattle.ieee.proofs.Units.{round-units}
+use Rattle.ieee.proofs.RoundedSize.{grid-le, grid-fine, grid-mono}
+use Rattle.ieee.proofs.ByValue.{rint-value, mul-value, div-value, whole-value}
 use Rattle.rows.specs.Rows.{row, beatOf, mostRow}
-use Rattle.rows.proofs.Magnitude.{Sized}
-use Rattle.rows.proofs.RoundedSize.{round-value, grid-le, grid-fine, grid-mono}
-use Rattle.rows.proofs.Values.{rint-value, mul-value, div-value, negative, whole-value}
 
 -- a format counts to the last row
 room : (f : Format) → mostRow < 2 ^ prec f
 room binary32 = lit< tt
 room binary64 = lit< tt
 
+-- and its smallest unit is far below a 48th
+pub tiny : (f : Format) → 2 ^ (prec f - 1) * 48 ≤ 2 ^ low f
+tiny binary32 = lit≤ tt
+tiny binary64 = lit≤ tt
+
 like-48 : (f : Format) → HasValue (ofInt f (pos 48)) false 48 1
 like-48 f = whole-value f (pos 48) (omega (arith, room f))
 
-unlike-positive : (s : Bool) → unlike s false ≡ s
+pub unlike-positive : (s : Bool) → unlike s false ≡ s
 unlike-positive true = refl
 unlike-positive false = refl
 
@@ -49,11 +56,6 @@ module _ (f : Format) (a c : ℕ) (C : 0 < c) where
     pub product-fine : grid f (a * 48) c < overflow f
     product-fine = grid-fine f (a * 48) c mostRow C (room f) in-rows
 
-mag-signed : (s : Bool) (n : ℕ) → mag (signed s n) ≤ n
-mag-signed false n = le-refl n
-mag-signed true zero = zero-le
-mag-signed true (suc n) = le-suc n
-
 pub row-value : (f : Format) (x : Float) (z : Sized 16 x) → row f x ≡ signed (z .negative) (rowSize f (z .num) (z .den))
 row-value f x z =
     let s = z .negative in
@@ -65,7 +67,7 @@ row-value f x z =
     (mul-value f x (ofInt f (pos 48)) s false a c 48 1 (z .den-pos) (zero-lt-suc 0) (z .value) (like-48 f)
     ∙ ap (λ (b : Bool). round f b (a * 48) (c * 1)) (unlike-positive s)
     ∙ ap (round f s (a * 48)) (mul-one c))
-    ∙ ap hold (rint-value (round f s (a * 48) c) s (grid f (a * 48) c) (2 ^ low f) (pow-pos (low f)) (round-value f (a * 48) c s (product-fine f a c (z .den-pos) (z .small))))
+    ∙ ap hold (rint-value (round f s (a * 48) c) s (grid f (a * 48) c) (2 ^ low f) (pow-pos (low f)) (round-units f s (a * 48) c (product-fine f a c (z .den-pos) (z .small))))
     ∙ held-within (signed s (rowSize f a c)) (omega arith)
 
 -- a larger fraction has a row that is no smaller
@@ -77,17 +79,17 @@ row-size-mono f a c b d C D p q h =
     (le-trans (le-of-eq (mul-right-comm a 48 d)) (le-trans (mul-le-mul-right 48 h) (le-of-eq (mul-right-comm b c 48))))))
 
 -- ---- the beat of a row
-module _ (f : Format) (r : ℤ) (h : natAbs r ≤ mostRow) where
-  pub beat-rounded : beatOf f r ≡ round f (negative r) (natAbs r) 48
-  beat-rounded =
-      div-value f (ofInt f r) (ofInt f (pos 48)) (negative r) false (natAbs r) 1 48 1 (zero-lt-suc 0) (zero-lt-suc 0) (zero-lt-suc 47) (whole-value f r (omega (arith, room f))) (like-48 f)
-      ∙ ap (λ (b : Bool). round f b (natAbs r * 1) 48) (unlike-positive (negative r))
-      ∙ ap (λ (n : ℕ). round f (negative r) n 48) (mul-one (natAbs r))
+pub beat-rounded : (f : Format) (r : ℤ) → natAbs r ≤ 2 ^ prec f → beatOf f r ≡ round f (negative r) (natAbs r) 48
+beat-rounded f r h =
+    div-value f (ofInt f r) (ofInt f (pos 48)) (negative r) false (natAbs r) 1 48 1 (zero-lt-suc 0) (zero-lt-suc 0) (zero-lt-suc 47) (whole-value f r h) (like-48 f)
+    ∙ ap (λ (b : Bool). round f b (natAbs r * 1) 48) (unlike-positive (negative r))
+    ∙ ap (λ (n : ℕ). round f (negative r) n 48) (mul-one (natAbs r))
 
+module _ (f : Format) (r : ℤ) (h : natAbs r ≤ mostRow) where
   pub beat-value : HasValue (beatOf f r) (negative r) (grid f (natAbs r) 48) (2 ^ low f)
   beat-value =
-      subst (λ (x : Float). HasValue x (negative r) (grid f (natAbs r) 48) (2 ^ low f)) (sym beat-rounded)
-      (round-value f (natAbs r) 48 (negative r) (grid-fine f (natAbs r) 48 65536 (zero-lt-suc 47) (omega (arith, room f)) (omega arith)))
+      subst (λ (x : Float). HasValue x (negative r) (grid f (natAbs r) 48) (2 ^ low f)) (sym (beat-rounded f r (omega (arith, room f))))
+      (round-units f (negative r) (natAbs r) 48 (grid-fine f (natAbs r) 48 65536 (zero-lt-suc 47) (omega (arith, room f)) (omega arith)))
 
   pub beat-small : grid f (natAbs r) 48 ≤ 65536 * 2 ^ low f
   beat-small = grid-le f (natAbs r) 48 65536 (zero-lt-suc 47) (omega (arith, room f)) (omega arith)

@@ -5,9 +5,9 @@ use native.Mathlib.Nat.{le-trans, le-of-eq}
 use lib.IntN.{natAbs}
 use lib.Dec.{T}
 use lib.Ieee.{Float, Format}
+use Rattle.ieee.proofs.SignedSizes.{natAbs-signed}
+use Rattle.ieee.proofs.Magnitude.{sized}
 use Rattle.rows.specs.Rows.{row, allowedBeat, mostRow}
-use Rattle.rows.proofs.Values.{natAbs-signed}
-use Rattle.rows.proofs.Magnitude.{sized}
 use Rattle.rows.proofs.RowValue.{rowSize, row-value, row-size-within}
 
 pub row-within : (f : Format) (beat : Float) → T (allowedBeat beat) → natAbs (row f beat) ≤ mostRow

@@ -9,9 +9,10 @@ use lib.Signed.{leZ, ltZ, leZ-yes, ltZ-yes, clashℤ}
 use lib.Dec.{T}
 use lib.Pow.{pow-pos}
 use lib.Ieee.{Float, Format, prec, le, lt}
+use Rattle.ieee.proofs.SignedSizes.{ordered-through, ordered-whole}
+use Rattle.ieee.proofs.FloatOrder.{le-sizes, lt-or-le}
+use Rattle.ieee.proofs.Magnitude.{Sized, sized, within-finite}
 use Rattle.rows.specs.Rows.{row, allowedBeat}
-use Rattle.rows.proofs.FloatOrder.{ordered-through, ordered-whole, le-sizes, lt-or-le}
-use Rattle.rows.proofs.Magnitude.{Sized, sized, within-finite}
 use Rattle.rows.proofs.RowValue.{rowSize, row-value, row-size-le, row-size-mono}
 
 row-size-zero : (f : Format) (a c d : ℕ) → 0 < c → 0 < d → a * d ≡ 0 → rowSize f a c ≡ 0

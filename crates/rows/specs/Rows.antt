@@ -5,7 +5,7 @@ use lib.IntN.{ℤ, pos}
 use lib.Ieee.{Float, Format, binary32, mul, div, ofInt}
 use Rattle.ieee.specs.Rounding.{rint, hold}
 use Rattle.ieee.specs.Narrowing.{narrow}
-use Rattle.rows.specs.Magnitude.{withinPower}
+use Rattle.ieee.specs.Magnitude.{withinPower}
 
 -- the row of a beat: 48 times the beat, rounded, at the width f
 abbrev pub row : Format → Float → ℤ

@@ -32,7 +32,7 @@ Allowed e = T (allowedBeat (e .0))
 
 module _ (beats values : List Float) (h : rowsNumber beats values ≡ 0) where
   pub kept-allowed : Each rowKeyOf Allowed (tidied rowKeyOf (entries beats values))
-  kept-allowed = each-tidied rowKeyOf Allowed (entries beats values) (beats-allowed beats values (list-taken _ _ _ _ h .beatsIn))
+  kept-allowed = each-tidied rowKeyOf Allowed (entries beats values) (beats-allowed beats values (list-taken h .beatsIn))
 
   pub keys-agree : Each rowKeyOf (λ (e : Float × Float). rowKeyOf (onItsRow e) ≡ rowKeyOf e) (tidied rowKeyOf (entries beats values))
   keys-agree = each-so rowKeyOf (λ e p. ap rowKey (same-row (e .0) p)) (tidied rowKeyOf (entries beats values)) kept-allowed

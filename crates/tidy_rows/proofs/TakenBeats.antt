@@ -11,12 +11,13 @@ use lib.IntN.{ℤ, pos}
 use lib.Ieee.{Float, nan, inf, fin, up, down, neg, lt, eq, le}
 use lib.Ieee.Fits.{down-pos}
 use Rattle.picks.specs.Pick.{pick}
-use Rattle.rows.specs.Magnitude.{withinPower}
+use Rattle.ieee.specs.Magnitude.{withinPower}
 use Rattle.rows.specs.Rows.{allowedBeat}
-use Rattle.rows.proofs.FloatOrder.{le-sizes}
-use Rattle.rows.proofs.Magnitude.{sized-within}
+use Rattle.ieee.proofs.FloatOrder.{le-sizes}
+use Rattle.ieee.proofs.Magnitude.{sized-within}
 use Rattle.limits.specs.declared.Kind.the-variants.{Beat}
-use Rattle.limits.specs.Numbers.{inRange, rangeOf, upTo, power, nothing, sizeOf, every, allIn}
+use Rattle.limits.specs.Numbers.{inRange, rangeOf, upTo, power, nothing, sizeOf, allIn}
+use Rattle.limits.proofs.Every.{every-rest}
 use Rattle.order.specs.Entries.{entries}
 use Rattle.order.proofs.OrderedList.{Each}
 use Rattle.tidy_rows.specs.RowTidying.{rowKeyOf}
@@ -56,14 +57,10 @@ pub taken-allowed : (x : Float) → inRange (rangeOf Beat) x ≡ true → T (all
 taken-allowed x = taken-within 16 x
 
 -- ---- all beats of a list
-first-and-rest : (test rest : Bool) → pick test rest false ≡ true → (test ≡ true) × (rest ≡ true)
-first-and-rest true rest e = (refl, e)
-first-and-rest false rest e = absurd (subst T (sym e) tt)
-
 pub beats-allowed : (beats values : List Float) → allIn (rangeOf Beat) beats ≡ true → Each rowKeyOf (λ (e : Float × Float). T (allowedBeat (e .0))) (entries beats values)
-unfolding every entries
+unfolding entries
 beats-allowed [] values h = tt
 beats-allowed (beat ∷ beats) [] h = tt
 beats-allowed (beat ∷ beats) (value ∷ values) h =
-    let both = first-and-rest (inRange (rangeOf Beat) beat) (allIn (rangeOf Beat) beats) h in
+    let both = every-rest (inRange (rangeOf Beat)) beat beats h in
     (taken-allowed beat (both .0), beats-allowed beats values (both .1))

@@ -1,44 +1,51 @@
--- `ieee::narrow_f64` meets its contract: a NaN by itself, and any other value by the two halves of its pattern (`SignAndMagnitude.antt`). Assumes nothing.
-use mathlib.Core.Path.{sym, ap, subst}
-use Prim.Native.Nat.{_+_, _*_, _/_}
-use native.Mathlib.Omega.{arith}
+-- `ieee::narrow_f64` meets its contract: narrowing leaves the sign, so the size is narrowed and takes the sign again. Assumes nothing.
+use mathlib.Core.Path.{_≡_, sym, ap, _∙_, subst}
+use mathlib.Core.Bool.{Bool, false, not, _&&_}
 use lib.Dec.{T}
-use lib.Ieee.{binary64, fits, div, ofBits, toBits}
+use lib.Ieee.{Float, binary32, isNan, fits, ne, div, ofBits}
 use lib.Ieee.Compare.{differs-from-itself}
-use Rattle.ieee.specs.Narrowing.{narrow}
-use Rattle.ieee.proofs.SignAndMagnitude.{no-nan, bits-lt, magnitude-le, no-nan-bits, narrow-halves}
+use lib.Ieee.Fits.{and-i}
+use Rattle.ieee.specs.Nearest.{signOf}
+use Rattle.ieee.specs.Narrowing.{narrow, withSign}
+use Rattle.ieee.proofs.Narrow.{narrow-fits, narrow-number, narrow-by-size}
+use Rattle.ieee.proofs.Signs.{sign-is, sign-number}
+use Rattle.ieee.proofs.Values.{number-of-eq}
 use Rattle.ieee.proofs.narrow_f64.Statement.{statement}
 use Rattle.ieee.proofs.narrow_f64.Tie as tie
 
-fits-of : (c : tie.Start) → T (fits binary64 (c .args .x))
-fits-of c = subst T (sym (c .good .0 .1)) tt
+number : (c : tie.Then1) → T (not (isNan (c .before .args .x)))
+number c = number-of-eq (c .before .args .x) (c .if1 .taken)
 
-returns : tie.Need-returns
-unfolding ofBits div narrow
-returns c = sym (ap narrow (differs-from-itself (c .before .args .x) (subst T (sym (c .if1 .taken)) tt)))
-
-float-to-bits-b : tie.Need-float-to-bits-b
-float-to-bits-b c = no-nan (c .before .args .x) (c .if1 .left)
+size-requires : tie.Need-size-requires
+size-requires c κs = number c
 
 narrowed-requires : tie.Need-narrowed-requires
-narrowed-requires c κs = magnitude-le (c .before .args .x) (fits-of (c .before)) (c .if1 .left)
+narrowed-requires c κs =
+    let x = c .before .before .args .x in
+    subst (λ (y : Float). (signOf y ≡ false) × T (not (isNan y))) (sym (c .size .ensures)) (sign-is false x (number (c .before)), sign-number false x (number (c .before)))
 
-mul-result : tie.Need-mul-result
-mul-result c = omega (arith, bits-lt (c .before .before .args .x) (fits-of (c .before .before)))
+signed-as-requires : tie.Need-signed-as-requires
+signed-as-requires c κs =
+    let x = c .before .before .before .args .x in
+    let N = number (c .before .before) in
+    (subst (λ (y : Float). T (not (isNan y))) (sym (c .narrowed .ensures ∙ ap narrow (c .before .size .ensures))) (narrow-number (withSign false x) (sign-number false x N)), N)
 
-add-result : tie.Need-add-result
-add-result c = omega (arith, bits-lt (c .before .before .args .x) (fits-of (c .before .before)))
+result-is : (c : tie.After-signed-as) → c .signed-as .result ≡ narrow (c .before .before .before .before .args .x)
+result-is c =
+    let x = c .before .before .before .before .args .x in
+    c .signed-as .ensures ∙ ap (withSign (signOf x)) (c .before .narrowed .ensures ∙ ap narrow (c .before .before .size .ensures)) ∙ narrow-by-size x
 
-cast-result : tie.Need-cast-result
-cast-result c = omega (arith, bits-lt (c .before .before .args .x) (fits-of (c .before .before)))
+float-to-float-result : tie.Need-float-to-float-result
+float-to-float-result c =
+    let x = c .before .before .before .before .before .args .x in
+    subst (λ (y : Float). T (fits binary32 y && not (isNan y))) (sym (result-is (c .before))) (and-i (fits binary32 (narrow x)) (not (isNan (narrow x))) (narrow-fits x) (narrow-number x (number (c .before .before .before .before))))
 
-float-from-bits-result : tie.Need-float-from-bits-result
-float-from-bits-result c =
-    let l = c .narrowed .ensures .small in
-    no-nan-bits (toBits binary64 (c .before .before .args .x) / 0x8000_0000_0000_0000 * 0x8000_0000 + c .narrowed .result) (omega arith)
+returns : tie.Need-returns
+returns c = result-is (c .before)
 
 returns-2 : tie.Need-returns-2
-returns-2 c = narrow-halves (c .before .before .args .x) (fits-of (c .before .before)) (c .narrowed .result) (c .narrowed .ensures)
+unfolding ofBits div narrow ne
+returns-2 c = sym (ap narrow (differs-from-itself (c .before .args .x) (subst (λ (t : Bool). T (not t)) (sym (c .if1 .left)) tt)))
 
 pub narrow-f64-spec : {M : Type 1} → statement M
-narrow-f64-spec = tie.close (tie.spec returns float-to-bits-b narrowed-requires mul-result add-result cast-result float-from-bits-result returns-2)
+narrow-f64-spec = tie.close (tie.spec size-requires narrowed-requires signed-as-requires float-to-float-result returns returns-2)

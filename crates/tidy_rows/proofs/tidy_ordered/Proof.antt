@@ -16,7 +16,7 @@ use Rattle.tidy_rows.proofs.tidy_ordered.Statement.{statement}
 use Rattle.tidy_rows.proofs.tidy_ordered.Tie as tie
 
 even : (c : tie.Start) → length (c .args .beats .now) ≡ length (c .args .values .now)
-even c = list-taken _ _ _ _ (c .pre .0) .same
+even c = list-taken (c .pre .0) .even
 
 kept : (c : tie.Start) → length (c .args .beats .now) - c .args .repeated ≡ length (lasts rowKeyOf (entries (c .args .beats .now) (c .args .values .now)))
 kept c = omega (arith, c .pre .1 .1, lasts-length (c .args .beats .now) (c .args .values .now) (even c))

@@ -9,8 +9,9 @@ use lib.Ieee.{Float, nan, inf, fin, up, down, le}
 use lib.Ieee.Exact.{HasValue}
 use lib.Ieee.Fits.{down-pos, and-i, and-l, and-r}
 use lib.Ieee.Scale.{finite}
-use Rattle.rows.specs.Magnitude.{withinPower}
-use Rattle.rows.proofs.FloatOrder.{Ordered, le-sizes, sizes-le}
+use Rattle.ieee.specs.Magnitude.{withinPower}
+use Rattle.ieee.proofs.SignedSizes.{Ordered}
+use Rattle.ieee.proofs.FloatOrder.{le-sizes, sizes-le}
 
 -- x is num / den, negative or not, and no further from 0 than 2 ^ k
 pub record Sized (k : ℕ) (x : Float) : Type 0 where

@@ -1,27 +1,22 @@
 -- How large what `round` makes of a / b is, in units of the format's smallest value (`grid`), over the format: against whole numbers, powers of two, and a / b itself. Assumes nothing.
-use mathlib.Core.Path.{_≡_, sym, ap, _∙_, subst}
+use mathlib.Core.Path.{_≡_, sym, ap, _∙_}
 use mathlib.Core.Logic.{inl, inr}
-use mathlib.Core.Bool.{Bool, false}
+use mathlib.Core.Bool.{false}
 use Prim.Native.Nat.{ℕ, suc, _+_, _-_, _*_, _/_, _^_, _≤_, _<_}
 use native.Mathlib.Nat.{le-trans, le-of-eq, lt-of-le-of-lt, lt-of-lt-of-le, mul-one, mul-comm, mul-assoc, mul-right-comm, mul-le-mul-right, mul-le-mul-left, mul-lt-mul-of-pos-right, mul-pos, le-of-mul-le-mul-right, add-mul, add-le-add, eq-zero-or-pos, le-div-iff-mul-le, div-lt-iff-lt-mul}
 use native.Mathlib.Omega.{arith}
 use lib.Pow.{pow-add, pow-pos, pow-mono}
-use lib.Ieee.{Float, Format, prec, emax, low, round}
+use lib.Ieee.{Format, prec, emax, low, round}
 use lib.Ieee.Digits.{size-le, size-reaches}
-use lib.Ieee.Exact.{HasValue, units-val}
-use lib.Ieee.Fits.{round-is, two, reach}
+use lib.Ieee.Fits.{two, reach}
 use lib.Ieee.Order.{round-mono}
 use lib.Ieee.Scale.{grid, overflow, normal-of-fraction}
 use Rattle.ieee.proofs.Pack.{dropped, held, held-ge}
 use Rattle.ieee.proofs.Snap.{size-gt}
-use Rattle.ieee.proofs.Rint.{closest-le, closest-ge}
-use Rattle.rows.proofs.FloatOrder.{le-sizes}
-use Rattle.rows.proofs.NearestWhole.{closest-nearest}
-
--- what is made, where it is no infinity
-module _ (f : Format) (a b : ℕ) where
-  pub round-value : (s : Bool) → grid f a b < overflow f → HasValue (round f s a b) s (grid f a b) (2 ^ low f)
-  round-value s h = subst (λ (z : Float). HasValue z s (grid f a b) (2 ^ low f)) (sym (round-is f s a b)) (units-val f s (held f a b) (dropped f a b) h)
+use Rattle.ieee.proofs.ClosestLaws.{closest-le, closest-ge}
+use Rattle.ieee.proofs.Units.{round-units}
+use Rattle.ieee.proofs.FloatOrder.{le-sizes}
+use Rattle.ieee.proofs.NearestWhole.{closest-err}
 
 -- ---- at most a whole number that the format counts to, where the fraction is
 module _ (f : Format) (a b k : ℕ) (B : 0 < b) (K : k < 2 ^ prec f) (h : a ≤ k * b) where
@@ -72,7 +67,7 @@ pub grid-mono : (f : Format) (a b c d : ℕ) → 0 < b → 0 < d → grid f a b 
 grid-mono f a b c d B D u v h =
     let L = 2 ^ low f in
     le-of-mul-le-mul-right
-    (le-sizes (round f false a b) (round f false c d) false false (grid f a b) L (grid f c d) L (round-value f a b false u) (round-value f c d false v) (round-mono f a b c d B D h)) (pow-pos (low f))
+    (le-sizes (round f false a b) (round f false c d) false false (grid f a b) L (grid f c d) L (round-units f false a b u) (round-units f false c d v) (round-mono f a b c d B D h)) (pow-pos (low f))
 
 -- ---- close to the fraction
 -- x is off from y by at most one part in p of y
@@ -113,8 +108,8 @@ module _ (f : Format) (a b : ℕ) (B : 0 < b) (normal : 2 ^ (prec f - 1) * b ≤
       let n = a * 2 ^ low f in
       let k = 2 ^ dropped f a b in
       let q = held f a b in
-      let e = closest-nearest n (b * k) (mul-pos B (pow-pos (dropped f a b))) in
+      let e = closest-err n (b * k) (mul-pos B (pow-pos (dropped f a b))) in
       let i : q * (b * k) ≡ q * k * b = ap (λ (x : ℕ). q * x) (mul-comm b k) ∙ sym (mul-assoc q k b) in
-      let above = e .not-above in
-      let below = e .not-below in
+      let above = e .0 in
+      let below = e .1 in
       spread (q * k * b) n (b * k) p (le-trans (mul-le-mul-left (b * k) h) unit-le) (omega arith) (omega arith)
