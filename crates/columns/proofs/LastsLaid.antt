@@ -14,41 +14,52 @@ use Rattle.order.specs.Entries.{first, second}
 use Rattle.order.proofs.Compare.{same?}
 use Rattle.order.proofs.TidiedList.{lasts-skip, lasts-keep, lasts-final, lasts-end}
 use Rattle.order.proofs.LastEntries.{lasts-some}
-use Rattle.columns.proofs.FilledByTurns.{Laying, laying-none, laying-room, laying-later, laying-over, laying-write, laying-all}
+use Rattle.order.proofs.LaidOverFront.{Laying, laying-none, laying-all}
+use Rattle.order.proofs.WrittenAhead.{Ahead, ahead-none, ahead-room, ahead-over, ahead-kept}
 
 -- the list xs, whose entries are laid as `put` says: after i of them, count are kept
 pub record LastsLaying {X A B : Type 0} (key : X → ℕ) (put : X → A × B) (xs : List X) (firstOld firstNew : List A) (secondOld secondNew : List B) (i count : ℕ) : Type 0 where
   pub few : count ≤ i
-  pub laying : Laying (map put (lasts key xs)) (map put (lasts key (drop i xs))) firstOld firstNew secondOld secondNew count (count + 1)
+  pub firsts : Ahead (map first (map put (lasts key xs))) firstOld firstNew (map first (map put (lasts key (drop i xs)))) count
+  pub seconds : Ahead (map second (map put (lasts key xs))) secondOld secondNew (map second (map put (lasts key (drop i xs)))) count
 
 module _ {X A B : Type 0} (key : X → ℕ) (put : X → A × B) {firstOld : List A} {secondOld : List B} where
   pub lasts-none : {xs : List X} → LastsLaying key put xs firstOld firstOld secondOld secondOld 0 0
-  lasts-none = record { few = omega arith; laying = laying-later laying-none 1 (omega arith) }
+  lasts-none = record { few = omega arith; firsts = ahead-none (laying-none _ _); seconds = ahead-none (laying-none _ _) }
 
   module _ {xs : List X} {firstNew : List A} {secondNew : List B} {i count : ℕ}
       (p : LastsLaying key put xs firstOld firstNew secondOld secondNew i count) (fits : length (lasts key xs) ≤ min (length firstOld) (length secondOld)) where
     pub lasts-room : i < length xs → (count < length firstNew) × (count < length secondNew)
     lasts-room h =
         let some : 0 < length (lasts key (drop i xs)) = lasts-some key (drop i xs) (simp length-drop (omega arith)) in
-        laying-room (p .laying) (simp length-map (omega arith)) (simp length-map (omega arith))
+        (ahead-room (p .firsts) (simp length-map some) (simp length-map (omega arith)), ahead-room (p .seconds) (simp length-map some) (simp length-map (omega arith)))
 
     -- the entry at i, written as a and b
     module _ (none : X) (a : A) (b : B) (is : (a, b) ≡ put (getD xs i none)) where
-      kept : i < length xs → lasts key (drop i xs) ≡ getD xs i none ∷ lasts key (drop (i + 1) xs)
-          → Laying (map put (lasts key xs)) (map put (lasts key (drop (i + 1) xs))) firstOld (set firstNew count a) secondOld (set secondNew count b) (count + 1) (count + 1)
-      kept h e =
-          laying-write (p .laying) (put (getD xs i none)) (map put (lasts key (drop (i + 1) xs))) a b (ap (map put) e) (ap first is) (ap second is) (lasts-room h) (omega arith)
+      module _ (inside : i < length xs) (kept : lasts key (drop i xs) ≡ getD xs i none ∷ lasts key (drop (i + 1) xs)) where
+        first-kept : Laying (map first (map put (lasts key xs))) firstOld (set firstNew count a) (map first (map put (lasts key (drop (i + 1) xs)))) (count + 1)
+        first-kept =
+            ahead-kept (p .firsts) a (map first (map put (lasts key (drop (i + 1) xs))))
+            (ap (λ (l : List X). map first (map put l)) kept ∙ ap (λ (e : A × B). first e ∷ map first (map put (lasts key (drop (i + 1) xs)))) (sym is)) (lasts-room inside .0)
+
+        second-kept : Laying (map second (map put (lasts key xs))) secondOld (set secondNew count b) (map second (map put (lasts key (drop (i + 1) xs)))) (count + 1)
+        second-kept =
+            ahead-kept (p .seconds) b (map second (map put (lasts key (drop (i + 1) xs))))
+            (ap (λ (l : List X). map second (map put l)) kept ∙ ap (λ (e : A × B). second e ∷ map second (map put (lasts key (drop (i + 1) xs)))) (sym is)) (lasts-room inside .1)
 
       module _ (more : i + 1 < length xs) where
         inside : i < length xs
         inside = omega arith
 
         written-over : key (getD xs i none) ≡ key (getD xs (i + 1) none) → LastsLaying key put xs firstOld (set firstNew count a) secondOld (set secondNew count b) (i + 1) count
-        written-over t = record { few = omega (arith, p .few); laying = rw (lasts-skip key none xs i inside more t) at (laying-over (p .laying) a b (omega arith)) }
+        written-over t =
+            let skip = lasts-skip key none xs i inside more t in
+            record { few = omega (arith, p .few); firsts = rw skip at (ahead-over (p .firsts) a); seconds = rw skip at (ahead-over (p .seconds) b) }
 
         goes-on : (key (getD xs i none) ≡ key (getD xs (i + 1) none) → ⊥) → LastsLaying key put xs firstOld (set firstNew count a) secondOld (set secondNew count b) (i + 1) (count + 1)
         goes-on t =
-            record { few = omega (arith, p .few); laying = laying-later (kept inside (lasts-keep key none xs i inside more t)) (count + 1 + 1) (omega arith) }
+            let keep = lasts-keep key none xs i inside more t in
+            record { few = omega (arith, p .few); firsts = ahead-none (first-kept inside keep); seconds = ahead-none (second-kept inside keep) }
 
         pub lasts-turn : (same : ℕ) → same ≡ cond (eqb (key (getD xs i none)) (key (getD xs (i + 1) none))) 1 0
             → LastsLaying key put xs firstOld (set firstNew count a) secondOld (set secondNew count b) (i + 1) (count + (1 - same))
@@ -62,4 +73,7 @@ module _ {X A B : Type 0} (key : X → ℕ) (put : X → A × B) {firstOld : Lis
       -- the last one
       pub lasts-all : i < length xs → length xs ≤ i + 1
           → (set firstNew count a ≡ laid (map first (map put (lasts key xs))) firstOld) × (set secondNew count b ≡ laid (map second (map put (lasts key xs))) secondOld)
-      lasts-all h k = laying-all (kept h (lasts-final key none xs i h k)) (ap (map put) (lasts-end key xs (i + 1) k)) (omega arith)
+      lasts-all h k =
+          let final = lasts-final key none xs i h k in
+          let none-left = ap (map put) (lasts-end key xs (i + 1) k) in
+          (laying-all _ _ _ _ _ (first-kept h final) (ap (map first) none-left), laying-all _ _ _ _ _ (second-kept h final) (ap (map second) none-left))

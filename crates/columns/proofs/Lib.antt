@@ -1,5 +1,5 @@
 pub mod OneOutcome
 pub mod Rooms
 pub mod LaidEach
-pub mod FilledByTurns
+pub mod EachOverFront
 pub mod LastsLaid

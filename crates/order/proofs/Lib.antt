@@ -18,7 +18,7 @@ pub mod FloatKeys
 pub mod LaidOverFront
 pub mod GatheredByPlaces
 pub mod OneOrder
+pub mod WrittenAhead
 pub mod LastEntries
 pub mod FallsCounted
-pub mod SortedColumns
 pub mod EachEntry

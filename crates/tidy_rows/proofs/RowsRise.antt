@@ -12,6 +12,7 @@ use Rattle.rows.specs.Rows.{row, allowedBeat, mostRow}
 use Rattle.rows.proofs.RowOfBeat.{row-of-beat}
 use Rattle.rows.proofs.RowWithin.{row-within}
 use Rattle.rows.proofs.BeatsRise.{beats-rise}
+use Rattle.limits.proofs.ListTaken.{list-taken}
 use Rattle.order.specs.Order.{tidied, Above, Rises}
 use Rattle.order.specs.Entries.{entries}
 use Rattle.order.specs.RowKey.{rowKey}
@@ -20,7 +21,6 @@ use Rattle.order.proofs.TidiedList.{tidied-rises}
 use Rattle.order.proofs.RowKeys.{rows-below}
 use Rattle.order.proofs.EachEntry.{each-so, each-tidied, rises-map}
 use Rattle.tidy_rows.specs.RowTidying.{rowKeyAt, onRow, rowKeyOf, onItsRow, tidyRows, rowsNumber}
-use Rattle.limits.proofs.ListTaken.{list-taken}
 use Rattle.tidy_rows.proofs.TakenBeats.{beats-allowed}
 
 -- ---- the row of a beat that was moved to its row

@@ -1,32 +1,26 @@
 -- `tidy_rows::lay_each` lays every entry on its row. Assumes nothing.
-use Prim.Native.Nat.{ℕ, _+_, _-_, _≤_, _<_}
-use mathlib.Core.Path.{_≡_, ap, sym, _∙_}
-use mathlib.Core.List.{map}
+use Prim.Native.Nat.{_-_}
+use mathlib.Core.Path.{refl, _∙_}
+use mathlib.Core.List.{map-id}
 use native.Mathlib.Omega.{arith}
 use lib.Ieee.{Float, nan}
-use lib.ListN.{length, drop, getD}
-use Rattle.order.specs.Entries.{entries}
-use Rattle.columns.proofs.FilledByTurns.{Laying, laying-none, each-turn, each-all}
-use Rattle.tidy_rows.specs.RowTidying.{onItsRow}
-use Rattle.tidy_rows.proofs.BothWays.{each-length, each-at}
+use lib.ListN.{length}
+use Rattle.columns.proofs.LaidEach.{LayingEach, begun, turned, ended}
+use Rattle.columns.proofs.EachOverFront.{each-over-front}
+use Rattle.tidy_rows.specs.RowTidying.{onRow}
+use Rattle.tidy_rows.proofs.BothWays.{each-beat, each-value}
 use borrow.Author.Needs.{needs}
 use Rattle.tidy_rows.proofs.lay_each.Statement.{statement}
 use Rattle.tidy_rows.proofs.lay_each.Tie as tie
 
 abbrev Inv-loop : tie.InvT-loop
-Inv-loop beats values out-beats₀ out-values₀ i₀ out-beats out-values i = (i ≤ length beats) × Laying (map onItsRow (entries beats values)) (drop i (map onItsRow (entries beats values))) out-beats₀ out-beats out-values₀ out-values i i
+Inv-loop beats values out-beats₀ out-values₀ i₀ out-beats out-values i = LayingEach onRow beats out-beats₀ (length beats) out-beats i × LayingEach (λ (value : Float). value) values out-values₀ (length beats) out-values i
 
 abbrev μ-loop : tie.MeasureT-loop
 μ-loop beats values out-beats₀ out-values₀ i₀ out-beats out-values i = length beats - i
 
-room : (c : tie.In-loop Inv-loop μ-loop) → (c .before .loop .i < length (c .before .loop .out-beats)) × (c .before .loop .i < length (c .before .loop .out-values))
-room c =
-    let pre = c .before .before .before .before .before .before .pre in
-    let laying = c .before .loop .inv .1 in
-    (omega (arith, pre .1, laying .firsts .size), omega (arith, pre .1, laying .seconds .size))
-
 loop-holds : tie.Need-loop-holds Inv-loop μ-loop
-loop-holds c = (omega arith, laying-none)
+loop-holds c = (begun (omega arith), begun (omega arith))
 
 mul-on-row : tie.Need-mul-on-row Inv-loop μ-loop
 mul-on-row c = search needs
@@ -41,7 +35,7 @@ mul-out-beats : tie.Need-mul-out-beats Inv-loop μ-loop
 mul-out-beats c = search needs
 
 slice-write-out-beats : tie.Need-slice-write-out-beats Inv-loop μ-loop
-slice-write-out-beats c = room (c .before .before) .0
+slice-write-out-beats c = omega (arith, c .before .before .before .loop .inv .0 .long)
 
 mul-out-values : tie.Need-mul-out-values Inv-loop μ-loop
 mul-out-values c = search needs
@@ -53,7 +47,7 @@ mul-out-values-2 : tie.Need-mul-out-values-2 Inv-loop μ-loop
 mul-out-values-2 c = search needs
 
 slice-write-out-values : tie.Need-slice-write-out-values Inv-loop μ-loop
-slice-write-out-values c = room (c .before .before .before) .1
+slice-write-out-values c = omega (arith, c .before .before .before .before .loop .inv .1 .long)
 
 add-i : tie.Need-add-i Inv-loop μ-loop
 add-i c = search needs
@@ -63,27 +57,29 @@ loop-less c = search needs
 
 loop-again : tie.Need-loop-again Inv-loop μ-loop
 loop-again c =
-    let at = c .before .before .before .before in
-    let beats = at .before .before .before .before .before .args .beats .now in
-    let values = at .before .before .before .before .before .args .values .now in
-    let i = at .loop .i in
-    let same = at .before .before .before .before .before .pre .0 in (
-      omega arith,
-      each-turn (onItsRow (nan, nan)) (c .before .on-row .result) (getD values i nan) (omega (arith, each-length beats values same)) (omega (arith, each-length beats values same))
-          (ap (λ (beat : Float). (beat, getD values i nan)) (c .before .on-row .ensures) ∙ sym (each-at beats values same i)) (at .loop .inv .1),
-    )
+    let inv = c .before .before .before .before .loop .inv in
+    let more = c .before .before .before .loop-test .taken in
+    (turned (inv .0) nan more (c .before .on-row .ensures), turned (inv .1) nan more refl)
 
 same-length : tie.Need-same-length Inv-loop μ-loop
-same-length c = c .before .loop .inv .1 .firsts .size
+same-length c = c .before .loop .inv .0 .long
 
 same-length-2 : tie.Need-same-length-2 Inv-loop μ-loop
-same-length-2 c = c .before .loop .inv .1 .seconds .size
+same-length-2 c = c .before .loop .inv .1 .long
 
 returns : tie.Need-returns Inv-loop μ-loop
 returns c =
     let start = c .before .before .before .before .before .before in
-    let laid = each-all (omega (arith, each-length (start .args .beats .now) (start .args .values .now) (start .pre .0))) (c .before .loop .inv .1) in
-    record { beatsAre = laid .0; valuesAre = laid .1 }
+    let given = start .args in
+    let same = start .pre .0 in
+    let inv = c .before .loop .inv in
+    let past = c .loop-test .left in
+    record {
+      beatsAre = ended (inv .0) past ∙ each-over-front onRow (given .beats .now) (given .out-beats .now) (omega arith) ∙ rw (each-beat (given .beats .now) (given .values .now) same);
+      valuesAre =
+          ended (inv .1) past ∙ each-over-front (λ (value : Float). value) (given .values .now) (given .out-values .now) (omega arith)
+          ∙ rw (map-id (given .values .now), each-value (given .beats .now) (given .values .now) same);
+    }
 
 pub lay-each-spec : {M : Type 1} → statement M
 lay-each-spec =

@@ -5,11 +5,10 @@ use native.Mathlib.Omega.{arith}
 use lib.Ieee.{Float, nan}
 use lib.ListN.{length, getD, length-set}
 use Rattle.order.specs.Entries.{entries}
-use Rattle.order.proofs.Columns.{length-entries}
+use Rattle.order.proofs.Columns.{length-entries, entries-getD}
 use Rattle.order.proofs.LastEntries.{repeat-few}
 use Rattle.columns.proofs.LastsLaid.{LastsLaying, lasts-none, lasts-room, lasts-turn, lasts-all}
 use Rattle.tidy_rows.specs.RowTidying.{rowKeyAt, rowKeyOf, onItsRow}
-use Rattle.tidy_rows.proofs.BothWays.{entry-at}
 use borrow.Author.Needs.{needs}
 use Rattle.tidy_rows.proofs.lay_lasts.Statement.{statement}
 use Rattle.tidy_rows.proofs.lay_lasts.Tie as tie
@@ -106,8 +105,8 @@ loop-again c =
     let i = at .loop .i in (
       omega arith,
       lasts-turn rowKeyOf onItsRow (at .loop .inv .1) (start .pre .1) (nan, nan) (c .before .before .before .before .on-row .result) (getD values i nan)
-          (ap (λ (beat : Float). (beat, getD values i nan)) (c .before .before .before .before .on-row .ensures) ∙ ap onItsRow (sym (entry-at beats values same i)))
-          (omega (arith, length-entries beats values same)) (c .repeats .result) (rw (entry-at beats values same i, entry-at beats values same (i + 1)) (c .repeats .ensures)),
+          (ap (λ (beat : Float). (beat, getD values i nan)) (c .before .before .before .before .on-row .ensures) ∙ ap onItsRow (sym (entries-getD beats values i nan nan same)))
+          (omega (arith, length-entries beats values same)) (c .repeats .result) (rw (entries-getD beats values i nan nan same, entries-getD beats values (i + 1) nan nan same) (c .repeats .ensures)),
     )
 
 mul-on-row-2 : tie.Need-mul-on-row-2 Inv-loop μ-loop
@@ -138,10 +137,10 @@ slice-write-out-values-2 : tie.Need-slice-write-out-values-2 Inv-loop μ-loop
 slice-write-out-values-2 c = room (c .before .before .before .before) .1
 
 same-length : tie.Need-same-length Inv-loop μ-loop
-same-length c = simp length-set (c .before .before .before .before .loop .inv .1 .laying .firsts .size)
+same-length c = simp length-set (c .before .before .before .before .loop .inv .1 .firsts .size)
 
 same-length-2 : tie.Need-same-length-2 Inv-loop μ-loop
-same-length-2 c = simp length-set (c .before .before .before .before .loop .inv .1 .laying .seconds .size)
+same-length-2 c = simp length-set (c .before .before .before .before .loop .inv .1 .seconds .size)
 
 returns : tie.Need-returns Inv-loop μ-loop
 returns c =
@@ -153,7 +152,7 @@ returns c =
     let i = at .loop .i in
     let laid =
     lasts-all rowKeyOf onItsRow (at .loop .inv .1) (start .pre .1) (nan, nan) (c .before .on-row2 .result) (getD values i nan)
-    (ap (λ (beat : Float). (beat, getD values i nan)) (c .before .on-row2 .ensures) ∙ ap onItsRow (sym (entry-at beats values same i)))
+    (ap (λ (beat : Float). (beat, getD values i nan)) (c .before .on-row2 .ensures) ∙ ap onItsRow (sym (entries-getD beats values i nan nan same)))
     (omega (arith, length-entries beats values same)) (omega (arith, length-entries beats values same)) in
     record { beatsAre = laid .0; valuesAre = laid .1 }
 

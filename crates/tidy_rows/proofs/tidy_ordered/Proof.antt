@@ -6,9 +6,10 @@ use native.Mathlib.Omega.{arith}
 use lib.ListN.{length, length-map}
 use Rattle.order.specs.Order.{lasts}
 use Rattle.order.specs.Entries.{entries}
+use Rattle.order.proofs.Columns.{length-entries}
 use Rattle.tidy_rows.specs.RowTidying.{rowKeyAt, rowKeyOf, onItsRow}
 use Rattle.limits.proofs.ListTaken.{list-taken}
-use Rattle.tidy_rows.proofs.BothWays.{each-length, lasts-length, ordered-way, plain-way}
+use Rattle.tidy_rows.proofs.BothWays.{lasts-length, ordered-way, plain-way}
 use Rattle.tidy_rows.proofs.Outcomes.{no-room, all-laid}
 use borrow.Author.Needs.{needs}
 use Rattle.tidy_rows.proofs.tidy_ordered.Statement.{statement}
@@ -55,7 +56,7 @@ returns-2 c =
     let given = start .args in
     let same = even start in
     let list = map onItsRow (entries (given .beats .now) (given .values .now)) in
-    let long = each-length (given .beats .now) (given .values .now) same in
+    let long = length-map (entries (given .beats .now) (given .values .now)) onItsRow ∙ length-entries (given .beats .now) (given .values .now) same in
     let none = c .before .before .before .before .before .before .before .if2 .taken in
     all-laid (given .beats .now) (given .values .now) (given .out-beats .now) (given .out-values .now) (start .pre .0) list
     (plain-way (given .beats .now) (given .values .now) same (start .pre .1 .0) (omega (arith, start .pre .1 .1, none)))
