@@ -1,4 +1,5 @@
 pub mod TakenBeats
+pub mod RowPattern
 pub mod BothWays
 pub mod Outcomes
 pub mod RowsRise

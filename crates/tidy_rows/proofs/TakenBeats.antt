@@ -1,5 +1,5 @@
 -- A number that is taken up to 2 ^ k lies from -2 ^ k to 2 ^ k: so the beats of a list that passes the tests are allowed beats. Assumes nothing.
-use Prim.Native.Nat.{ℕ, _+_, _*_, _^_, _≤_}
+use Prim.Native.Nat.{ℕ, zero, suc, _+_, _*_, _^_, _≤_, _<_}
 use mathlib.Core.Path.{_≡_, refl, sym, ap, subst}
 use mathlib.Core.Bool.{Bool, true, false}
 use mathlib.Core.List.{List, [], _∷_}
@@ -8,6 +8,7 @@ use native.Mathlib.Omega.{arith}
 use borrow.Author.Tests.{ltb-true, ltb-false}
 use lib.Dec.{T}
 use lib.IntN.{ℤ, pos}
+use lib.ListN.{length, getD}
 use lib.Ieee.{Float, nan, inf, fin, up, down, neg, lt, eq, le}
 use lib.Ieee.Fits.{down-pos}
 use Rattle.picks.specs.Pick.{pick}
@@ -57,6 +58,11 @@ pub taken-allowed : (x : Float) → inRange (rangeOf Beat) x ≡ true → T (all
 taken-allowed x = taken-within 16 x
 
 -- ---- all beats of a list
+pub allowed-at : (beats : List Float) (i : ℕ) → allIn (rangeOf Beat) beats ≡ true → i < length beats → T (allowedBeat (getD beats i nan))
+allowed-at [] i h l = absurd (omega arith)
+allowed-at (beat ∷ beats) zero h l = taken-allowed beat (every-rest (inRange (rangeOf Beat)) beat beats h .0)
+allowed-at (beat ∷ beats) (suc i) h l = allowed-at beats i (every-rest (inRange (rangeOf Beat)) beat beats h .1) (omega arith)
+
 pub beats-allowed : (beats values : List Float) → allIn (rangeOf Beat) beats ≡ true → Each rowKeyOf (λ (e : Float × Float). T (allowedBeat (e .0))) (entries beats values)
 unfolding entries
 beats-allowed [] values h = tt

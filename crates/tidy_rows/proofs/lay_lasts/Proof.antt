@@ -8,6 +8,7 @@ use Rattle.order.specs.Entries.{entries}
 use Rattle.order.proofs.Columns.{length-entries, entries-getD}
 use Rattle.order.proofs.LastEntries.{repeat-few}
 use Rattle.columns.proofs.LastsLaid.{LastsLaying, lasts-none, lasts-room, lasts-turn, lasts-all}
+use Rattle.tidy_rows.proofs.TakenBeats.{allowed-at}
 use Rattle.tidy_rows.specs.RowTidying.{rowKeyAt, rowKeyOf, onItsRow}
 use borrow.Author.Needs.{needs}
 use Rattle.tidy_rows.proofs.lay_lasts.Statement.{statement}
@@ -22,8 +23,8 @@ abbrev μ-loop : tie.MeasureT-loop
 room : (c : tie.At-loop Inv-loop μ-loop) → (c .loop .count < length (c .loop .out-beats)) × (c .loop .count < length (c .loop .out-values))
 room c =
     let start = c .before .before .before .before .before in
-    let same = start .pre .0 .1 in
-    lasts-room rowKeyOf onItsRow (c .loop .inv .1) (start .pre .1) (omega (arith, length-entries (start .args .beats .now) (start .args .values .now) same))
+    let same = start .pre .1 .0 .1 in
+    lasts-room rowKeyOf onItsRow (c .loop .inv .1) (start .pre .1 .1) (omega (arith, length-entries (start .args .beats .now) (start .args .values .now) same))
 
 single : (c : tie.After-repeats Inv-loop μ-loop) → c .repeats .result ≤ 1
 single c =
@@ -33,7 +34,7 @@ single c =
     repeat-few (rowKeyAt (getD beats i nan)) (rowKeyAt (getD beats (i + 1) nan)) (c .repeats .ensures)
 
 loop-holds : tie.Need-loop-holds Inv-loop μ-loop
-loop-holds c = (c .before .before .before .before .pre .0 .0, lasts-none rowKeyOf onItsRow)
+loop-holds c = (c .before .before .before .before .pre .1 .0 .0, lasts-none rowKeyOf onItsRow)
 
 add-loop : tie.Need-add-loop Inv-loop μ-loop
 add-loop c = search needs
@@ -81,7 +82,12 @@ shared-slice-read-repeats-2 : tie.Need-shared-slice-read-repeats-2 Inv-loop μ-l
 shared-slice-read-repeats-2 c = search needs
 
 repeats-requires : tie.Need-repeats-requires Inv-loop μ-loop
-repeats-requires c κs = search needs
+repeats-requires c κs =
+    let at = c .before .before .before .before .before .before in
+    let start = at .before .before .before .before .before in
+    let beats = start .args .beats .now in
+    let i = at .loop .i in
+    (allowed-at beats i (start .pre .0) (omega arith), allowed-at beats (i + 1) (start .pre .0) (c .before .before .before .before .before .loop-test .taken))
 
 sub-count : tie.Need-sub-count Inv-loop μ-loop
 sub-count c = omega (arith, single c)
@@ -101,10 +107,10 @@ loop-again c =
     let start = at .before .before .before .before .before in
     let beats = start .args .beats .now in
     let values = start .args .values .now in
-    let same = start .pre .0 .1 in
+    let same = start .pre .1 .0 .1 in
     let i = at .loop .i in (
       omega arith,
-      lasts-turn rowKeyOf onItsRow (at .loop .inv .1) (start .pre .1) (nan, nan) (c .before .before .before .before .on-row .result) (getD values i nan)
+      lasts-turn rowKeyOf onItsRow (at .loop .inv .1) (start .pre .1 .1) (nan, nan) (c .before .before .before .before .on-row .result) (getD values i nan)
           (ap (λ (beat : Float). (beat, getD values i nan)) (c .before .before .before .before .on-row .ensures) ∙ ap onItsRow (sym (entries-getD beats values i nan nan same)))
           (omega (arith, length-entries beats values same)) (c .repeats .result) (rw (entries-getD beats values i nan nan same, entries-getD beats values (i + 1) nan nan same) (c .repeats .ensures)),
     )
@@ -148,10 +154,10 @@ returns c =
     let start = at .before .before .before .before .before in
     let beats = start .args .beats .now in
     let values = start .args .values .now in
-    let same = start .pre .0 .1 in
+    let same = start .pre .1 .0 .1 in
     let i = at .loop .i in
     let laid =
-    lasts-all rowKeyOf onItsRow (at .loop .inv .1) (start .pre .1) (nan, nan) (c .before .on-row2 .result) (getD values i nan)
+    lasts-all rowKeyOf onItsRow (at .loop .inv .1) (start .pre .1 .1) (nan, nan) (c .before .on-row2 .result) (getD values i nan)
     (ap (λ (beat : Float). (beat, getD values i nan)) (c .before .on-row2 .ensures) ∙ ap onItsRow (sym (entries-getD beats values i nan nan same)))
     (omega (arith, length-entries beats values same)) (omega (arith, length-entries beats values same)) in
     record { beatsAre = laid .0; valuesAre = laid .1 }

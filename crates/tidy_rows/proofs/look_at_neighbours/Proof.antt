@@ -1,11 +1,14 @@
 -- `tidy_rows::look_at_neighbours` counts falls and repeats over each two neighbours. Assumes nothing.
 use Prim.Native.Nat.{_+_, _-_, _≤_}
 use native.Mathlib.Omega.{arith}
+use lib.Dec.{T}
 use lib.Ieee.{nan}
 use lib.ListN.{length, getD}
+use Rattle.rows.specs.Rows.{allowedBeat}
 use Rattle.order.proofs.LastEntries.{Repeats, repeats-none, repeat-few, repeats-turn, repeats-all}
 use Rattle.order.proofs.FallsCounted.{Falls, falls-none, fall-few, falls-turn, falls-all}
 use Rattle.tidy_rows.specs.RowTidying.{rowKeyAt}
+use Rattle.tidy_rows.proofs.TakenBeats.{allowed-at}
 use borrow.Author.Needs.{needs}
 use Rattle.tidy_rows.proofs.look_at_neighbours.Statement.{statement}
 use Rattle.tidy_rows.proofs.look_at_neighbours.Tie as tie
@@ -15,6 +18,14 @@ Inv-loop beats fallen₀ repeated₀ i₀ fallen repeated i = (i ≤ length beat
 
 abbrev μ-loop : tie.MeasureT-loop
 μ-loop beats fallen₀ repeated₀ i₀ fallen repeated i = length beats - i
+
+both : (c : tie.In-loop Inv-loop μ-loop)
+    → T (allowedBeat (getD (c .before .before .before .args .beats .now) (c .before .loop .i) nan)) × T (allowedBeat (getD (c .before .before .before .args .beats .now) (c .before .loop .i + 1) nan))
+both c =
+    let start = c .before .before .before in
+    let beats = start .args .beats .now in
+    let i = c .before .loop .i in
+    (allowed-at beats i (start .pre) (omega arith), allowed-at beats (i + 1) (start .pre) (c .loop-test .taken))
 
 loop-holds : tie.Need-loop-holds Inv-loop μ-loop
 loop-holds c = (omega arith, falls-none rowKeyAt, repeats-none rowKeyAt)
@@ -38,7 +49,7 @@ shared-slice-read-falls-2 : tie.Need-shared-slice-read-falls-2 Inv-loop μ-loop
 shared-slice-read-falls-2 c = search needs
 
 falls-requires : tie.Need-falls-requires Inv-loop μ-loop
-falls-requires c κs = search needs
+falls-requires c κs = both (c .before .before)
 
 add-fallen : tie.Need-add-fallen Inv-loop μ-loop
 add-fallen c =
@@ -62,7 +73,7 @@ shared-slice-read-repeats-2 : tie.Need-shared-slice-read-repeats-2 Inv-loop μ-l
 shared-slice-read-repeats-2 c = search needs
 
 repeats-requires : tie.Need-repeats-requires Inv-loop μ-loop
-repeats-requires c κs = search needs
+repeats-requires c κs = both (c .before .before .before .before .before)
 
 add-repeated : tie.Need-add-repeated Inv-loop μ-loop
 add-repeated c =

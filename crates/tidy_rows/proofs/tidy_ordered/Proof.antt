@@ -66,7 +66,7 @@ returns-2 c =
 lay-lasts-requires : tie.Need-lay-lasts-requires
 lay-lasts-requires c κs =
     let start = c .before .before .before .before .before .before .before .before .before in
-    ((omega (arith, start .pre .1 .1, c .before .before .if2 .left), even start), omega (arith, kept start, c .before .before .before .before .room-of .ensures, c .before .before .before .if1 .left))
+    (list-taken (start .pre .0) .beatsIn, ((omega (arith, start .pre .1 .1, c .before .before .if2 .left), even start), omega (arith, kept start, c .before .before .before .before .room-of .ensures, c .before .before .before .if1 .left)))
 
 same-length-3 : tie.Need-same-length-3
 same-length-3 c = search needs
