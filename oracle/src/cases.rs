@@ -25,6 +25,11 @@ impl Work {
     fn turns(self) -> u64 {
         self.seconds * 2_000_000
     }
+
+    /// How many lists a call is asked.
+    pub fn lists(self) -> u64 {
+        4_000 + self.seconds * 2_000
+    }
 }
 
 pub trait Cases: Number {
@@ -169,7 +174,7 @@ impl Cases for i32 {
 }
 
 /// 2^exponent, subnormal ones too.
-fn power(exponent: i32) -> f64 {
+pub fn power(exponent: i32) -> f64 {
     f64::from_bits(if exponent < -1022 { 1 << (exponent + 1074) } else { ((exponent + 1023) as u64) << 52 })
 }
 

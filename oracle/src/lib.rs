@@ -18,7 +18,10 @@ use missing::{nps, parse, resolve_difficulty_label, stats, supported_stepstype_l
 
 pub mod calls;
 pub mod cases;
+pub mod lists;
 pub mod numbers;
 pub mod random;
 #[cfg(feature = "port")]
 pub mod tally;
+#[cfg(feature = "port")]
+pub mod tidying;

@@ -4,6 +4,7 @@ ghost use Prim.Native.Nat.{min};
 ghost use Rattle.columns.specs.Laying.{roomNumber, refusedBy};
 
 // The refusal number, 0 where the call is taken, and how many entries were written.
+#[repr(C)]
 pub struct Outcome {
     pub number: u32,
     pub count: usize,

@@ -1,4 +1,7 @@
 // The calls of `ieee` and `rows` under C names, for native programs to link: each by itself, and in a loop over lent columns.
+// After them the calls that tidy lists.
+use columns::Outcome;
+use limits::Kind;
 ghost use mathlib.Core.Path.{_≡_};
 ghost use Prim.Native.Nat.{min};
 ghost use lib.Ieee.{Float, binary32, binary64};
@@ -6,6 +9,11 @@ ghost use Rattle.ieee.specs.Rounding.{rint, hold};
 ghost use Rattle.ieee.specs.Narrowing.{narrow};
 ghost use Rattle.rows.specs.Rows.{row, beatOf, quantized, quantized32};
 ghost use Rattle.columns.specs.Each.{laidEach};
+ghost use Rattle.columns.specs.Laying.{LaidPair};
+ghost use Rattle.limits.specs.Numbers.{rangeOf};
+ghost use Rattle.limits.specs.Refusals.{listNumber};
+ghost use Rattle.tidy_rows.specs.RowTidying.{RowsTidied};
+ghost use Rattle.tidy_tempos.specs.TempoTidying.{tidyTempos};
 
 #[no_mangle]
 pub extern "C" fn marrighentu_lrint_f64(x: f64) -> i32
@@ -184,4 +192,28 @@ pub extern "C" fn marrighentu_each_quantize_beat_f32(beats: &[f32], quantised: &
         quantised[i] = rows::quantize_beat_f32(beats[i]);
         i += 1;
     }
+}
+
+#[no_mangle]
+pub extern "C" fn marrighentu_tidy_row_segments(
+    beats: &[f64],
+    values: &[f64],
+    out_beats: &mut [f64],
+    out_values: &mut [f64],
+) -> Outcome
+    ensures { λ r. ⌜ RowsTidied (now (beats .entry)) (now (values .entry)) r (now («out_beats» .entry)) (now («out_beats» .exit)) (now («out_values» .entry)) (now («out_values» .exit)) ⌝ }
+{
+    tidy_rows::tidy_row_segments(beats, values, out_beats, out_values)
+}
+
+#[no_mangle]
+pub extern "C" fn marrighentu_tidy_bpms(
+    beats: &[f64],
+    tempos: &[f64],
+    out_beats: &mut [f64],
+    out_tempos: &mut [f64],
+) -> Outcome
+    ensures { λ r. ⌜ LaidPair (listNumber (rangeOf Kind.Beat) (rangeOf Kind.TidyTempo) (now (beats .entry)) (now (tempos .entry))) (tidyTempos (now (beats .entry)) (now (tempos .entry))) r (now («out_beats» .entry)) (now («out_beats» .exit)) (now («out_tempos» .entry)) (now («out_tempos» .exit)) ⌝ }
+{
+    tidy_tempos::tidy_bpms(beats, tempos, out_beats, out_tempos)
 }

@@ -1,8 +1,9 @@
-//! bench: nanoseconds an entry, the port's loops beside the original's, in one run on the same columns.
+//! bench: the port's times beside the original's, in one run on the same columns. Nanoseconds an entry for the loops, a call for tidying.
 
 use oracle::calls::{self, Call, Visit};
 use oracle::cases::Cases;
 use oracle::random::Random;
+use oracle::tidying::{self, Rows, Tempos, Tidying};
 use std::hint::black_box;
 use std::time::{Duration, Instant};
 
@@ -14,7 +15,17 @@ const LASTS: Duration = Duration::from_micros(200);
 
 fn main() {
     let mut bench = Bench { worst: (0.0, String::new()) };
+    println!("nanoseconds an entry");
     calls::visit_all(&mut bench);
+    println!(
+        "nanoseconds a call; the original takes its list, so each call has a fresh copy, and the copying is in its time"
+    );
+    for entries in [16, 256, 1_024] {
+        ORDERS.iter().for_each(|order| bench.tidying::<Rows>(entries, *order));
+    }
+    for entries in [16, 256] {
+        ORDERS[..2].iter().for_each(|order| bench.tidying::<Tempos>(entries, *order));
+    }
     println!("worst ratio {:.2} ({})", bench.worst.0, bench.worst.1);
 }
 
@@ -37,6 +48,34 @@ impl Bench {
         if ratio > self.worst.0 {
             self.worst = (ratio, name.to_owned());
         }
+    }
+
+    /// A list of entries a quarter of a beat apart, each with a value of its own.
+    fn tidying<T: Tidying>(&mut self, entries: usize, (order, arrange): Order) {
+        let mut random = Random::new(1, "bench of tidying");
+        let mut beats: Vec<_> = (0..entries).map(|place| place as f64 / 4.0).collect();
+        arrange(&mut beats, &mut random);
+        let values: Vec<_> = (0..entries).map(|_| 1.0 + random.part() * 999.0).collect();
+        let list = tidying::list::<T>(&beats, &values);
+        let (mut out_beats, mut out_values) = (vec![0.0; entries], vec![0.0; entries]);
+        self.line(
+            &format!("{} of {entries} {order}", T::NAME),
+            1,
+            || {
+                black_box(T::port(black_box(&beats), black_box(&values), &mut out_beats, &mut out_values));
+            },
+            || drop(black_box(T::original(black_box(&list).clone()))),
+        );
+    }
+}
+
+type Order = (&'static str, fn(&mut [f64], &mut Random));
+
+const ORDERS: [Order; 3] = [("ordered", |_, _| ()), ("shuffled", shuffle), ("reversed", |beats, _| beats.reverse())];
+
+fn shuffle(beats: &mut [f64], random: &mut Random) {
+    for place in (1..beats.len()).rev() {
+        beats.swap(place, random.below(place as u64 + 1) as usize);
     }
 }
 

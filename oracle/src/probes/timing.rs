@@ -7,4 +7,6 @@ crate::probes! { super =>
     fn beat_to_note_row_f32(beat: f32) -> i32;
     fn quantize_beat(beat: f64) -> f64;
     fn quantize_beat_f32(beat: f32) -> f32;
+    fn tidy_row_segments(segments: Vec<super::Segment>) -> Vec<super::Segment>;
+    fn tidy_bpms(bpms: Vec<(f64, f64)>) -> Vec<(f64, f64)>;
 }
