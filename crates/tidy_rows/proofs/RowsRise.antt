@@ -1,12 +1,12 @@
 -- The tidied list rises strictly by row, and so by beat. Assumes nothing.
-use Prim.Native.Nat.{ℕ, suc, _≤_, _<_}
+use Prim.Native.Nat.{_≤_, _<_}
 use mathlib.Core.Path.{_≡_, sym, ap, _∙_, subst}
 use mathlib.Core.List.{List, [], _∷_, map}
 use native.Mathlib.Omega.{arith}
 use borrow.Author.Tests.{lt-ltb}
 use lib.Dec.{T}
 use lib.IntN.{ℤ, pos, negsuc, natAbs}
-use lib.Signed.{mag, ltZ}
+use lib.Signed.{mag}
 use lib.Ieee.{Float, binary64, lt}
 use Rattle.rows.specs.Rows.{row, allowedBeat, mostRow}
 use Rattle.rows.proofs.RowOfBeat.{row-of-beat}

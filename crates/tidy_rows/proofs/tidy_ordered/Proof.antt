@@ -1,5 +1,5 @@
 -- `tidy_rows::tidy_ordered` tidies a list whose rows never fall. Assumes nothing.
-use Prim.Native.Nat.{ℕ, _+_, _-_, _≤_, _<_, min}
+use Prim.Native.Nat.{_-_}
 use mathlib.Core.Path.{_≡_, _∙_}
 use mathlib.Core.List.{map}
 use native.Mathlib.Omega.{arith}
@@ -7,7 +7,7 @@ use lib.ListN.{length, length-map}
 use Rattle.order.specs.Order.{lasts}
 use Rattle.order.specs.Entries.{entries}
 use Rattle.order.proofs.Columns.{length-entries}
-use Rattle.tidy_rows.specs.RowTidying.{rowKeyAt, rowKeyOf, onItsRow}
+use Rattle.tidy_rows.specs.RowTidying.{rowKeyOf, onItsRow}
 use Rattle.limits.proofs.ListTaken.{list-taken}
 use Rattle.tidy_rows.proofs.BothWays.{lasts-length, ordered-way, plain-way}
 use Rattle.tidy_rows.proofs.Outcomes.{no-room, all-laid}

@@ -1,5 +1,6 @@
 -- `tidy_rows::tidy_row_segments` meets its contract. Assumes nothing.
-use mathlib.Core.Path.{_≡_, sym, _∙_}
+use mathlib.Core.Path.{sym, _∙_}
+use native.Mathlib.Omega.{arith}
 use Rattle.limits.proofs.ListTaken.{list-taken}
 use Rattle.columns.proofs.Rooms.{refused-by-tests}
 use Rattle.tidy_rows.specs.RowTidying.{tidyRows, rowsNumber}
@@ -18,7 +19,7 @@ returns c =
     let given = c .before .before .before .before .before .before .before .args in
     let number = c .before .before .list-number in
     rw (c .refused .ensures, number .ensures)
-    (refused-by-tests (rowsNumber (given .beats .now) (given .values .now)) (tidyRows (given .beats .now) (given .values .now)) (given .out-beats .now) (given .out-values .now) (λ e. c .before .if1 .taken (number .ensures ∙ e)))
+    (refused-by-tests (rowsNumber (given .beats .now) (given .values .now)) (tidyRows (given .beats .now) (given .values .now)) (given .out-beats .now) (given .out-values .now) (λ e. omega (arith, c .before .if1 .taken, number .ensures, e)))
 
 look-at-neighbours-requires : tie.Need-look-at-neighbours-requires
 look-at-neighbours-requires c κs = list-taken (sym (c .before .list-number .ensures) ∙ c .if1 .left) .beatsIn
