@@ -1,0 +1,5 @@
+pub mod PlacedLast
+pub mod GrownParts
+pub mod GivenRows
+pub mod LastRow
+pub mod StraightParts
