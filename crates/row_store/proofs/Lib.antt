@@ -3,3 +3,5 @@ pub mod GrownParts
 pub mod GivenRows
 pub mod LastRow
 pub mod StraightParts
+pub mod SortedRows
+pub mod FourLists
