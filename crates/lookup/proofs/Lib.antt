@@ -1,0 +1,3 @@
+pub mod RowsRise
+pub mod FoundEntries
+pub mod UsableLists

@@ -1,0 +1,24 @@
+use Rattle.order.specs.RowKey.{rowKey}
+use mathlib.Core.Path.{_≡_, refl, sym, ap, _∙_}
+use mir.ValLaws.{toZ-ofZ}
+use mir.Val.{SFits, toZ, ofZ}
+use mir.Syntax.{w32}
+use borrow.Author.Needs.{needs}
+use Rattle.lookup.proofs.row_key.Statement.{statement}
+use Rattle.lookup.proofs.row_key.Tie as tie
+use Rattle.lookup.proofs.row_key.Reads as reads
+use Rattle.lookup.proofs.row_key.Lts as lts
+use Rattle.order.proofs.key_of_row.Reads as key-of-row-reads
+use Rattle.rows.proofs.beat_to_note_row_f32.Reads as beat-to-note-row-f32-reads
+
+beat-to-note-row-f32-requires : tie.Need-beat-to-note-row-f32-requires
+beat-to-note-row-f32-requires c κs = search needs
+
+key-of-row-requires : tie.Need-key-of-row-requires
+key-of-row-requires c κs = search needs
+
+returns : tie.Need-returns
+returns c = c .key-of-row .ensures ∙ ap rowKey (toZ-ofZ w32 _ (record { sfits = c .before .beat-to-note-row-f32 .ok }) ∙ c .before .beat-to-note-row-f32 .ensures)
+
+pub row-key-spec : {M : Type 1} → statement M
+row-key-spec = tie.close (tie.spec beat-to-note-row-f32-requires key-of-row-requires returns)
