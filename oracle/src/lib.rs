@@ -19,6 +19,8 @@ use missing::{nps, parse, resolve_difficulty_label, stats, supported_stepstype_l
 pub mod calls;
 pub mod cases;
 pub mod lists;
+#[cfg(feature = "port")]
+pub mod lookups;
 pub mod numbers;
 pub mod random;
 #[cfg(feature = "port")]

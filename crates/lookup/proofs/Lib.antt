@@ -1,3 +1,4 @@
 pub mod RowsRise
 pub mod FoundEntries
 pub mod UsableLists
+pub mod ManyRows

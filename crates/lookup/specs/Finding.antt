@@ -7,6 +7,7 @@ use lib.Dec.{eqb}
 use lib.ListN.{length, getD}
 use lib.Ieee.{Float, nan}
 use Rattle.picks.specs.Pick.{pick}
+use Rattle.lookup.specs.declared.Cursor.{Cursor}
 use Rattle.lookup.specs.Lookups.{keyOf, rowsRise}
 
 -- the key of the entry at a place
@@ -39,3 +40,8 @@ pub record Between (key : ℕ) (beats : List Float) (low high : ℕ) : Type 0 wh
 -- what a test says of the last of the first n entries
 abbrev pub ofLast : (Float → Float → Bool) → Bool → List Float → List Float → ℕ → Bool
 ofLast test none beats values n = pick (eqb n 0) none (test (getD beats (n - 1) nan) (getD values (n - 1) nan))
+
+-- a cursor that stands where its row says
+pub record Stands (warpBeats fakeBeats : List Float) (cursor : Cursor) : Type 0 where
+  pub warps : Passed (cursor .key) warpBeats (cursor .warps)
+  pub fakes : Passed (cursor .key) fakeBeats (cursor .fakes)

@@ -5,14 +5,16 @@ ghost use mathlib.Core.Path.{_≡_};
 ghost use mathlib.Core.Bool.{true, false, not};
 ghost use Prim.Native.Nat.{ℕ, _+_, _-_, _≤_, _<_};
 ghost use lib.Ieee.{binary32, nan};
+ghost use lib.Dec.{ltb};
 ghost use lib.IntN.{ℤ};
+ghost use Rattle.columns.specs.Each.{laidEach};
 ghost use lib.ListN.{length, getD};
 ghost use Rattle.picks.specs.Pick.{pick};
 ghost use Rattle.rows.specs.Rows.{beatOf};
 ghost use Rattle.limits.specs.Numbers.{rangeOf, inRange, every, rowIn};
 ghost use Rattle.order.specs.RowKey.{rowKey};
 ghost use Rattle.lookup.specs.Lookups.{keyOf, lastPasses, isPaused, warpCovers, fakeCovers, isWarped, isFake, isJudgable, askedRow, rowsRise, risingNumber, askedNumber, warpNumber, fakeNumber, judgableNumber, looked, byte, Judged};
-ghost use Rattle.lookup.specs.Finding.{Usable, Passed, Split, Between, ofLast};
+ghost use Rattle.lookup.specs.Finding.{Usable, Passed, Split, Between, ofLast, Stands};
 
 // ---- rows that rise
 
@@ -569,4 +571,173 @@ pub fn is_judgable_at_beat(
         limits::taken(Kind::Beat, beat),
         asked_row(beat),
     )
+}
+
+// ---- many rows
+
+// How many warps and fakes are at or before a row, that row as a key, and its answer.
+struct Cursor {
+    warps: usize,
+    fakes: usize,
+    key: u32,
+    answer: u8,
+}
+
+// Where a cursor goes on from: a row that falls restarts it.
+fn start_of(next: usize, last: u32, key: u32) -> usize
+    ensures { λ r. ⌜ r ≡ pick (ltb key last) 0 next ⌝ }
+{
+    if key < last { 0 } else { next }
+}
+
+fn byte_of(answer: bool) -> u8
+    ensures { λ r. ⌜ r ≡ byte answer ⌝ }
+{
+    if answer { 1 } else { 0 }
+}
+
+fn judge(
+    stop_beats: &[f32],
+    stop_values: &[f32],
+    delay_beats: &[f32],
+    delay_values: &[f32],
+    warp_beats: &[f32],
+    warp_lengths: &[f32],
+    fake_beats: &[f32],
+    fake_lengths: &[f32],
+    cursor: Cursor,
+    row: i32,
+) -> Cursor
+    requires { ⌜ Usable (now «stop_beats») (now «stop_values») × Usable (now «delay_beats») (now «delay_values») × Usable (now «warp_beats») (now «warp_lengths») × Usable (now «fake_beats») (now «fake_lengths») ⌝ }
+    requires { ⌜ Stands (now «warp_beats») (now «fake_beats») cursor ⌝ }
+    ensures { λ r. ⌜ Stands (now («warp_beats» .entry)) (now («fake_beats» .entry)) r × (r .answer ≡ byte (isJudgable (now («stop_beats» .entry)) (now («stop_values» .entry)) (now («delay_beats» .entry)) (now («delay_values» .entry)) (now («warp_beats» .entry)) (now («warp_lengths» .entry)) (now («fake_beats» .entry)) (now («fake_lengths» .entry)) row)) ⌝ }
+{
+    let key = order::key_of_row(row);
+    let warps = count_on(warp_beats, key, start_of(cursor.warps, cursor.key, key));
+    let fakes = count_on(fake_beats, key, start_of(cursor.fakes, cursor.key, key));
+    let yes = judgable_after(
+        stop_beats,
+        stop_values,
+        delay_beats,
+        delay_values,
+        warp_beats,
+        warp_lengths,
+        fake_beats,
+        fake_lengths,
+        warps,
+        fakes,
+        row,
+    );
+    Cursor {
+        warps: warps,
+        fakes: fakes,
+        key: key,
+        answer: byte_of(yes),
+    }
+}
+
+fn judge_rows(
+    stop_beats: &[f32],
+    stop_values: &[f32],
+    delay_beats: &[f32],
+    delay_values: &[f32],
+    warp_beats: &[f32],
+    warp_lengths: &[f32],
+    fake_beats: &[f32],
+    fake_lengths: &[f32],
+    rows: &[i32],
+    out: &mut [u8],
+)
+    requires { ⌜ Usable (now «stop_beats») (now «stop_values») × Usable (now «delay_beats») (now «delay_values») × Usable (now «warp_beats») (now «warp_lengths») × Usable (now «fake_beats») (now «fake_lengths») ⌝ }
+    requires { ⌜ length (now rows) ≤ length (now out) ⌝ }
+    ensures { λ _. ⌜ now (out .exit) ≡ laidEach (λ (asked : ℤ). byte (isJudgable (now («stop_beats» .entry)) (now («stop_values» .entry)) (now («delay_beats» .entry)) (now («delay_values» .entry)) (now («warp_beats» .entry)) (now («warp_lengths» .entry)) (now («fake_beats» .entry)) (now («fake_lengths» .entry)) asked)) (now (rows .entry)) (now (out .entry)) ⌝ }
+{
+    let mut cursor = Cursor {
+        warps: 0,
+        fakes: 0,
+        key: 0,
+        answer: 0,
+    };
+    let mut i = 0;
+    while i < rows.len() {
+        cursor = judge(
+            stop_beats,
+            stop_values,
+            delay_beats,
+            delay_values,
+            warp_beats,
+            warp_lengths,
+            fake_beats,
+            fake_lengths,
+            cursor,
+            rows[i],
+        );
+        out[i] = cursor.answer;
+        i += 1;
+    }
+}
+
+// Whether every row is within the limit.
+fn rows_taken(rows: &[i32]) -> bool
+    ensures { λ r. ⌜ r ≡ every rowIn (now (rows .entry)) ⌝ }
+{
+    let mut i = 0;
+    while i < rows.len() {
+        if !limits::row_taken(rows[i]) {
+            return false;
+        }
+        i += 1;
+    }
+    true
+}
+
+// 1 for each row that is judgable and 0 for each that is not, over the front of the room. Refused as the single question is, with 3 where
+// any row is beyond the limit, and with 7 where there are more rows than places.
+pub fn judgable_rows(
+    stop_beats: &[f32],
+    stop_values: &[f32],
+    delay_beats: &[f32],
+    delay_values: &[f32],
+    warp_beats: &[f32],
+    warp_lengths: &[f32],
+    fake_beats: &[f32],
+    fake_lengths: &[f32],
+    rows: &[i32],
+    out: &mut [u8],
+) -> Outcome
+    ensures { λ r. ⌜ Judged (judgableNumber (now («stop_beats» .entry)) (now («stop_values» .entry)) (now («delay_beats» .entry)) (now («delay_values» .entry)) (now («warp_beats» .entry)) (now («warp_lengths» .entry)) (now («fake_beats» .entry)) (now («fake_lengths» .entry)) (every rowIn (now (rows .entry)))) (isJudgable (now («stop_beats» .entry)) (now («stop_values» .entry)) (now («delay_beats» .entry)) (now («delay_values» .entry)) (now («warp_beats» .entry)) (now («warp_lengths» .entry)) (now («fake_beats» .entry)) (now («fake_lengths» .entry))) (now (rows .entry)) r (now (out .entry)) (now (out .exit)) ⌝ }
+{
+    let number = judgable_number(
+        stop_beats,
+        stop_values,
+        delay_beats,
+        delay_values,
+        warp_beats,
+        warp_lengths,
+        fake_beats,
+        fake_lengths,
+        rows_taken(rows),
+    );
+    if number != limits::TAKEN {
+        return columns::refused(number);
+    }
+    if rows.len() > out.len() {
+        return columns::refused(limits::NO_ROOM);
+    }
+    judge_rows(
+        stop_beats,
+        stop_values,
+        delay_beats,
+        delay_values,
+        warp_beats,
+        warp_lengths,
+        fake_beats,
+        fake_lengths,
+        rows,
+        out,
+    );
+    Outcome {
+        number: limits::TAKEN,
+        count: rows.len(),
+    }
 }

@@ -10,3 +10,46 @@ crate::probes! { super =>
     fn tidy_row_segments(segments: Vec<super::Segment>) -> Vec<super::Segment>;
     fn tidy_bpms(bpms: Vec<(f64, f64)>) -> Vec<(f64, f64)>;
 }
+
+crate::probes! { super =>
+    fn build_segment_row_storage(stops: &[super::Segment], delays: &[super::Segment], warps: &[super::Segment], fakes: &[super::Segment]) -> (Vec<i32>, [usize; 5]);
+    fn is_warp_at_row(t: &super::TimingData, row: i32) -> bool;
+    fn is_warp_at_beat(t: &super::TimingData, beat: f64) -> bool;
+    fn is_fake_at_row(t: &super::TimingData, row: i32) -> bool;
+    fn is_fake_at_beat(t: &super::TimingData, beat: f64) -> bool;
+    fn is_judgable_at_row(t: &super::TimingData, row: i32) -> bool;
+    fn is_judgable_at_beat(t: &super::TimingData, beat: f64) -> bool;
+}
+
+/// A timing that has the lists of the lookups, and their rows as the original stores them.
+pub fn timing_of(stops: &[super::Segment], delays: &[super::Segment], warps: &[super::Segment], fakes: &[super::Segment]) -> super::TimingData {
+    let (segment_rows, segment_row_offsets) = super::build_segment_row_storage(stops, delays, warps, fakes);
+    let mut segments = Vec::new();
+    let mut segment_offsets = [0; 5];
+    for (place, list) in [stops, delays, warps, fakes].into_iter().enumerate() {
+        segments.extend_from_slice(list);
+        segment_offsets[place + 1] = segments.len();
+    }
+    super::TimingData {
+        beat_to_time: Vec::new(),
+        segments,
+        segment_offsets,
+        speeds: Vec::new(),
+        scrolls: Vec::new(),
+        segment_rows,
+        segment_row_offsets,
+        speed_runtime: Vec::new(),
+        scroll_prefix: Vec::new(),
+        beat0_offset_sec: 0.0,
+        global_offset_sec: 0.0,
+        max_bpm: 0.0,
+    }
+}
+
+/// The original's cursor over many rows: 1 for a judgable one.
+pub fn judgable_rows(timing: &super::TimingData, rows: &[i32], out: &mut [u8]) {
+    let mut cursor = super::JudgableRowCursor::new(timing);
+    for (row, out) in rows.iter().zip(out) {
+        *out = u8::from(cursor.is_judgable(*row));
+    }
+}
