@@ -35,9 +35,9 @@ pub struct Lists {
 
 /// A slice crosses as its pointer and its length.
 macro_rules! port {
-    ($(fn $name:ident($lists:ident: $($list:literal)*; $($arg:ident: $type:ty),*) -> $answer:ty = $symbol:literal;)*) => {
+    ($(fn $name:ident($lists:ident: $which:tt; $($arg:ident: $type:ty),*) -> $answer:ty = $symbol:literal;)*) => {
         $(pub fn $name($lists: &Lists, $($arg: $type),*) -> $answer {
-            port!(@call $symbol, $answer, $lists, ($($list)*), ($($arg: $type),*))
+            port!(@call $symbol, $answer, $lists, $which, ($($arg: $type),*))
         })*
     };
     (@call $symbol:literal, $answer:ty, $lists:ident, (0 1 2 3), ($($arg:ident: $type:ty),*)) => {{
@@ -74,14 +74,14 @@ macro_rules! port {
 }
 
 port! {
-    fn warp_at_row(lists: 0 1 2; row: i32) -> Looked = "marrighentu_is_warp_at_row";
-    fn warp_at_beat(lists: 0 1 2; beat: f64) -> Looked = "marrighentu_is_warp_at_beat";
-    fn fake_at_row(lists: 3; row: i32) -> Looked = "marrighentu_is_fake_at_row";
-    fn fake_at_beat(lists: 3; beat: f64) -> Looked = "marrighentu_is_fake_at_beat";
-    fn judgable_at_row(lists: 0 1 2 3; row: i32) -> Looked = "marrighentu_is_judgable_at_row";
-    fn judgable_at_beat(lists: 0 1 2 3; beat: f64) -> Looked = "marrighentu_is_judgable_at_beat";
-    fn store_raw(lists: 0 1 2 3; rows: *mut i32, rows_len: usize) -> Stored = "marrighentu_build_segment_row_storage";
-    fn judge_raw(lists: 0 1 2 3; rows: *const i32, rows_len: usize, out: *mut u8, out_len: usize) -> Outcome = "marrighentu_judgable_rows";
+    fn warp_at_row(lists: (0 1 2); row: i32) -> Looked = "marrighentu_is_warp_at_row";
+    fn warp_at_beat(lists: (0 1 2); beat: f64) -> Looked = "marrighentu_is_warp_at_beat";
+    fn fake_at_row(lists: (3); row: i32) -> Looked = "marrighentu_is_fake_at_row";
+    fn fake_at_beat(lists: (3); beat: f64) -> Looked = "marrighentu_is_fake_at_beat";
+    fn judgable_at_row(lists: (0 1 2 3); row: i32) -> Looked = "marrighentu_is_judgable_at_row";
+    fn judgable_at_beat(lists: (0 1 2 3); beat: f64) -> Looked = "marrighentu_is_judgable_at_beat";
+    fn store_raw(lists: (0 1 2 3); rows: *mut i32, rows_len: usize) -> Stored = "marrighentu_build_segment_row_storage";
+    fn judge_raw(lists: (0 1 2 3); rows: *const i32, rows_len: usize, out: *mut u8, out_len: usize) -> Outcome = "marrighentu_judgable_rows";
 }
 
 pub fn store(lists: &Lists, rows: &mut [i32]) -> Stored {
@@ -211,7 +211,8 @@ fn store_differs(lists: &Lists, room: usize, random: &mut Random) -> Option<Stri
 fn lookups_differ(lists: &Lists, timing: Option<&TimingData>, row: i32, beat: f64) -> Option<String> {
     let beat_allowed = beat.is_finite() && beat.abs() <= 65_536.0;
     let ask = |which: &[usize], allowed: bool, original: &dyn Fn(&TimingData) -> bool| match lists.number(which, true, allowed) {
-        0 => Looked { number: 0, yes: original(timing.expect("lists that are taken")) },
+        // the lists that a call does not take may be refused: then its own make the timing
+        0 => Looked { number: 0, yes: timing.map_or_else(|| original(&lists.only(which).timing()), original) },
         number => Looked::refused(number),
     };
     let pairs = [
@@ -271,8 +272,6 @@ pub fn compare_all(work: Work, total: &mut Total) {
         let lists = if turn % 8 == 0 { Lists::any(turn, &mut random) } else { Lists::near(&mut random) };
         let sound = (0..4).all(|list| matches!(list_number(list, &lists.columns[list], true), 0 | 5));
         let timing = sound.then(|| lists.timing());
-        // a list that a call does not take may be refused: each call's own lists decide, and an empty timing stands in for the rest
-        let own: Vec<Lists> = [[0, 1, 2].as_slice(), &[3]].map(|which| lists.only(which)).into();
         for _ in 0..20 {
             let row = lists.asked_row(&mut random);
             let beat = match random.below(10) {
@@ -281,14 +280,7 @@ pub fn compare_all(work: Work, total: &mut Total) {
                 _ => (f64::from(lists.asked_row(&mut random)) + random.part() - 0.5) / 48.0,
             };
             compared += 6;
-            if timing.is_some() {
-                shown.extend(lookups_differ(&lists, timing.as_ref(), row, beat));
-            } else {
-                for lists in &own {
-                    let sound = (0..4).all(|list| matches!(list_number(list, &lists.columns[list], true), 0 | 5));
-                    shown.extend(lookups_differ(lists, sound.then(|| lists.timing()).as_ref(), row, beat));
-                }
-            }
+            shown.extend(lookups_differ(&lists, timing.as_ref(), row, beat));
         }
         let mut rows: Vec<i32> = (0..random.below(60)).map(|_| lists.asked_row(&mut random)).collect();
         if random.below(10) != 0 {

@@ -46,7 +46,7 @@ module _ (key : ℕ) (beats : List Float) where
 
 -- ---- the last entry
 module _ (test : Float → Float → Bool) where
-  of-next : (none : Bool) (beats values : List Float) (m : ℕ) → ofLast test none beats values (suc m) ≡ test (getD beats m nan) (getD values m nan)
+  pub of-next : (none : Bool) (beats values : List Float) (m : ℕ) → ofLast test none beats values (suc m) ≡ test (getD beats m nan) (getD values m nan)
   of-next none beats values m = let e : suc m - 1 ≡ m = omega arith in rw (ne-eqb (suc m) 0 (λ e. omega arith), e)
 
   none-found : (key : ℕ) (none : Bool) (beats values : List Float) → Past key beats 0 → lastPasses test key none beats values ≡ none

@@ -2,3 +2,4 @@ pub mod RowsRise
 pub mod FoundEntries
 pub mod UsableLists
 pub mod ManyRows
+pub mod Sentences

@@ -5,3 +5,5 @@ pub mod LastRow
 pub mod StraightParts
 pub mod SortedRows
 pub mod FourLists
+pub mod PartRows
+pub mod Unique
