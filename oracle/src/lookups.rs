@@ -95,7 +95,8 @@ pub fn judge(lists: &Lists, rows: &[i32], out: &mut [u8]) -> Outcome {
 /// The number of one list by itself; with 5 where its rows must rise.
 fn list_number(list: usize, (beats, values): &(Vec<f32>, Vec<f32>), rising: bool) -> u32 {
     let most = if list < 2 { power(50) } else { power(30) };
-    let rises = || beats.windows(2).all(|two| probe::beat_to_note_row_f32(two[0]) < probe::beat_to_note_row_f32(two[1]));
+    let rises =
+        || beats.windows(2).all(|two| probe::beat_to_note_row_f32(two[0]) < probe::beat_to_note_row_f32(two[1]));
     if beats.len() > 1_024 || values.len() > 1_024 {
         1
     } else if beats.len() != values.len() {
@@ -119,7 +120,11 @@ impl Lists {
 
     pub fn segments(&self) -> [Vec<Segment>; 4] {
         self.columns.each_ref().map(|(beats, values)| {
-            beats.iter().zip(values).map(|(beat, value)| Segment { beat: f64::from(*beat), value: f64::from(*value) }).collect()
+            beats
+                .iter()
+                .zip(values)
+                .map(|(beat, value)| Segment { beat: f64::from(*beat), value: f64::from(*value) })
+                .collect()
         })
     }
 
@@ -178,7 +183,8 @@ impl Lists {
             1 => -LAST_ROW - random.below(3) as i32 + 1,
             2 => random.bits() as i32,
             _ if list.is_empty() => random.below(100) as i32,
-            _ => probe::beat_to_note_row_f32(list[random.below(list.len() as u64) as usize]).saturating_add(random.below(30) as i32 - 3),
+            _ => probe::beat_to_note_row_f32(list[random.below(list.len() as u64) as usize])
+                .saturating_add(random.below(30) as i32 - 3),
         }
     }
 }
@@ -210,7 +216,9 @@ fn store_differs(lists: &Lists, room: usize, random: &mut Random) -> Option<Stri
 
 fn lookups_differ(lists: &Lists, timing: Option<&TimingData>, row: i32, beat: f64) -> Option<String> {
     let beat_allowed = beat.is_finite() && beat.abs() <= 65_536.0;
-    let ask = |which: &[usize], allowed: bool, original: &dyn Fn(&TimingData) -> bool| match lists.number(which, true, allowed) {
+    let ask = |which: &[usize], allowed: bool, original: &dyn Fn(&TimingData) -> bool| match lists
+        .number(which, true, allowed)
+    {
         // the lists that a call does not take may be refused: then its own make the timing
         0 => Looked { number: 0, yes: timing.map_or_else(|| original(&lists.only(which).timing()), original) },
         number => Looked::refused(number),
@@ -220,14 +228,26 @@ fn lookups_differ(lists: &Lists, timing: Option<&TimingData>, row: i32, beat: f6
         (ask(&[0, 1, 2], beat_allowed, &|timing| probe::is_warp_at_beat(timing, beat)), warp_at_beat(lists, beat)),
         (ask(&[3], row_allowed(row), &|timing| probe::is_fake_at_row(timing, row)), fake_at_row(lists, row)),
         (ask(&[3], beat_allowed, &|timing| probe::is_fake_at_beat(timing, beat)), fake_at_beat(lists, beat)),
-        (ask(&[0, 1, 2, 3], row_allowed(row), &|timing| probe::is_judgable_at_row(timing, row)), judgable_at_row(lists, row)),
-        (ask(&[0, 1, 2, 3], beat_allowed, &|timing| probe::is_judgable_at_beat(timing, beat)), judgable_at_beat(lists, beat)),
+        (
+            ask(&[0, 1, 2, 3], row_allowed(row), &|timing| probe::is_judgable_at_row(timing, row)),
+            judgable_at_row(lists, row),
+        ),
+        (
+            ask(&[0, 1, 2, 3], beat_allowed, &|timing| probe::is_judgable_at_beat(timing, beat)),
+            judgable_at_beat(lists, beat),
+        ),
     ];
     let place = pairs.iter().position(|(wanted, got)| wanted != got)?;
     Some(format!("{lists:?}, row {row}, beat {beat:?}, call {place}: {:?}, port {:?}", pairs[place].0, pairs[place].1))
 }
 
-fn batch_differs(lists: &Lists, timing: Option<&TimingData>, rows: &[i32], room: usize, random: &mut Random) -> Option<String> {
+fn batch_differs(
+    lists: &Lists,
+    timing: Option<&TimingData>,
+    rows: &[i32],
+    room: usize,
+    random: &mut Random,
+) -> Option<String> {
     let before: Vec<u8> = (0..room + PAST).map(|_| random.bits() as u8).collect();
     let (mut wanted, mut got) = (before.clone(), before);
     let outcome = match lists.number(&[0, 1, 2, 3], true, rows.iter().all(|row| row_allowed(*row))) {
@@ -239,7 +259,8 @@ fn batch_differs(lists: &Lists, timing: Option<&TimingData>, rows: &[i32], room:
         number => Outcome::refused(number),
     };
     let answer = judge(lists, rows, &mut got[..room]);
-    (answer != outcome || wanted != got).then(|| format!("{lists:?}, rows {rows:?}, room {room}: {outcome:?}, port {answer:?}"))
+    (answer != outcome || wanted != got)
+        .then(|| format!("{lists:?}, rows {rows:?}, room {room}: {outcome:?}, port {answer:?}"))
 }
 
 pub fn compare_all(work: Work, total: &mut Total) {

@@ -1,15 +1,12 @@
+-- `lookup::asked_row` is the row of an asked beat. Assumes nothing.
 use mir.ValLaws.{toZ-ofZ}
 use mir.Syntax.{w32}
 use Rattle.rows.specs.Rows.{row}
 use lib.Ieee.{binary32}
-use mathlib.Core.Path.{_≡_, refl, sym, ap, _∙_}
+use mathlib.Core.Path.{_≡_, ap, _∙_}
 use borrow.Author.Needs.{needs}
 use Rattle.lookup.proofs.asked_row.Statement.{statement}
 use Rattle.lookup.proofs.asked_row.Tie as tie
-use Rattle.lookup.proofs.asked_row.Reads as reads
-use Rattle.lookup.proofs.asked_row.Lts as lts
-use Rattle.ieee.proofs.narrow_f64.Reads as narrow-f64-reads
-use Rattle.rows.proofs.beat_to_note_row_f32.Reads as beat-to-note-row-f32-reads
 
 narrow-f64-requires : tie.Need-narrow-f64-requires
 narrow-f64-requires c κs = search needs

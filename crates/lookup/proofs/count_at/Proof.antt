@@ -1,14 +1,11 @@
+-- `lookup::count_at` counts the entries at or before a row, by halves. Assumes nothing.
 use Rattle.lookup.proofs.FoundEntries.{bounds-whole, bounds-met}
 use Rattle.lookup.specs.Finding.{Between}
 use lib.ListN.{length}
 use Prim.Native.Nat.{_-_, _≤_}
 use native.Mathlib.Omega.{arith}
-use borrow.Author.Needs.{needs}
 use Rattle.lookup.proofs.count_at.Statement.{statement}
 use Rattle.lookup.proofs.count_at.Tie as tie
-use Rattle.lookup.proofs.count_at.Reads as reads
-use Rattle.lookup.proofs.count_at.Lts as lts
-use Rattle.lookup.proofs.halve.Reads as halve-reads
 
 abbrev Inv-loop : tie.InvT-loop
 Inv-loop beats key low₀ high₀ low high = (high ≤ length beats) × Between key beats low high

@@ -1,3 +1,4 @@
+-- `lookup::count_on` counts them from where a cursor stands. Assumes nothing.
 use Rattle.lookup.proofs.FoundEntries.{passed-to, past-from, ended}
 use Rattle.lookup.proofs.RowsRise.{rises}
 use Rattle.lookup.specs.Finding.{Passed}
@@ -7,9 +8,6 @@ use native.Mathlib.Omega.{arith}
 use borrow.Author.Needs.{needs}
 use Rattle.lookup.proofs.count_on.Statement.{statement}
 use Rattle.lookup.proofs.count_on.Tie as tie
-use Rattle.lookup.proofs.count_on.Reads as reads
-use Rattle.lookup.proofs.count_on.Lts as lts
-use Rattle.lookup.proofs.row_key.Reads as row-key-reads
 
 abbrev Inv-loop : tie.InvT-loop
 Inv-loop beats key from n₀ n = Passed key beats n

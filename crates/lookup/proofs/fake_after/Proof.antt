@@ -1,20 +1,16 @@
+-- `lookup::fake_after` tells whether a row is fake. Assumes nothing.
 use Rattle.lookup.proofs.FoundEntries.{last-found}
 use Rattle.lookup.specs.Lookups.{isFake, fakeCovers}
 use Rattle.order.specs.RowKey.{rowKey}
 use Rattle.rows.specs.Rows.{beatOf}
 use lib.Ieee.{binary32}
 use mathlib.Core.Bool.{false}
-use mathlib.Core.Path.{_≡_, refl, sym, ap, _∙_}
+use mathlib.Core.Path.{_≡_, sym}
 use mir.ValLaws.{toZ-ofZ}
-use mir.Val.{SFits, toZ, ofZ}
 use mir.Syntax.{w32}
 use borrow.Author.Needs.{needs}
 use Rattle.lookup.proofs.fake_after.Statement.{statement}
 use Rattle.lookup.proofs.fake_after.Tie as tie
-use Rattle.lookup.proofs.fake_after.Reads as reads
-use Rattle.lookup.proofs.fake_after.Lts as lts
-use Rattle.lookup.proofs.last_fake_covers.Reads as last-fake-covers-reads
-use Rattle.rows.proofs.note_row_to_beat_f32.Reads as note-row-to-beat-f32-reads
 
 note-row-to-beat-f32-requires : tie.Need-note-row-to-beat-f32-requires
 note-row-to-beat-f32-requires c κs = search needs

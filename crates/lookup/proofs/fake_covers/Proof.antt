@@ -1,11 +1,8 @@
+-- `lookup::fake_covers` is the test of a fake. Assumes nothing.
 use Rattle.picks.proofs.Rules.{flags}
 use borrow.Author.Needs.{needs}
 use Rattle.lookup.proofs.fake_covers.Statement.{statement}
 use Rattle.lookup.proofs.fake_covers.Tie as tie
-use Rattle.lookup.proofs.fake_covers.Reads as reads
-use Rattle.lookup.proofs.fake_covers.Lts as lts
-use Rattle.ieee.proofs.narrow_f64.Reads as narrow-f64-reads
-use Rattle.std.proofs.num.f32_to_f64_with_nan.Reads as f32-to-f64-with-nan-reads
 
 f32-to-f64-with-nan-requires : tie.Need-f32-to-f64-with-nan-requires
 f32-to-f64-with-nan-requires c κs = search needs

@@ -1,3 +1,4 @@
+-- `lookup::halve` halves the bounds of the search. Assumes nothing.
 use Rattle.lookup.proofs.FoundEntries.{go-up, go-down}
 use Rattle.lookup.proofs.RowsRise.{rises}
 use Prim.Native.Nat.{_+_, _-_, _/_}
@@ -5,9 +6,6 @@ use native.Mathlib.Omega.{arith}
 use borrow.Author.Needs.{needs}
 use Rattle.lookup.proofs.halve.Statement.{statement}
 use Rattle.lookup.proofs.halve.Tie as tie
-use Rattle.lookup.proofs.halve.Reads as reads
-use Rattle.lookup.proofs.halve.Lts as lts
-use Rattle.lookup.proofs.row_key.Reads as row-key-reads
 
 sub-middle : tie.Need-sub-middle
 sub-middle c = search needs

@@ -1,15 +1,10 @@
-use mathlib.Core.Path.{_≡_, refl, sym, ap, _∙_}
+-- `lookup::is_judgable_at_beat` answers what the definition gives, or the number that refuses. Assumes nothing.
+use mathlib.Core.Path.{_≡_}
 use mir.ValLaws.{toZ-ofZ}
-use mir.Val.{SFits, toZ, ofZ}
 use mir.Syntax.{w32}
 use borrow.Author.Needs.{needs}
 use Rattle.lookup.proofs.is_judgable_at_beat.Statement.{statement}
 use Rattle.lookup.proofs.is_judgable_at_beat.Tie as tie
-use Rattle.lookup.proofs.is_judgable_at_beat.Reads as reads
-use Rattle.lookup.proofs.is_judgable_at_beat.Lts as lts
-use Rattle.limits.proofs.taken.Reads as taken-reads
-use Rattle.lookup.proofs.asked_row.Reads as asked-row-reads
-use Rattle.lookup.proofs.look_up_judgable.Reads as look-up-judgable-reads
 
 taken-requires : tie.Need-taken-requires
 taken-requires c κs = search needs

@@ -1,3 +1,4 @@
+-- `lookup::is_paused` finds a pause on a row. Assumes nothing.
 use Rattle.lookup.proofs.FoundEntries.{pause-found}
 use Rattle.lookup.proofs.RowsRise.{rises}
 use lib.Ieee.{ofBits}
@@ -5,10 +6,6 @@ use Rattle.picks.proofs.Rules.{flags}
 use borrow.Author.Needs.{needs}
 use Rattle.lookup.proofs.is_paused.Statement.{statement}
 use Rattle.lookup.proofs.is_paused.Tie as tie
-use Rattle.lookup.proofs.is_paused.Reads as reads
-use Rattle.lookup.proofs.is_paused.Lts as lts
-use Rattle.lookup.proofs.count_at.Reads as count-at-reads
-use Rattle.lookup.proofs.row_key.Reads as row-key-reads
 
 count-at-requires : tie.Need-count-at-requires
 count-at-requires c κs = search needs

@@ -1,10 +1,8 @@
+-- `lookup::is_unpaused` finds none of either list. Assumes nothing.
 use Rattle.picks.proofs.Rules.{flags}
 use borrow.Author.Needs.{needs}
 use Rattle.lookup.proofs.is_unpaused.Statement.{statement}
 use Rattle.lookup.proofs.is_unpaused.Tie as tie
-use Rattle.lookup.proofs.is_unpaused.Reads as reads
-use Rattle.lookup.proofs.is_unpaused.Lts as lts
-use Rattle.lookup.proofs.is_paused.Reads as is-paused-reads
 
 is-paused-requires : tie.Need-is-paused-requires
 is-paused-requires c κs = search needs

@@ -1,16 +1,11 @@
+-- `lookup::judgable_after` tells whether a row is neither. Assumes nothing.
 use Rattle.lookup.specs.Lookups.{isJudgable}
 use Rattle.picks.proofs.Rules.{flags}
-use mathlib.Core.Path.{_≡_, refl, sym, ap, _∙_}
+use mathlib.Core.Path.{_≡_}
 use mir.ValLaws.{toZ-ofZ}
-use mir.Val.{SFits, toZ, ofZ}
 use mir.Syntax.{w32}
-use borrow.Author.Needs.{needs}
 use Rattle.lookup.proofs.judgable_after.Statement.{statement}
 use Rattle.lookup.proofs.judgable_after.Tie as tie
-use Rattle.lookup.proofs.judgable_after.Reads as reads
-use Rattle.lookup.proofs.judgable_after.Lts as lts
-use Rattle.lookup.proofs.fake_after.Reads as fake-after-reads
-use Rattle.lookup.proofs.warped_after.Reads as warped-after-reads
 
 warped-after-requires : tie.Need-warped-after-requires
 warped-after-requires c κs =

@@ -1,11 +1,7 @@
+-- `lookup::judgable_number` is the lowest number of a question about both. Assumes nothing.
 use borrow.Author.Needs.{needs}
 use Rattle.lookup.proofs.judgable_number.Statement.{statement}
 use Rattle.lookup.proofs.judgable_number.Tie as tie
-use Rattle.lookup.proofs.judgable_number.Reads as reads
-use Rattle.lookup.proofs.judgable_number.Lts as lts
-use Rattle.limits.proofs.lower_of.Reads as lower-of-reads
-use Rattle.lookup.proofs.fake_number.Reads as fake-number-reads
-use Rattle.lookup.proofs.warp_number.Reads as warp-number-reads
 
 warp-number-requires : tie.Need-warp-number-requires
 warp-number-requires c κs = search needs

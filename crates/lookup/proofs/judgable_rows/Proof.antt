@@ -1,17 +1,12 @@
+-- `lookup::judgable_rows` has the one outcome that its definition gives. Assumes nothing.
 use Rattle.lookup.proofs.UsableLists.{judgable-usable}
 use Rattle.lookup.proofs.ManyRows.{refused-by-tests, refused-for-room, all-judged}
 use Rattle.lookup.specs.Lookups.{judgableNumber, isJudgable}
 use Rattle.limits.specs.Numbers.{every, rowIn}
-use mathlib.Core.Path.{_≡_, refl, sym, ap, _∙_}
+use mathlib.Core.Path.{_≡_, sym, _∙_}
 use borrow.Author.Needs.{needs}
 use Rattle.lookup.proofs.judgable_rows.Statement.{statement}
 use Rattle.lookup.proofs.judgable_rows.Tie as tie
-use Rattle.lookup.proofs.judgable_rows.Reads as reads
-use Rattle.lookup.proofs.judgable_rows.Lts as lts
-use Rattle.columns.proofs.refused.Reads as refused-reads
-use Rattle.lookup.proofs.judgable_number.Reads as judgable-number-reads
-use Rattle.lookup.proofs.judge_rows.Reads as judge-rows-reads
-use Rattle.lookup.proofs.rows_taken.Reads as rows-taken-reads
 
 rows-taken-requires : tie.Need-rows-taken-requires
 rows-taken-requires c κs = search needs

@@ -1,20 +1,13 @@
+-- `lookup::judge` moves a cursor on to a row and answers. Assumes nothing.
 use Rattle.lookup.proofs.ManyRows.{resumed}
 use Rattle.lookup.specs.Lookups.{byte}
 use mathlib.Core.Bool.{Bool}
-use mathlib.Core.Path.{_≡_, refl, sym, ap, _∙_}
+use mathlib.Core.Path.{_≡_, ap, _∙_}
 use mir.ValLaws.{toZ-ofZ}
-use mir.Val.{SFits, toZ, ofZ}
 use mir.Syntax.{w32}
 use borrow.Author.Needs.{needs}
 use Rattle.lookup.proofs.judge.Statement.{statement}
 use Rattle.lookup.proofs.judge.Tie as tie
-use Rattle.lookup.proofs.judge.Reads as reads
-use Rattle.lookup.proofs.judge.Lts as lts
-use Rattle.lookup.proofs.byte_of.Reads as byte-of-reads
-use Rattle.lookup.proofs.count_on.Reads as count-on-reads
-use Rattle.lookup.proofs.judgable_after.Reads as judgable-after-reads
-use Rattle.lookup.proofs.start_of.Reads as start-of-reads
-use Rattle.order.proofs.key_of_row.Reads as key-of-row-reads
 
 key-of-row-requires : tie.Need-key-of-row-requires
 key-of-row-requires c κs = search needs

@@ -1,3 +1,4 @@
+-- `lookup::judge_rows` answers each row over the front of the room. Assumes nothing.
 use Rattle.lookup.specs.Finding.{Stands}
 use Rattle.lookup.specs.Lookups.{byte, isJudgable}
 use Rattle.columns.proofs.LaidEach.{LayingEach, begun, turned, ended}
@@ -5,16 +6,12 @@ use lib.ListN.{length, getD}
 use lib.IntN.{ℤ, pos}
 use Prim.Native.Nat.{_-_}
 use native.Mathlib.Omega.{arith}
-use mathlib.Core.Path.{_≡_, refl, sym, ap, _∙_}
+use mathlib.Core.Path.{_≡_, ap, _∙_}
 use mir.ValLaws.{toZ-ofZ}
-use mir.Val.{SFits, toZ, ofZ}
 use mir.Syntax.{w32}
 use borrow.Author.Needs.{needs}
 use Rattle.lookup.proofs.judge_rows.Statement.{statement}
 use Rattle.lookup.proofs.judge_rows.Tie as tie
-use Rattle.lookup.proofs.judge_rows.Reads as reads
-use Rattle.lookup.proofs.judge_rows.Lts as lts
-use Rattle.lookup.proofs.judge.Reads as judge-reads
 
 abbrev Inv-loop : tie.InvT-loop
 Inv-loop stop-beats stop-values delay-beats delay-values warp-beats warp-lengths fake-beats fake-lengths rows out₀ cursor₀ i₀ out cursor i =

@@ -1,10 +1,8 @@
+-- `lookup::last_fake_covers` tests the last fake of those counted. Assumes nothing.
 use Rattle.picks.proofs.Rules.{flags}
 use borrow.Author.Needs.{needs}
 use Rattle.lookup.proofs.last_fake_covers.Statement.{statement}
 use Rattle.lookup.proofs.last_fake_covers.Tie as tie
-use Rattle.lookup.proofs.last_fake_covers.Reads as reads
-use Rattle.lookup.proofs.last_fake_covers.Lts as lts
-use Rattle.lookup.proofs.fake_covers.Reads as fake-covers-reads
 
 returns : tie.Need-returns
 returns c = search flags depth 8

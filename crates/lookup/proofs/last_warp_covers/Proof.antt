@@ -1,10 +1,8 @@
+-- `lookup::last_warp_covers` tests the last warp of those counted. Assumes nothing.
 use Rattle.picks.proofs.Rules.{flags}
 use borrow.Author.Needs.{needs}
 use Rattle.lookup.proofs.last_warp_covers.Statement.{statement}
 use Rattle.lookup.proofs.last_warp_covers.Tie as tie
-use Rattle.lookup.proofs.last_warp_covers.Reads as reads
-use Rattle.lookup.proofs.last_warp_covers.Lts as lts
-use Rattle.lookup.proofs.warp_covers.Reads as warp-covers-reads
 
 returns : tie.Need-returns
 returns c = search flags depth 8

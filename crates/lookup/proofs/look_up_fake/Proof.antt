@@ -1,20 +1,14 @@
+-- `lookup::look_up_fake` answers what the definition gives, or the number that refuses. Assumes nothing.
 use Rattle.lookup.proofs.UsableLists.{fake-usable}
 use Rattle.lookup.specs.Lookups.{looked}
 use borrow.Author.Tests.{ne-eqb}
 use mathlib.Core.List.{[]}
-use mathlib.Core.Path.{_≡_, refl, sym, ap, _∙_}
+use mathlib.Core.Path.{_≡_, sym, _∙_}
 use mir.ValLaws.{toZ-ofZ}
-use mir.Val.{SFits, toZ, ofZ}
 use mir.Syntax.{w32}
 use borrow.Author.Needs.{needs}
 use Rattle.lookup.proofs.look_up_fake.Statement.{statement}
 use Rattle.lookup.proofs.look_up_fake.Tie as tie
-use Rattle.lookup.proofs.look_up_fake.Reads as reads
-use Rattle.lookup.proofs.look_up_fake.Lts as lts
-use Rattle.lookup.proofs.count_at.Reads as count-at-reads
-use Rattle.lookup.proofs.fake_after.Reads as fake-after-reads
-use Rattle.lookup.proofs.fake_number.Reads as fake-number-reads
-use Rattle.order.proofs.key_of_row.Reads as key-of-row-reads
 
 fake-number-requires : tie.Need-fake-number-requires
 fake-number-requires c κs = search needs

@@ -1,20 +1,13 @@
+-- `lookup::look_up_judgable` answers what the definition gives, or the number that refuses. Assumes nothing.
 use Rattle.lookup.proofs.UsableLists.{judgable-usable}
 use Rattle.lookup.specs.Lookups.{looked}
 use borrow.Author.Tests.{ne-eqb}
-use mathlib.Core.List.{[]}
-use mathlib.Core.Path.{_≡_, refl, sym, ap, _∙_}
+use mathlib.Core.Path.{_≡_, sym, _∙_}
 use mir.ValLaws.{toZ-ofZ}
-use mir.Val.{SFits, toZ, ofZ}
 use mir.Syntax.{w32}
 use borrow.Author.Needs.{needs}
 use Rattle.lookup.proofs.look_up_judgable.Statement.{statement}
 use Rattle.lookup.proofs.look_up_judgable.Tie as tie
-use Rattle.lookup.proofs.look_up_judgable.Reads as reads
-use Rattle.lookup.proofs.look_up_judgable.Lts as lts
-use Rattle.lookup.proofs.count_at.Reads as count-at-reads
-use Rattle.lookup.proofs.judgable_after.Reads as judgable-after-reads
-use Rattle.lookup.proofs.judgable_number.Reads as judgable-number-reads
-use Rattle.order.proofs.key_of_row.Reads as key-of-row-reads
 
 judgable-number-requires : tie.Need-judgable-number-requires
 judgable-number-requires c κs = search needs

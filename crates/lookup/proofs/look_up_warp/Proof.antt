@@ -1,20 +1,14 @@
+-- `lookup::look_up_warp` answers what the definition gives, or the number that refuses. Assumes nothing.
 use Rattle.lookup.proofs.UsableLists.{warp-usable}
 use Rattle.lookup.specs.Lookups.{looked}
 use borrow.Author.Tests.{ne-eqb}
 use mathlib.Core.List.{[]}
-use mathlib.Core.Path.{_≡_, refl, sym, ap, _∙_}
+use mathlib.Core.Path.{_≡_, sym, _∙_}
 use mir.ValLaws.{toZ-ofZ}
-use mir.Val.{SFits, toZ, ofZ}
 use mir.Syntax.{w32}
 use borrow.Author.Needs.{needs}
 use Rattle.lookup.proofs.look_up_warp.Statement.{statement}
 use Rattle.lookup.proofs.look_up_warp.Tie as tie
-use Rattle.lookup.proofs.look_up_warp.Reads as reads
-use Rattle.lookup.proofs.look_up_warp.Lts as lts
-use Rattle.lookup.proofs.count_at.Reads as count-at-reads
-use Rattle.lookup.proofs.warp_number.Reads as warp-number-reads
-use Rattle.lookup.proofs.warped_after.Reads as warped-after-reads
-use Rattle.order.proofs.key_of_row.Reads as key-of-row-reads
 
 warp-number-requires : tie.Need-warp-number-requires
 warp-number-requires c κs = search needs

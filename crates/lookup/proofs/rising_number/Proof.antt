@@ -1,12 +1,9 @@
+-- `lookup::rising_number` is the number of a list by itself. Assumes nothing.
 use Rattle.lookup.specs.Lookups.{risingNumber}
 use Rattle.picks.proofs.Rules.{flags}
 use borrow.Author.Needs.{needs}
 use Rattle.lookup.proofs.rising_number.Statement.{statement}
 use Rattle.lookup.proofs.rising_number.Tie as tie
-use Rattle.lookup.proofs.rising_number.Reads as reads
-use Rattle.lookup.proofs.rising_number.Lts as lts
-use Rattle.limits.proofs.list_number_f32.Reads as list-number-f32-reads
-use Rattle.lookup.proofs.rows_rise.Reads as rows-rise-reads
 
 list-number-f32-requires : tie.Need-list-number-f32-requires
 list-number-f32-requires c κs = search needs

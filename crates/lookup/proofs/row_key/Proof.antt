@@ -1,15 +1,11 @@
+-- `lookup::row_key` is the f32 row of a beat, as a key. Assumes nothing.
 use Rattle.order.specs.RowKey.{rowKey}
-use mathlib.Core.Path.{_≡_, refl, sym, ap, _∙_}
+use mathlib.Core.Path.{_≡_, ap, _∙_}
 use mir.ValLaws.{toZ-ofZ}
-use mir.Val.{SFits, toZ, ofZ}
 use mir.Syntax.{w32}
 use borrow.Author.Needs.{needs}
 use Rattle.lookup.proofs.row_key.Statement.{statement}
 use Rattle.lookup.proofs.row_key.Tie as tie
-use Rattle.lookup.proofs.row_key.Reads as reads
-use Rattle.lookup.proofs.row_key.Lts as lts
-use Rattle.order.proofs.key_of_row.Reads as key-of-row-reads
-use Rattle.rows.proofs.beat_to_note_row_f32.Reads as beat-to-note-row-f32-reads
 
 beat-to-note-row-f32-requires : tie.Need-beat-to-note-row-f32-requires
 beat-to-note-row-f32-requires c κs = search needs

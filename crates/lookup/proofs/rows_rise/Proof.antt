@@ -1,15 +1,13 @@
+-- `lookup::rows_rise` tells whether the rows of a list rise. Assumes nothing.
 use Rattle.lookup.proofs.RowsRise.{rise-turn, rise-fails, rise-end}
 use Rattle.lookup.specs.Lookups.{rowsRise}
 use lib.ListN.{length, drop}
 use Prim.Native.Nat.{_-_, _≤_}
 use native.Mathlib.Omega.{arith}
-use mathlib.Core.Path.{_≡_, refl, sym, ap, _∙_}
+use mathlib.Core.Path.{_≡_, refl, sym, _∙_}
 use borrow.Author.Needs.{needs}
 use Rattle.lookup.proofs.rows_rise.Statement.{statement}
 use Rattle.lookup.proofs.rows_rise.Tie as tie
-use Rattle.lookup.proofs.rows_rise.Reads as reads
-use Rattle.lookup.proofs.rows_rise.Lts as lts
-use Rattle.lookup.proofs.row_key.Reads as row-key-reads
 
 abbrev Inv-loop : tie.InvT-loop
 Inv-loop beats i₀ i = (i ≤ length beats) × (rowsRise (drop i beats) ≡ rowsRise beats)

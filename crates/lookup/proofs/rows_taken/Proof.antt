@@ -1,21 +1,17 @@
+-- `lookup::rows_taken` tests every row. Assumes nothing.
 use Rattle.lookup.proofs.ManyRows.{every-turn, every-end}
 use Rattle.limits.specs.Numbers.{every, rowIn}
 use borrow.Author.Tests.{not-true, not-false}
 use lib.ListN.{length, drop, getD}
 use lib.IntN.{pos}
 use mathlib.Core.Bool.{true, false}
-use Prim.Native.Nat.{_-_, _+_}
-use native.Mathlib.Omega.{arith}
+use Prim.Native.Nat.{_-_}
 use mathlib.Core.Path.{_≡_, refl, sym, ap, _∙_}
 use mir.ValLaws.{toZ-ofZ}
-use mir.Val.{SFits, toZ, ofZ}
 use mir.Syntax.{w32}
 use borrow.Author.Needs.{needs}
 use Rattle.lookup.proofs.rows_taken.Statement.{statement}
 use Rattle.lookup.proofs.rows_taken.Tie as tie
-use Rattle.lookup.proofs.rows_taken.Reads as reads
-use Rattle.lookup.proofs.rows_taken.Lts as lts
-use Rattle.limits.proofs.row_taken.Reads as row-taken-reads
 
 abbrev Inv-loop : tie.InvT-loop
 Inv-loop rows i₀ i = every rowIn (drop i rows) ≡ every rowIn rows

@@ -1,9 +1,7 @@
+-- `lookup::start_of` restarts a cursor at a row that falls. Assumes nothing.
 use Rattle.picks.proofs.Rules.{flags}
-use borrow.Author.Needs.{needs}
 use Rattle.lookup.proofs.start_of.Statement.{statement}
 use Rattle.lookup.proofs.start_of.Tie as tie
-use Rattle.lookup.proofs.start_of.Reads as reads
-use Rattle.lookup.proofs.start_of.Lts as lts
 
 returns : tie.Need-returns
 returns c = search flags depth 6

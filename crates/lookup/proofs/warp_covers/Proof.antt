@@ -1,10 +1,8 @@
+-- `lookup::warp_covers` is the test of a warp. Assumes nothing.
 use lib.Ieee.{ofBits}
 use Rattle.picks.proofs.Rules.{flags}
-use borrow.Author.Needs.{needs}
 use Rattle.lookup.proofs.warp_covers.Statement.{statement}
 use Rattle.lookup.proofs.warp_covers.Tie as tie
-use Rattle.lookup.proofs.warp_covers.Reads as reads
-use Rattle.lookup.proofs.warp_covers.Lts as lts
 
 returns : tie.Need-returns
 unfolding ofBits
