@@ -3,3 +3,4 @@ pub mod FoundEntries
 pub mod UsableLists
 pub mod ManyRows
 pub mod Sentences
+pub mod SameRow
