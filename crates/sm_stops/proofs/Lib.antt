@@ -1,0 +1,6 @@
+pub mod TempoForward
+pub mod EveryTurnMeets
+pub mod TurnByTurn
+pub mod TwoByTwo
+pub mod TakenSources
+pub mod OneFilling

@@ -1,0 +1,526 @@
+// Warps and delays as the stops of an SM chart.
+use limits::Kind;
+ghost use mathlib.Core.Path.{_≡_};
+ghost use mathlib.Core.Bool.{true, false};
+ghost use mathlib.Core.List.{[]};
+ghost use Prim.Native.Nat.{_+_, _*_, _/_, _<_, _≤_, _^_};
+ghost use lib.Dec.{ltb, leb, eqb};
+ghost use lib.ListN.{length, getD, take, set};
+ghost use lib.Ieee.{nan, ne};
+ghost use Rattle.picks.specs.Pick.{pick};
+ghost use Rattle.limits.specs.Numbers.{rangeOf};
+ghost use Rattle.order.specs.Order.{laid};
+ghost use Rattle.sm_stops.specs.Merging.{sources, none, lesser, leastBeat, meets, plus, forward, tempoPlace, less, onward, turn, isOver, merged, atFirst};
+ghost use Rattle.sm_stops.specs.Plain.{Plain};
+ghost use Rattle.sm_stops.specs.Filling.{beatsIn, valuesIn, isEven, flatNumber, flat, isOwn, listsNumber, resultNumber, StopsFilled, chosen};
+
+// A place in each list: that of the tempo in force, and of the next stop, delay and warp. Stops are flat, so theirs moves by two.
+pub struct Heads {
+    pub tempo: usize,
+    pub stop: usize,
+    pub delay: usize,
+    pub warp: usize,
+}
+
+// The beat and the sum of one turn, and the places after it.
+pub struct Turned {
+    pub heads: Heads,
+    pub beat: f32,
+    pub value: f32,
+}
+
+// What filling the work list answers: the refusal number, the entries written, and whether the caller's own stops are the answer.
+#[repr(C)]
+pub struct Filled {
+    pub number: u32,
+    pub count: usize,
+    pub own: bool,
+}
+
+// ---- one turn
+
+// A number of a list, and a NaN beyond its end.
+fn read_at(list: &[f32], place: usize) -> f32
+    ensures { λ r. ⌜ r ≡ getD (now (list .entry)) place nan ⌝ }
+{
+    if place < list.len() {
+        return list[place];
+    }
+    0.0 / 0.0
+}
+
+fn lesser_of(least: f32, beats: &[f32], place: usize) -> f32
+    ensures { λ r. ⌜ r ≡ lesser least (now (beats .entry)) place ⌝ }
+{
+    if place < beats.len() {
+        if beats[place] < least {
+            return beats[place];
+        }
+        return least;
+    }
+    least
+}
+
+fn least_beat(heads: Heads, stops: &[f32], delay_beats: &[f32], warp_beats: &[f32]) -> f32
+    ensures { λ r. ⌜ r ≡ leastBeat (now (stops .entry)) (now («delay_beats» .entry)) (now («warp_beats» .entry)) heads ⌝ }
+{
+    let stop = lesser_of(1.0 / 0.0, stops, heads.stop);
+    let delay = lesser_of(stop, delay_beats, heads.delay);
+    lesser_of(delay, warp_beats, heads.warp)
+}
+
+fn is_met(beats: &[f32], place: usize, beat: f32) -> bool
+    ensures { λ r. ⌜ r ≡ meets (now (beats .entry)) place beat ⌝ }
+{
+    if place < beats.len() {
+        return beats[place] == beat;
+    }
+    false
+}
+
+fn add_if(met: bool, sum: f32, value: f32) -> f32
+    ensures { λ r. ⌜ r ≡ plus met sum value ⌝ }
+{
+    if met {
+        return sum + value;
+    }
+    sum
+}
+
+fn take_if(met: bool, sum: f32, tempo: f32, length: f32) -> f32
+    ensures { λ r. ⌜ r ≡ less met sum tempo length ⌝ }
+{
+    if met {
+        return sum - 60.0 / tempo * length;
+    }
+    sum
+}
+
+fn onward_if(met: bool, place: usize, by: usize) -> usize
+    requires { ⌜ place + by < 2 ^ 64 ⌝ }
+    ensures { λ r. ⌜ r ≡ onward met place by ⌝ }
+{
+    if met {
+        return place + by;
+    }
+    place
+}
+
+// The place of the last of the leading tempos up to a beat, from a place on.
+fn tempo_up_to(tempo_beats: &[f32], place: usize, beat: f32) -> usize
+    requires { ⌜ place < 2 ^ 63 ⌝ }
+    ensures { λ r. ⌜ r ≡ forward (now («tempo_beats» .entry)) place beat ⌝ }
+{
+    let mut at = place;
+    while at + 1 < tempo_beats.len() {
+        if tempo_beats[at + 1] <= beat {
+            at += 1;
+            continue;
+        }
+        return at;
+    }
+    at
+}
+
+fn tempo_place(met: bool, tempo_beats: &[f32], place: usize, beat: f32) -> usize
+    requires { ⌜ place < 2 ^ 63 ⌝ }
+    ensures { λ r. ⌜ r ≡ tempoPlace met (now («tempo_beats» .entry)) place beat ⌝ }
+{
+    if met {
+        return tempo_up_to(tempo_beats, place, beat);
+    }
+    place
+}
+
+fn take_turn(
+    heads: Heads,
+    tempo_beats: &[f32],
+    tempo_values: &[f32],
+    stops: &[f32],
+    delay_beats: &[f32],
+    delay_values: &[f32],
+    warp_beats: &[f32],
+    warp_lengths: &[f32],
+) -> Turned
+    requires { ⌜ (heads .tempo < 2 ^ 63) × (heads .stop < 2 ^ 63) × (heads .delay < 2 ^ 63) × (heads .warp < 2 ^ 63) ⌝ }
+    ensures { λ r. ⌜ r ≡ turn (sources (now («tempo_beats» .entry)) (now («tempo_values» .entry)) (now (stops .entry)) (now («delay_beats» .entry)) (now («delay_values» .entry)) (now («warp_beats» .entry)) (now («warp_lengths» .entry))) heads ⌝ }
+{
+    let beat = least_beat(heads, stops, delay_beats, warp_beats);
+    let stop_met = is_met(stops, heads.stop, beat);
+    let delay_met = is_met(delay_beats, heads.delay, beat);
+    let warp_met = is_met(warp_beats, heads.warp, beat);
+    let stop = add_if(stop_met, 0.0, read_at(stops, heads.stop + 1));
+    let pauses = add_if(delay_met, stop, read_at(delay_values, heads.delay));
+    let tempo = tempo_place(warp_met, tempo_beats, heads.tempo, beat);
+    let value = take_if(
+        warp_met,
+        pauses,
+        read_at(tempo_values, tempo),
+        read_at(warp_lengths, heads.warp),
+    );
+    let next = Heads {
+        tempo: tempo,
+        stop: onward_if(stop_met, heads.stop, 2),
+        delay: onward_if(delay_met, heads.delay, 1),
+        warp: onward_if(warp_met, heads.warp, 1),
+    };
+    Turned {
+        heads: next,
+        beat: beat,
+        value: value,
+    }
+}
+
+fn is_over(heads: Heads, stops: &[f32], delay_beats: &[f32], warp_beats: &[f32]) -> bool
+    ensures { λ r. ⌜ r ≡ pick (ltb (heads .stop) (length (now (stops .entry)))) false (pick (ltb (heads .delay) (length (now («delay_beats» .entry)))) false (pick (ltb (heads .warp) (length (now («warp_beats» .entry)))) false true)) ⌝ }
+{
+    if heads.stop < stops.len() {
+        return false;
+    }
+    if heads.delay < delay_beats.len() {
+        return false;
+    }
+    if heads.warp < warp_beats.len() {
+        return false;
+    }
+    true
+}
+
+// ---- all turns
+
+fn one_if_written(value: f32) -> usize
+    ensures { λ r. ⌜ r ≡ pick (ne value none) 1 0 ⌝ }
+{
+    if value != 0.0 {
+        return 1;
+    }
+    0
+}
+
+fn count_stops(
+    tempo_beats: &[f32],
+    tempo_values: &[f32],
+    stops: &[f32],
+    delay_beats: &[f32],
+    delay_values: &[f32],
+    warp_beats: &[f32],
+    warp_lengths: &[f32],
+) -> usize
+    requires { ⌜ Plain (sources (now «tempo_beats») (now «tempo_values») (now stops) (now «delay_beats») (now «delay_values») (now «warp_beats») (now «warp_lengths»)) ⌝ }
+    ensures { λ r. ⌜ r ≡ length (merged (sources (now («tempo_beats» .entry)) (now («tempo_values» .entry)) (now (stops .entry)) (now («delay_beats» .entry)) (now («delay_values» .entry)) (now («warp_beats» .entry)) (now («warp_lengths» .entry))) atFirst) ⌝ }
+{
+    let mut heads = Heads {
+        tempo: 0,
+        stop: 0,
+        delay: 0,
+        warp: 0,
+    };
+    let mut count: usize = 0;
+    loop {
+        if is_over(heads, stops, delay_beats, warp_beats) {
+            return count;
+        }
+        let turned = take_turn(
+            heads,
+            tempo_beats,
+            tempo_values,
+            stops,
+            delay_beats,
+            delay_values,
+            warp_beats,
+            warp_lengths,
+        );
+        let next = turned.heads;
+        heads = next;
+        count += one_if_written(turned.value);
+    }
+}
+
+// Whether the sums have room: counted only where there are more entries than room.
+fn has_room(
+    tempo_beats: &[f32],
+    tempo_values: &[f32],
+    stops: &[f32],
+    delay_beats: &[f32],
+    delay_values: &[f32],
+    warp_beats: &[f32],
+    warp_lengths: &[f32],
+    room: usize,
+) -> bool
+    requires { ⌜ Plain (sources (now «tempo_beats») (now «tempo_values») (now stops) (now «delay_beats») (now «delay_values») (now «warp_beats») (now «warp_lengths»)) ⌝ }
+    requires { ⌜ (length (now stops) ≤ 2048) × (length (now «delay_beats») ≤ 1024) × (length (now «warp_beats») ≤ 1024) ⌝ }
+    ensures { λ r. ⌜ r ≡ leb (length (merged (sources (now («tempo_beats» .entry)) (now («tempo_values» .entry)) (now (stops .entry)) (now («delay_beats» .entry)) (now («delay_values» .entry)) (now («warp_beats» .entry)) (now («warp_lengths» .entry))) atFirst)) room ⌝ }
+{
+    if (stops.len() + 1) / 2 + delay_beats.len() + warp_beats.len() <= room {
+        return true;
+    }
+    count_stops(
+        tempo_beats,
+        tempo_values,
+        stops,
+        delay_beats,
+        delay_values,
+        warp_beats,
+        warp_lengths,
+    )
+        <= room
+}
+
+// A sum that is not zero, behind those that are laid; the place behind it.
+fn lay_sum(work: &mut [f32], at: usize, beat: f32, value: f32) -> usize
+    requires { ⌜ (ne value none ≡ true → at + 2 ≤ length (now work)) ⌝ }
+    requires { ⌜ at < 2 ^ 63 ⌝ }
+    ensures { λ r. ⌜ r ≡ pick (ne value none) (at + 2) at ⌝ }
+    ensures { λ _. ⌜ now (work .exit) ≡ pick (ne value none) (set (set (now (work .entry)) at beat) (at + 1) value) (now (work .entry)) ⌝ }
+{
+    if value != 0.0 {
+        work[at] = beat;
+        work[at + 1] = value;
+        return at + 2;
+    }
+    at
+}
+
+fn lay_stops(
+    tempo_beats: &[f32],
+    tempo_values: &[f32],
+    stops: &[f32],
+    delay_beats: &[f32],
+    delay_values: &[f32],
+    warp_beats: &[f32],
+    warp_lengths: &[f32],
+    work: &mut [f32],
+) -> usize
+    requires { ⌜ Plain (sources (now «tempo_beats») (now «tempo_values») (now stops) (now «delay_beats») (now «delay_values») (now «warp_beats») (now «warp_lengths»)) ⌝ }
+    requires { ⌜ length (flat (merged (sources (now «tempo_beats») (now «tempo_values») (now stops) (now «delay_beats») (now «delay_values») (now «warp_beats») (now «warp_lengths»)) atFirst)) ≤ length (now work) ⌝ }
+    ensures { λ r. ⌜ r ≡ length (flat (merged (sources (now («tempo_beats» .entry)) (now («tempo_values» .entry)) (now (stops .entry)) (now («delay_beats» .entry)) (now («delay_values» .entry)) (now («warp_beats» .entry)) (now («warp_lengths» .entry))) atFirst)) ⌝ }
+    ensures { λ _. ⌜ now (work .exit) ≡ laid (flat (merged (sources (now («tempo_beats» .entry)) (now («tempo_values» .entry)) (now (stops .entry)) (now («delay_beats» .entry)) (now («delay_values» .entry)) (now («warp_beats» .entry)) (now («warp_lengths» .entry))) atFirst)) (now (work .entry)) ⌝ }
+{
+    let mut heads = Heads {
+        tempo: 0,
+        stop: 0,
+        delay: 0,
+        warp: 0,
+    };
+    let mut at: usize = 0;
+    loop {
+        if is_over(heads, stops, delay_beats, warp_beats) {
+            return at;
+        }
+        let turned = take_turn(
+            heads,
+            tempo_beats,
+            tempo_values,
+            stops,
+            delay_beats,
+            delay_values,
+            warp_beats,
+            warp_lengths,
+        );
+        let next = turned.heads;
+        heads = next;
+        at = lay_sum(work, at, turned.beat, turned.value);
+    }
+}
+
+// ---- refusals
+
+fn flat_beats_taken(kind: Kind, list: &[f32]) -> bool
+    ensures { λ r. ⌜ r ≡ beatsIn (rangeOf kind) (now (list .entry)) ⌝ }
+{
+    let range = limits::range_of(kind);
+    let mut i = 0;
+    while i < list.len() {
+        if limits::in_range(range, std::num::f32_to_f64_with_nan(list[i])) {
+            i += 2;
+            continue;
+        }
+        return false;
+    }
+    true
+}
+
+fn flat_values_taken(kind: Kind, list: &[f32]) -> bool
+    ensures { λ r. ⌜ r ≡ valuesIn (rangeOf kind) (now (list .entry)) ⌝ }
+{
+    let range = limits::range_of(kind);
+    let mut i = 0;
+    while i + 1 < list.len() {
+        if limits::in_range(range, std::num::f32_to_f64_with_nan(list[i + 1])) {
+            i += 2;
+            continue;
+        }
+        return false;
+    }
+    true
+}
+
+fn is_even(size: usize) -> bool
+    ensures { λ r. ⌜ r ≡ isEven size ⌝ }
+{
+    size % 2 == 0
+}
+
+// What a flat list answers by itself.
+fn flat_number(beat_kind: Kind, value_kind: Kind, list: &[f32]) -> u32
+    ensures { λ r. ⌜ r ≡ flatNumber (rangeOf «beat_kind») (rangeOf «value_kind») (now (list .entry)) ⌝ }
+{
+    if list.len() > 2048 {
+        return limits::TOO_LONG;
+    }
+    if !is_even(list.len()) {
+        return limits::UNEVEN;
+    }
+    if !flat_beats_taken(beat_kind, list) {
+        return limits::BAD_BEAT;
+    }
+    if !flat_values_taken(value_kind, list) {
+        return limits::BAD_VALUE;
+    }
+    limits::TAKEN
+}
+
+fn work_number(size: usize) -> u32
+    ensures { λ r. ⌜ r ≡ pick (isEven size) 0 2 ⌝ }
+{
+    if is_even(size) {
+        return limits::TAKEN;
+    }
+    limits::UNEVEN
+}
+
+fn lists_number(
+    tempo_beats: &[f32],
+    tempo_values: &[f32],
+    stops: &[f32],
+    delay_beats: &[f32],
+    delay_values: &[f32],
+    warp_beats: &[f32],
+    warp_lengths: &[f32],
+    size: usize,
+) -> u32
+    ensures { λ r. ⌜ r ≡ listsNumber (sources (now («tempo_beats» .entry)) (now («tempo_values» .entry)) (now (stops .entry)) (now («delay_beats» .entry)) (now («delay_values» .entry)) (now («warp_beats» .entry)) (now («warp_lengths» .entry))) size ⌝ }
+{
+    let tempos = limits::list_number_f32(Kind::Beat, Kind::Tempo, tempo_beats, tempo_values);
+    let own = flat_number(Kind::Beat, Kind::Pause, stops);
+    let delays = limits::list_number_f32(Kind::Beat, Kind::Pause, delay_beats, delay_values);
+    let warps = limits::list_number_f32(Kind::Beat, Kind::Value, warp_beats, warp_lengths);
+    let room = work_number(size);
+    let first = limits::lower_of(tempos, own);
+    let others = limits::lower_of(delays, warps);
+    let second = limits::lower_of(others, room);
+    limits::lower_of(first, second)
+}
+
+// ---- the calls
+
+fn refused(number: u32) -> Filled
+    ensures { λ r. ⌜ r ≡ record { number = number; count = 0; own = false } ⌝ }
+{
+    Filled {
+        number: number,
+        count: 0,
+        own: false,
+    }
+}
+
+// Whether the caller's own stops are the answer.
+fn is_own(delays: usize, warps: usize) -> bool
+    ensures { λ r. ⌜ r ≡ pick (eqb delays 0) (eqb warps 0) false ⌝ }
+{
+    if delays == 0 {
+        return warps == 0;
+    }
+    false
+}
+
+fn lacks_tempo(tempos: usize, warps: usize) -> bool
+    ensures { λ r. ⌜ r ≡ pick (eqb tempos 0) (ltb 0 warps) false ⌝ }
+{
+    if tempos == 0 {
+        return 0 < warps;
+    }
+    false
+}
+
+// The stops of an SM chart that lasts as long: stops and delays added up beat by beat, and for each warp the time taken away that it would have lasted. They are laid
+// over the front of the work list, a beat and then its value; without delays and warps the caller's own stops are the answer, and nothing is written.
+// `sm_stops` gives the answer. Refused with the lowest of 1, 2, 3 and 4, then with 8 for a warp and no tempo, and with 7 where the work list is too short.
+pub fn convert_warps_and_delays_to_sm_stops(
+    tempo_beats: &[f32],
+    tempo_values: &[f32],
+    stops: &[f32],
+    delay_beats: &[f32],
+    delay_values: &[f32],
+    warp_beats: &[f32],
+    warp_lengths: &[f32],
+    work: &mut [f32],
+) -> Filled
+    ensures { λ r. ⌜ StopsFilled (sources (now («tempo_beats» .entry)) (now («tempo_values» .entry)) (now (stops .entry)) (now («delay_beats» .entry)) (now («delay_values» .entry)) (now («warp_beats» .entry)) (now («warp_lengths» .entry))) r (now (work .entry)) (now (work .exit)) ⌝ }
+{
+    let number = lists_number(
+        tempo_beats,
+        tempo_values,
+        stops,
+        delay_beats,
+        delay_values,
+        warp_beats,
+        warp_lengths,
+        work.len(),
+    );
+    if number != 0 {
+        return refused(number);
+    }
+    if is_own(delay_beats.len(), warp_beats.len()) {
+        return Filled {
+            number: limits::TAKEN,
+            count: 0,
+            own: true,
+        };
+    }
+    if lacks_tempo(tempo_beats.len(), warp_beats.len()) {
+        return refused(limits::NO_TEMPO);
+    }
+    if !has_room(
+        tempo_beats,
+        tempo_values,
+        stops,
+        delay_beats,
+        delay_values,
+        warp_beats,
+        warp_lengths,
+        work.len() / 2,
+    ) {
+        return refused(limits::NO_ROOM);
+    }
+    let size = lay_stops(
+        tempo_beats,
+        tempo_values,
+        stops,
+        delay_beats,
+        delay_values,
+        warp_beats,
+        warp_lengths,
+        work,
+    );
+    Filled {
+        number: limits::TAKEN,
+        count: size / 2,
+        own: false,
+    }
+}
+
+// The caller's stops, or the filled part of the work list.
+pub fn sm_stops<'a>(stops: &'a [f32], work: &'a [f32], filled: Filled) -> &'a [f32]
+    ensures { λ r. ⌜ now r ≡ chosen filled (now (stops .entry)) (now (work .entry)) ⌝ }
+{
+    let own = filled.own;
+    if own {
+        return stops;
+    }
+    let count = filled.count;
+    if count <= work.len() / 2 {
+        return &work[..count * 2];
+    }
+    &work[..0]
+}
