@@ -1,11 +1,14 @@
 -- A refusal leaves the rooms as they were, and a taken call lays its result over their fronts. Assumes nothing.
 use Prim.Native.Nat.{ℕ, _≤_, _<_, min}
 use mathlib.Core.Path.{_≡_, refl, sym, ap, _∙_}
+use mathlib.Core.Bool.{Bool, true, false}
 use mathlib.Core.List.{List, [], map}
+use lib.Dec.{leb}
 use native.Mathlib.Omega.{arith}
 use lib.ListN.{length}
 use lib.Ieee.{Float}
-use borrow.Author.Tests.{eq-eqb, ne-eqb, le-leb, lt-leb}
+use borrow.Author.Tests.{eq-eqb, ne-eqb, le-leb, lt-leb, leb-true, leb-false}
+use Rattle.picks.specs.Pick.{pick}
 use Rattle.order.specs.Order.{laid}
 use Rattle.order.specs.Entries.{first, second}
 use Rattle.columns.specs.declared.Outcome.{Outcome}
@@ -71,3 +74,25 @@ module _ {result : List (Float × Float)} {firstOld secondOld : List Float} wher
         → LaidList 0 result (outcome .count) firstOld firstNew secondOld secondNew
     unfolding given
     list-of-pair p h = record { counted = rw h at (p .count); firstIs = rw h at (p .firstIs); secondIs = rw h at (p .secondIs) }
+
+-- ---- what a call with one list tells its caller, where its tests have passed
+module _ {result : List (Float × Float)} {outcome : Outcome} {firstOld firstNew secondOld secondNew : List Float} (p : LaidPair 0 result outcome firstOld firstNew secondOld secondNew) where
+  pub pair-fits : outcome .number ≡ 0 → length result ≤ min (length firstOld) (length secondOld)
+  unfolding roomNumber
+  pair-fits h = go (leb (length result) (min (length firstOld) (length secondOld))) refl (sym (p .number) ∙ h)
+    where
+      go : (t : Bool) → leb (length result) (min (length firstOld) (length secondOld)) ≡ t → _≡_ {A = ℕ} (pick t 0 7) 0 → length result ≤ min (length firstOld) (length secondOld)
+      go true e k = leb-true _ _ e
+      go false e k = absurd (omega arith)
+
+  pub pair-short : (outcome .number ≡ 0 → ⊥) → min (length firstOld) (length secondOld) < length result
+  unfolding roomNumber
+  pair-short h = go (leb (length result) (min (length firstOld) (length secondOld))) refl
+    where
+      go : (t : Bool) → leb (length result) (min (length firstOld) (length secondOld)) ≡ t → min (length firstOld) (length secondOld) < length result
+      go true e = absurd (h (p .number ∙ rw e))
+      go false e = leb-false _ _ e
+
+  pub pair-untouched : (outcome .number ≡ 0 → ⊥) → (firstNew ≡ firstOld) × (secondNew ≡ secondOld)
+  unfolding laid
+  pair-untouched h = (p .firstIs ∙ rw (nothing-given result (outcome .number) h), p .secondIs ∙ rw (nothing-given result (outcome .number) h))

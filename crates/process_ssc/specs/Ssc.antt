@@ -41,8 +41,8 @@ pub record SscProcessed (tempoBeats tempoValues stopBeats stopValues : List Floa
   pub number :
       outcome .number
       ≡ roomNumber
-      (roomNumber (rawNumbers tempoBeats tempoValues stopBeats stopValues) (length (sscTempos tempoBeats tempoValues)) (roomFor tempoBeatsOld tempoValuesOld))
-      (length (stayed stopBeats stopValues)) (roomFor stopBeatsOld stopValuesOld)
+      (roomNumber (rawNumbers tempoBeats tempoValues stopBeats stopValues) (length (stayed stopBeats stopValues)) (roomFor stopBeatsOld stopValuesOld))
+      (length (sscTempos tempoBeats tempoValues)) (roomFor tempoBeatsOld tempoValuesOld)
   pub tempos : LaidList (outcome .number) (sscTempos tempoBeats tempoValues) (outcome .tempos) tempoBeatsOld tempoBeatsNew tempoValuesOld tempoValuesNew
   pub stops : LaidList (outcome .number) (stayed stopBeats stopValues) (outcome .stops) stopBeatsOld stopBeatsNew stopValuesOld stopValuesNew
   pub warps : outcome .warps ≡ 0
