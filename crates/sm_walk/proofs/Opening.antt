@@ -1,4 +1,4 @@
--- The opening: its two loops, and what holds after it.
+-- The opening: its two loops, and what holds after it. Assumes nothing.
 use Prim.Native.Nat.{ℕ, zero, suc, _+_, _-_, _≤_, _<_, max}
 use mathlib.Core.Bool.{Bool, true, false, _&&_}
 use mathlib.Core.List.{List, [], _∷_, _++_}
@@ -10,12 +10,16 @@ use lib.ListN.{length, drop, getD}
 use lib.Ieee.{Float, binary32, sub, lt, le, eq, nan}
 use Rattle.sm_machine.specs.declared.Entry.{Entry}
 use Rattle.sm_machine.specs.declared.Warp.the-variants.{Closed, Open}
-use Rattle.sm_machine.specs.Machine.{pick, none, sixty, fits}
-use Rattle.sm_walk.specs.Chart.{entries, takenOff, stopsBefore, firstValue, firstTempo, lastTempo, temposBy0, openingTempo, offsetOf, openChart, openingPlaces}
-use Rattle.sm_walk.specs.Columns.{Numbers, Within, Reached, Chart, counted, noneCounted}
-use Rattle.sm_walk.proofs.Order.{at, entries-from, entries-end, entries-length}
+use Rattle.picks.specs.Pick.{pick}
+use Rattle.sm_machine.specs.Machine.{naught, sixty, fits}
+use Rattle.order.specs.Entries.{entries}
+use Rattle.sm_walk.specs.Chart.{takenOff, stopsBefore, firstValue, firstTempo, lastTempo, temposBy0, openingTempo, offsetOf, openingPlaces}
+use Rattle.sm_walk.specs.Inside.{Numbers, Within, Reached, Chart, counted, noneCounted}
+use Rattle.sm_machine.specs.Machine.{openChart}
+use Rattle.sm_walk.proofs.NextChange.{at, entries-from, entries-end}
 
 pub first-is : (beats values : List Float) → length beats ≡ length values → firstTempo (entries beats values) ≡ firstValue values
+unfolding entries
 first-is [] [] e = refl
 first-is [] (v ∷ vs) e = absurd (omega arith)
 first-is (b ∷ bs) [] e = absurd (omega arith)
@@ -27,12 +31,12 @@ module _ (beats values : List Float) (same : length beats ≡ length values) (i 
 
   -- ---- tempos
 
-  pub tempo-on : (tempo : Float) → i < length beats → le (getD beats i nan) none ≡ true
+  pub tempo-on : (tempo : Float) → i < length beats → le (getD beats i nan) naught ≡ true
       → lastTempo tempo (drop i (entries beats values)) ≡ lastTempo (getD values i nan) (drop (i + 1) (entries beats values))
   unfolding lastTempo
   tempo-on tempo h b = rw (from h, b)
 
-  pub tempo-off : (tempo : Float) → i < length beats → le (getD beats i nan) none ≡ false → lastTempo tempo (drop i (entries beats values)) ≡ tempo
+  pub tempo-off : (tempo : Float) → i < length beats → le (getD beats i nan) naught ≡ false → lastTempo tempo (drop i (entries beats values)) ≡ tempo
   unfolding lastTempo
   tempo-off tempo h b = rw (from h, b)
 
@@ -40,11 +44,11 @@ module _ (beats values : List Float) (same : length beats ≡ length values) (i 
   unfolding lastTempo
   tempo-end tempo h = rw (entries-end beats values i h)
 
-  pub tempos-on : i < length beats → le (getD beats i nan) none ≡ true → temposBy0 (drop i (entries beats values)) ≡ suc (temposBy0 (drop (i + 1) (entries beats values)))
+  pub tempos-on : i < length beats → le (getD beats i nan) naught ≡ true → temposBy0 (drop i (entries beats values)) ≡ suc (temposBy0 (drop (i + 1) (entries beats values)))
   unfolding temposBy0
   tempos-on h b = rw (from h, b)
 
-  pub tempos-off : i < length beats → le (getD beats i nan) none ≡ false → temposBy0 (drop i (entries beats values)) ≡ 0
+  pub tempos-off : i < length beats → le (getD beats i nan) naught ≡ false → temposBy0 (drop i (entries beats values)) ≡ 0
   unfolding temposBy0
   tempos-off h b = rw (from h, b)
 
@@ -54,12 +58,12 @@ module _ (beats values : List Float) (same : length beats ≡ length values) (i 
 
   -- ---- stops
 
-  pub stop-on : (offset : Float) → i < length beats → lt (getD beats i nan) none ≡ true
+  pub stop-on : (offset : Float) → i < length beats → lt (getD beats i nan) naught ≡ true
       → takenOff offset (drop i (entries beats values)) ≡ takenOff (sub binary32 offset (getD values i nan)) (drop (i + 1) (entries beats values))
   unfolding takenOff
   stop-on offset h b = rw (from h, b)
 
-  pub stop-off : (offset : Float) → i < length beats → lt (getD beats i nan) none ≡ false → takenOff offset (drop i (entries beats values)) ≡ offset
+  pub stop-off : (offset : Float) → i < length beats → lt (getD beats i nan) naught ≡ false → takenOff offset (drop i (entries beats values)) ≡ offset
   unfolding takenOff
   stop-off offset h b = rw (from h, b)
 
@@ -67,11 +71,11 @@ module _ (beats values : List Float) (same : length beats ≡ length values) (i 
   unfolding takenOff
   stop-end offset h = rw (entries-end beats values i h)
 
-  pub stops-on : i < length beats → lt (getD beats i nan) none ≡ true → stopsBefore (drop i (entries beats values)) ≡ suc (stopsBefore (drop (i + 1) (entries beats values)))
+  pub stops-on : i < length beats → lt (getD beats i nan) naught ≡ true → stopsBefore (drop i (entries beats values)) ≡ suc (stopsBefore (drop (i + 1) (entries beats values)))
   unfolding stopsBefore
   stops-on h b = rw (from h, b)
 
-  pub stops-off : i < length beats → lt (getD beats i nan) none ≡ false → stopsBefore (drop i (entries beats values)) ≡ 0
+  pub stops-off : i < length beats → lt (getD beats i nan) naught ≡ false → stopsBefore (drop i (entries beats values)) ≡ 0
   unfolding stopsBefore
   stops-off h b = rw (from h, b)
 
@@ -81,30 +85,30 @@ module _ (beats values : List Float) (same : length beats ≡ length values) (i 
 
 -- ---- after the opening
 
-pub fewer-tempos : (l : List Entry) → temposBy0 l ≤ length l
+pub fewer-tempos : (l : List (Float × Float)) → temposBy0 l ≤ length l
 unfolding temposBy0
 fewer-tempos [] = omega arith
-fewer-tempos (x ∷ l) = let h = fewer-tempos l in go (le (x .beat) none) h
+fewer-tempos (x ∷ l) = let h = fewer-tempos l in go (le (x .0) naught) h
   where
     go : (b : Bool) → temposBy0 l ≤ length l → pick b (suc (temposBy0 l)) 0 ≤ suc (length l)
     go true h = omega arith
     go false h = omega arith
 
-pub fewer-stops : (l : List Entry) → stopsBefore l ≤ length l
+pub fewer-stops : (l : List (Float × Float)) → stopsBefore l ≤ length l
 unfolding stopsBefore
 fewer-stops [] = omega arith
-fewer-stops (x ∷ l) = let h = fewer-stops l in go (lt (x .beat) none) h
+fewer-stops (x ∷ l) = let h = fewer-stops l in go (lt (x .0) naught) h
   where
     go : (b : Bool) → stopsBefore l ≤ length l → pick b (suc (stopsBefore l)) 0 ≤ suc (length l)
     go true h = omega arith
     go false h = omega arith
 
-pub last-number : (l : List Entry) (tempo : Float) → Numbers l → eq tempo tempo ≡ true → eq (lastTempo tempo l) (lastTempo tempo l) ≡ true
+pub last-number : (l : List (Float × Float)) (tempo : Float) → Numbers l → eq tempo tempo ≡ true → eq (lastTempo tempo l) (lastTempo tempo l) ≡ true
 unfolding lastTempo
 last-number [] tempo n e = e
-last-number (x ∷ l) tempo n e = go (le (x .beat) none) (last-number l (x .value) (n .1) (n .0))
+last-number (x ∷ l) tempo n e = go (le (x .0) naught) (last-number l (x .1) (n .1) (n .0))
   where
-    go : (b : Bool) → eq (lastTempo (x .value) l) (lastTempo (x .value) l) ≡ true → eq (pick b (lastTempo (x .value) l) tempo) (pick b (lastTempo (x .value) l) tempo) ≡ true
+    go : (b : Bool) → eq (lastTempo (x .1) l) (lastTempo (x .1) l) ≡ true → eq (pick b (lastTempo (x .1) l) tempo) (pick b (lastTempo (x .1) l) tempo) ≡ true
     go true h = h
     go false h = e
 

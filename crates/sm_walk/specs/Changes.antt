@@ -12,9 +12,12 @@ use Rattle.sm_walk.specs.declared.Next.{Next}
 use Rattle.sm_walk.specs.declared.Next.the-variants.{Here, End}
 use Rattle.sm_walk.specs.declared.Places.{Places}
 
--- a beat and a value as the machine takes them
+-- a beat and a value as the machine takes them, and as lists have them
 abbrev pub entryOf : Float × Float → Entry
 entryOf e = record { beat = e .0; value = e .1 }
+
+abbrev pub pairOf : Entry → Float × Float
+pairOf entry = (entry .beat, entry .value)
 
 abbrev pub tempoOf : Float × Float → Change
 tempoOf e = Tempo (entryOf e)

@@ -10,7 +10,7 @@ use Rattle.sm_machine.specs.declared.Written.{Written}
 use Rattle.sm_machine.specs.declared.Written.the-variants.{Nothing, One}
 use Rattle.sm_machine.specs.declared.Moved.{Moved}
 use Rattle.sm_walk.specs.declared.Places.{Places}
-use Rattle.sm_walk.specs.Changes.{left}
+use Rattle.sm_walk.specs.Changes.{pairOf, left}
 
 -- ---- what is written, in order
 
@@ -21,7 +21,7 @@ pub record Output : Type 0 where
 
 abbrev pub listOf : Written → List (Float × Float)
 listOf Nothing = []
-listOf (One entry) = (entry .beat, entry .value) ∷ []
+listOf (One entry) = pairOf entry ∷ []
 
 abbrev pub writtenBy : Moved → Output
 writtenBy moved = record { tempos = listOf (moved .tempo); stops = listOf (moved .stop); warps = listOf (moved .warp) }

@@ -472,6 +472,44 @@ fn has_room(
     false
 }
 
+fn walk_number(
+    tempo_beats: &[f32],
+    tempo_values: &[f32],
+    stop_beats: &[f32],
+    stop_values: &[f32],
+    out_tempo_beats: &[f64],
+    out_tempo_values: &[f64],
+    out_stop_beats: &[f64],
+    out_stop_values: &[f64],
+    out_warp_beats: &[f64],
+    out_warp_lengths: &[f64],
+) -> u32
+    ensures { λ r. ⌜ r ≡ walkNumber (now («tempo_beats» .entry)) (now («tempo_values» .entry)) (now («stop_beats» .entry)) (now («stop_values» .entry)) (columns (now («out_tempo_beats» .entry)) (now («out_tempo_values» .entry)) (now («out_stop_beats» .entry)) (now («out_stop_values» .entry)) (now («out_warp_beats» .entry)) (now («out_warp_lengths» .entry))) ⌝ }
+{
+    let number = chart_number(tempo_beats, tempo_values, stop_beats, stop_values);
+    if number == 0 {
+        let tempos = at_least_one(tempo_beats.len());
+        let most = Counts {
+            tempos,
+            stops: stop_beats.len(),
+            warps: tempo_beats.len() + stop_beats.len(),
+        };
+        if has_room(
+            most,
+            out_tempo_beats,
+            out_tempo_values,
+            out_stop_beats,
+            out_stop_values,
+            out_warp_beats,
+            out_warp_lengths,
+        ) {
+            return limits::TAKEN;
+        }
+        return limits::NO_ROOM;
+    }
+    number
+}
+
 fn refused(number: u32) -> Walked
     ensures { λ r. ⌜ r ≡ record { number = number; tempos = 0; stops = 0; warps = 0; offset = naught } ⌝ }
 {
@@ -501,27 +539,20 @@ pub fn walk_changes(
 ) -> Walked
     ensures { λ r. ⌜ WalkLaid (entries (now («tempo_beats» .entry)) (now («tempo_values» .entry))) (entries (now («stop_beats» .entry)) (now («stop_values» .entry))) (walkNumber (now («tempo_beats» .entry)) (now («tempo_values» .entry)) (now («stop_beats» .entry)) (now («stop_values» .entry)) (columns (now («out_tempo_beats» .entry)) (now («out_tempo_values» .entry)) (now («out_stop_beats» .entry)) (now («out_stop_values» .entry)) (now («out_warp_beats» .entry)) (now («out_warp_lengths» .entry)))) r (columns (now («out_tempo_beats» .entry)) (now («out_tempo_values» .entry)) (now («out_stop_beats» .entry)) (now («out_stop_values» .entry)) (now («out_warp_beats» .entry)) (now («out_warp_lengths» .entry))) (columns (now («out_tempo_beats» .exit)) (now («out_tempo_values» .exit)) (now («out_stop_beats» .exit)) (now («out_stop_values» .exit)) (now («out_warp_beats» .exit)) (now («out_warp_lengths» .exit))) ⌝ }
 {
-    let number = chart_number(tempo_beats, tempo_values, stop_beats, stop_values);
-    if number != 0 {
-        return refused(number);
-    }
-    let tempos = tempo_beats.len();
-    let stops = stop_beats.len();
-    let most = Counts {
-        tempos: at_least_one(tempos),
-        stops,
-        warps: tempos + stops,
-    };
-    if !has_room(
-        most,
+    let number = walk_number(
+        tempo_beats,
+        tempo_values,
+        stop_beats,
+        stop_values,
         out_tempo_beats,
         out_tempo_values,
         out_stop_beats,
         out_stop_values,
         out_warp_beats,
         out_warp_lengths,
-    ) {
-        return refused(limits::NO_ROOM);
+    );
+    if number != 0 {
+        return refused(number);
     }
     let done = walk_chart(
         tempo_beats,

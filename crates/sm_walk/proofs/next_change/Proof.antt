@@ -1,4 +1,4 @@
-use Rattle.sm_walk.proofs.Order.{next-tempo, next-stop, next-last-tempo, next-last-stop, next-none}
+use Rattle.sm_walk.proofs.NextChange.{next-tempo, next-stop, next-last-tempo, next-last-stop, next-none}
 use borrow.Author.Needs.{needs}
 use Rattle.sm_walk.proofs.next_change.Statement.{statement}
 use Rattle.sm_walk.proofs.next_change.Tie as tie

@@ -1,4 +1,4 @@
--- The walk over the changes: its invariant, one turn, the end.
+-- The walk over the changes: what the loop knows, one turn, the end. Assumes nothing.
 use Prim.Native.Nat.{ℕ, zero, suc, _+_, _-_, _≤_, _<_, _^_, max}
 use mathlib.Core.Bool.{Bool, true, false}
 use mathlib.Core.List.{List, [], _∷_, _++_}
@@ -10,6 +10,11 @@ use lib.Ieee.{Float, eq}
 use Rattle.sm_machine.specs.declared.Entry.{Entry}
 use Rattle.sm_machine.specs.declared.Change.{Change}
 use Rattle.sm_machine.specs.declared.Change.the-variants.{Tempo, Stop}
+use Rattle.order.specs.Entries.{entries}
+use Rattle.sm_walk.specs.Changes.{pairOf, headOf, left, advanced}
+use Rattle.sm_walk.specs.Chart.{Output, joined, writtenBy, writtenAt, walk}
+use Rattle.sm_walk.specs.Columns.{Columns, most}
+use Rattle.sm_walk.specs.Inside.{written, counted, Room, Within, Numbers, Chart, Reached}
 use Rattle.sm_walk.specs.declared.Next.{Next}
 use Rattle.sm_walk.specs.declared.Next.the-variants.{Here, End}
 use Rattle.sm_machine.specs.declared.State.{State}
@@ -18,24 +23,23 @@ use Rattle.sm_walk.specs.declared.Places.{Places}
 use Rattle.sm_walk.specs.declared.Counts.{Counts}
 use Rattle.sm_walk.specs.declared.Standing.{Standing}
 use Rattle.sm_machine.specs.Machine.{finish}
-use Rattle.sm_walk.specs.Chart.{Output, entries, headOf, left, advanced, joined, writtenBy, writtenAt, walk}
 use Rattle.sm_machine.specs.Machine.{passed, met}
-use Rattle.sm_walk.specs.Columns.{Columns, written, counted, Room, most, Within, Numbers, Chart, Reached}
-use Rattle.sm_walk.proofs.Order.{entries-length, left-on, left-end, InList, next-in-list, From, taken, restOfTempos}
-use Rattle.sm_walk.proofs.Laid.{written-more, counted-more}
-use Rattle.sm_walk.proofs.Bounds.{Number, within-step, within-finish}
-use Rattle.sm_walk.proofs.Turn.{SameLengths, same-refl, same-written, same-then, room-same, room-less}
+use Rattle.order.proofs.Columns.{length-entries}
+use Rattle.sm_walk.proofs.NextChange.{left-on, left-end, InList, next-in-list, From, taken, restOfTempos}
+use Rattle.sm_walk.proofs.PlacedInColumns.{written-more, counted-more}
+use Rattle.sm_walk.proofs.NoMoreThanMet.{Number, within-step, within-finish}
+use Rattle.sm_walk.proofs.OneChange.{SameLengths, same-refl, same-written, same-then, room-same, room-less}
 
 -- ---- a tempo that is met is no NaN
 
-number-at : (l : List Entry) (i : ℕ) (x : Entry) (xs : List Entry) → Numbers l → drop i l ≡ x ∷ xs → eq (x .value) (x .value) ≡ true
+number-at : (l : List (Float × Float)) (i : ℕ) (x : Float × Float) (xs : List (Float × Float)) → Numbers l → drop i l ≡ x ∷ xs → eq (x .1) (x .1) ≡ true
 number-at [] zero x xs n e = let z : _≡_ {A = ℕ} 0 1 = cc in absurd (omega arith)
 number-at [] (suc i) x xs n e = let z : _≡_ {A = ℕ} 0 1 = cc in absurd (omega arith)
 number-at (y ∷ ys) zero x xs n e = let h : x ≡ y = cc in rw h (n .0)
 number-at (y ∷ ys) (suc i) x xs n e = number-at ys i x xs (n .1) e
 
-number-from : (tempos stops : List Entry) (places : Places) (change : Change) → Numbers tempos → From (drop (places .tempo) tempos) stops change → Number change
-number-from tempos stops places (Tempo entry) n f = number-at tempos (places .tempo) entry (restOfTempos (drop (places .tempo) tempos) (Tempo entry)) n f
+number-from : (tempos stops : List (Float × Float)) (places : Places) (change : Change) → Numbers tempos → From (drop (places .tempo) tempos) stops change → Number change
+number-from tempos stops places (Tempo entry) n f = number-at tempos (places .tempo) (pairOf entry) (restOfTempos (drop (places .tempo) tempos) (Tempo entry)) n f
 number-from tempos stops places (Stop entry) n f = tt
 
 -- ---- the invariant
@@ -64,11 +68,11 @@ reached-next : (tb tv sb sv : List Float) (places : Places) (change : Change) �
     → InList (entries tb tv) (entries sb sv) places change → Reached (length tb) (length sb) (advanced places change)
 reached-next tb tv sb sv places (Tempo entry) c r h =
     let a = r .tempo in let b = r .stop in let k = le-max-left (length tb) 1 in
-    let h′ : places .tempo < length tb = rw (entries-length tb tv (c .tempos)) at h in
+    let h′ : places .tempo < length tb = rw (length-entries tb tv (c .tempos)) at h in
     record { tempo = omega arith; stop = omega arith }
 reached-next tb tv sb sv places (Stop entry) c r h =
     let a = r .tempo in let b = r .stop in
-    let h′ : places .stop < length sb = rw (entries-length sb sv (c .stops)) at h in
+    let h′ : places .stop < length sb = rw (length-entries sb sv (c .stops)) at h in
     record { tempo = omega arith; stop = omega arith }
 
 fewer : (tb sb : List Float) (places : Places) (change : Change) → Reached (length tb) (length sb) (advanced places change) → ahead tb sb (advanced places change) < ahead tb sb places

@@ -1,14 +1,16 @@
--- Lists written into columns, one after the other.
+-- Lists written into columns, one behind the other; from place 0 on they are laid over the front. Assumes nothing.
 use Prim.Native.Nat.{ℕ, zero, suc, _+_, _≤_, _<_}
-use mathlib.Core.List.{List, [], _∷_, _++_, append-assoc, append-nil}
+use mathlib.Core.List.{List, [], _∷_, _++_, map, append-assoc, map-append}
 use mathlib.Core.Path.{_≡_, refl, sym, ap, _∙_}
 use native.Mathlib.Omega.{arith}
-use lib.ListN.{length, set, length-set, length-append}
+use lib.ListN.{length, set, length-set, length-append, length-map}
 use lib.Ieee.{Float}
-use Rattle.sm_machine.specs.declared.Entry.{Entry}
-use Rattle.sm_walk.specs.declared.Counts.{Counts}
+use Rattle.order.specs.Order.{laid}
+use Rattle.order.specs.Entries.{first, second}
 use Rattle.sm_walk.specs.Chart.{Output, joined}
-use Rattle.sm_walk.specs.Columns.{Columns, beatsOf, valuesOf, placed, written, counted, laid}
+use Rattle.sm_walk.specs.Columns.{Columns}
+use Rattle.sm_walk.specs.Inside.{placed, written, counted}
+use Rattle.sm_walk.specs.declared.Counts.{Counts}
 
 placed-more : (xs ys : List Float) (at : ℕ) (column : List Float) → placed at (xs ++ ys) column ≡ placed (at + length xs) ys (placed at xs column)
 unfolding placed
@@ -16,33 +18,15 @@ placed-more [] ys at column = ap (λ (n : ℕ). placed n ys column) (omega arith
 placed-more (x ∷ xs) ys at column =
     placed-more xs ys (at + 1) (set column at x) ∙ ap (λ (n : ℕ). placed n ys (placed (at + 1) xs (set column at x))) (omega arith)
 
-beats-more : (a b : List Entry) → beatsOf (a ++ b) ≡ beatsOf a ++ beatsOf b
-beats-more [] b = refl
-beats-more (x ∷ a) b = ap (λ (l : List Float). x .beat ∷ l) (beats-more a b)
-
-values-more : (a b : List Entry) → valuesOf (a ++ b) ≡ valuesOf a ++ valuesOf b
-values-more [] b = refl
-values-more (x ∷ a) b = ap (λ (l : List Float). x .value ∷ l) (values-more a b)
-
-beats-length : (a : List Entry) → length (beatsOf a) ≡ length a
-beats-length [] = refl
-beats-length (x ∷ a) = ap suc (beats-length a)
-
-values-length : (a : List Entry) → length (valuesOf a) ≡ length a
-values-length [] = refl
-values-length (x ∷ a) = ap suc (values-length a)
-
-beats-placed : (a b : List Entry) (at : ℕ) (column : List Float) → placed at (beatsOf (a ++ b)) column ≡ placed (at + length a) (beatsOf b) (placed at (beatsOf a) column)
-beats-placed a b at column = ap (λ (l : List Float). placed at l column) (beats-more a b) ∙ placed-more (beatsOf a) (beatsOf b) at column ∙ rw (beats-length a)
-
-values-placed : (a b : List Entry) (at : ℕ) (column : List Float) → placed at (valuesOf (a ++ b)) column ≡ placed (at + length a) (valuesOf b) (placed at (valuesOf a) column)
-values-placed a b at column = ap (λ (l : List Float). placed at l column) (values-more a b) ∙ placed-more (valuesOf a) (valuesOf b) at column ∙ rw (values-length a)
+field-placed : (field : Float × Float → Float) (a b : List (Float × Float)) (at : ℕ) (column : List Float)
+    → placed at (map field (a ++ b)) column ≡ placed (at + length a) (map field b) (placed at (map field a) column)
+field-placed field a b at column = ap (λ (l : List Float). placed at l column) (map-append field a b) ∙ placed-more (map field a) (map field b) at column ∙ rw (length-map a field)
 
 pub written-more : (counts : Counts) (a b : Output) (into : Columns) → written counts (joined a b) into ≡ written (counted counts a) b (written counts a into)
 written-more counts a b into =
-    rw (beats-placed (a .tempos) (b .tempos) (counts .tempos) (into .tempoBeats), values-placed (a .tempos) (b .tempos) (counts .tempos) (into .tempoValues), beats-placed (a .stops) (b .stops) (counts .stops) (into .stopBeats), values-placed (a .stops) (b .stops) (counts .stops) (into .stopValues), beats-placed (a .warps) (b .warps) (counts .warps) (into .warpBeats), values-placed (a .warps) (b .warps) (counts .warps) (into .warpLengths))
+    rw (field-placed first (a .tempos) (b .tempos) (counts .tempos) (into .tempoBeats), field-placed second (a .tempos) (b .tempos) (counts .tempos) (into .tempoValues), field-placed first (a .stops) (b .stops) (counts .stops) (into .stopBeats), field-placed second (a .stops) (b .stops) (counts .stops) (into .stopValues), field-placed first (a .warps) (b .warps) (counts .warps) (into .warpBeats), field-placed second (a .warps) (b .warps) (counts .warps) (into .warpLengths))
 
-sum-more : (n : ℕ) (a b : List Entry) → n + length (a ++ b) ≡ n + length a + length b
+sum-more : (n : ℕ) (a b : List (Float × Float)) → n + length (a ++ b) ≡ n + length a + length b
 sum-more n a b = simp length-append (omega arith)
 
 pub counted-more : (counts : Counts) (a b : Output) → counted counts (joined a b) ≡ counted (counted counts a) b

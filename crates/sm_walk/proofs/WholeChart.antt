@@ -1,4 +1,4 @@
--- The opening and the walk together.
+-- The opening and the walk together. Assumes nothing.
 use Prim.Native.Nat.{ℕ, zero, suc, _+_, _-_, _≤_, _<_, max}
 use mathlib.Core.Bool.{Bool, true, false, _&&_}
 use mathlib.Core.List.{List, [], _∷_, _++_}
@@ -11,18 +11,22 @@ use Rattle.sm_machine.specs.declared.Entry.{Entry}
 use Rattle.sm_machine.specs.declared.Written.{Written}
 use Rattle.sm_machine.specs.declared.State.{State}
 use Rattle.sm_machine.specs.declared.Moved.{Moved}
+use Rattle.order.specs.Entries.{entries}
+use Rattle.sm_walk.specs.Changes.{left}
+use Rattle.sm_walk.specs.Chart.{Output, listOf, joined, writtenBy, walk, firstTempo, temposBy0, stopsBefore, openingTempo, offsetOf, openingPlaces, processed}
+use Rattle.sm_walk.specs.Columns.{Columns, most}
+use Rattle.sm_walk.specs.Inside.{written, counted, noneCounted, Room, Within, Numbers, Chart, Reached}
+use Rattle.sm_machine.specs.Machine.{openChart}
 use Rattle.sm_walk.specs.declared.Places.{Places}
 use Rattle.sm_walk.specs.declared.Counts.{Counts}
 use Rattle.sm_walk.specs.declared.Opener.{Opener}
 use Rattle.sm_walk.specs.declared.Early.{Early}
-use Rattle.sm_walk.specs.declared.Walked.{Walked}
+use Rattle.sm_walk.specs.declared.Finished.{Finished}
 use Rattle.sm_machine.specs.Machine.{fits, sixty}
-use Rattle.sm_walk.specs.Chart.{Output, entries, listOf, left, joined, writtenBy, walk, firstTempo, temposBy0, stopsBefore, openingTempo, offsetOf, openChart, openingPlaces, processed}
-use Rattle.sm_walk.specs.Columns.{Columns, written, counted, noneCounted, Room, most, Within, Numbers, Chart, Reached}
-use Rattle.sm_walk.proofs.Order.{entries-length}
-use Rattle.sm_walk.proofs.Laid.{written-more, counted-more}
-use Rattle.sm_walk.proofs.Bounds.{either}
-use Rattle.sm_walk.proofs.Turn.{room-less}
+use Rattle.order.proofs.Columns.{length-entries}
+use Rattle.sm_walk.proofs.PlacedInColumns.{written-more, counted-more}
+use Rattle.sm_walk.proofs.NoMoreThanMet.{either}
+use Rattle.sm_walk.proofs.OneChange.{room-less}
 use Rattle.sm_walk.proofs.Opening.{fewer-tempos, fewer-stops, last-number}
 
 opening-one : (tempo : Float) → length (listOf (openChart tempo .tempo)) ≤ 1
@@ -33,14 +37,14 @@ sixty-number : eq sixty sixty ≡ true
 unfolding eq ofBits
 sixty-number = refl
 
-first-number : (l : List Entry) → Numbers l → eq (firstTempo l) (firstTempo l) ≡ true
+first-number : (l : List (Float × Float)) → Numbers l → eq (firstTempo l) (firstTempo l) ≡ true
 first-number [] n = sixty-number
 first-number (x ∷ l) n = n .0
 
 module _ (tb tv sb sv : List Float) (chart : Chart tb tv sb sv) where
   pub opening-reached : Reached (length tb) (length sb) (openingPlaces (entries tb tv) (entries sb sv))
   opening-reached =
-      let a = fewer-tempos (entries tb tv) in let b = fewer-stops (entries sb sv) in let d = entries-length tb tv (chart .tempos) in let e = entries-length sb sv (chart .stops) in
+      let a = fewer-tempos (entries tb tv) in let b = fewer-stops (entries sb sv) in let d = length-entries tb tv (chart .tempos) in let e = length-entries sb sv (chart .stops) in
       let f = le-max-left (length tb) 1 in
       record { tempo = max-le {a = temposBy0 (entries tb tv)} {b = 1} {k = max (length tb) 1} (omega arith) (le-max-right (length tb) 1); stop = omega arith }
 
@@ -80,7 +84,7 @@ module _ (tb tv sb sv : List Float) (chart : Chart tb tv sb sv) where
     pub whole : (so-far counts : Counts) (mid last : Columns) → so-far ≡ counted noneCounted (writtenBy opening) → mid ≡ written noneCounted (writtenBy opening) into
         → counts ≡ counted so-far (walk (left (entries tb tv) (entries sb sv) (record { tempo = opener .used; stop = early .used })) (opening .state))
         → last ≡ written so-far (walk (left (entries tb tv) (entries sb sv) (record { tempo = opener .used; stop = early .used })) (opening .state)) mid
-        → (_≡_ {A = Walked} (record { offset = early .offset; counts = counts }) (record { offset = offsetOf (entries sb sv); counts = counted noneCounted (processed (entries tb tv) (entries sb sv)) }))
+        → (_≡_ {A = Finished} (record { offset = early .offset; counts = counts }) (record { offset = offsetOf (entries sb sv); counts = counted noneCounted (processed (entries tb tv) (entries sb sv)) }))
         × (last ≡ written noneCounted (processed (entries tb tv) (entries sb sv)) into)
     whole so-far counts mid last s n k f =
         let first = writtenBy (openChart (openingTempo (entries tb tv))) in

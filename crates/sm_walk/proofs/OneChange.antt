@@ -1,22 +1,24 @@
--- One change: room for it, and what the columns hold after it.
+-- One change: room for it, and what the columns hold after it. Assumes nothing.
 use Prim.Native.Nat.{ℕ, zero, suc, _+_, _≤_, _<_, max}
-use mathlib.Core.List.{List, [], _∷_, _++_}
+use mathlib.Core.List.{List, [], _∷_, _++_, map}
 use mathlib.Core.Path.{_≡_, refl, sym, ap, _∙_}
 use native.Mathlib.Omega.{arith}
-use lib.ListN.{length, length-append}
+use lib.ListN.{length, length-append, length-map}
 use lib.Ieee.{Float}
 use Rattle.sm_machine.specs.declared.Entry.{Entry}
 use Rattle.sm_machine.specs.declared.Change.{Change}
 use Rattle.sm_machine.specs.declared.State.{State}
 use Rattle.sm_machine.specs.declared.Moved.{Moved}
+use Rattle.order.specs.Entries.{first, second}
+use Rattle.sm_walk.specs.Chart.{Output, joined, writtenBy, writtenAt}
+use Rattle.sm_walk.specs.Columns.{Columns}
+use Rattle.sm_walk.specs.Inside.{placed, written, counted, Room}
 use Rattle.sm_walk.specs.declared.Places.{Places}
 use Rattle.sm_walk.specs.declared.Counts.{Counts}
 use Rattle.sm_walk.specs.declared.Standing.{Standing}
 use Rattle.sm_machine.specs.Machine.{meet}
-use Rattle.sm_walk.specs.Chart.{Output, joined, writtenBy, writtenAt}
 use Rattle.sm_machine.specs.Machine.{passed, met}
-use Rattle.sm_walk.specs.Columns.{Columns, beatsOf, valuesOf, placed, written, counted, Room}
-use Rattle.sm_walk.proofs.Laid.{written-more, counted-more, placed-length}
+use Rattle.sm_walk.proofs.PlacedInColumns.{written-more, counted-more, placed-length}
 
 -- ---- lengths
 
@@ -33,12 +35,12 @@ same-refl a = record { tempoBeats = refl; tempoValues = refl; stopBeats = refl; 
 
 pub same-written : (counts : Counts) (out : Output) (a b : Columns) → a ≡ written counts out b → SameLengths a b
 same-written counts out a b e = record {
-  tempoBeats = ap (λ (c : Columns). length (c .tempoBeats)) e ∙ placed-length (beatsOf (out .tempos)) (counts .tempos) (b .tempoBeats);
-  tempoValues = ap (λ (c : Columns). length (c .tempoValues)) e ∙ placed-length (valuesOf (out .tempos)) (counts .tempos) (b .tempoValues);
-  stopBeats = ap (λ (c : Columns). length (c .stopBeats)) e ∙ placed-length (beatsOf (out .stops)) (counts .stops) (b .stopBeats);
-  stopValues = ap (λ (c : Columns). length (c .stopValues)) e ∙ placed-length (valuesOf (out .stops)) (counts .stops) (b .stopValues);
-  warpBeats = ap (λ (c : Columns). length (c .warpBeats)) e ∙ placed-length (beatsOf (out .warps)) (counts .warps) (b .warpBeats);
-  warpLengths = ap (λ (c : Columns). length (c .warpLengths)) e ∙ placed-length (valuesOf (out .warps)) (counts .warps) (b .warpLengths);
+  tempoBeats = ap (λ (c : Columns). length (c .tempoBeats)) e ∙ placed-length (map first (out .tempos)) (counts .tempos) (b .tempoBeats);
+  tempoValues = ap (λ (c : Columns). length (c .tempoValues)) e ∙ placed-length (map second (out .tempos)) (counts .tempos) (b .tempoValues);
+  stopBeats = ap (λ (c : Columns). length (c .stopBeats)) e ∙ placed-length (map first (out .stops)) (counts .stops) (b .stopBeats);
+  stopValues = ap (λ (c : Columns). length (c .stopValues)) e ∙ placed-length (map second (out .stops)) (counts .stops) (b .stopValues);
+  warpBeats = ap (λ (c : Columns). length (c .warpBeats)) e ∙ placed-length (map first (out .warps)) (counts .warps) (b .warpBeats);
+  warpLengths = ap (λ (c : Columns). length (c .warpLengths)) e ∙ placed-length (map second (out .warps)) (counts .warps) (b .warpLengths);
 }
 
 pub same-then : (a b c : Columns) → SameLengths a b → SameLengths b c → SameLengths a c

@@ -1,4 +1,4 @@
--- No more is written than the changes met account for.
+-- No more is written than the changes met account for. Assumes nothing.
 use Prim.Native.Nat.{ℕ, zero, suc, _+_, _≤_, _<_, max}
 use mathlib.Core.Bool.{Bool, true, false, _&&_}
 use mathlib.Core.List.{List, [], _∷_, _++_}
@@ -9,6 +9,9 @@ use lib.Ieee.{Float, binary32, add, sub, mul, div, lt, eq}
 use Rattle.sm_machine.specs.declared.Entry.{Entry}
 use Rattle.sm_machine.specs.declared.Change.{Change}
 use Rattle.sm_machine.specs.declared.Change.the-variants.{Tempo, Stop}
+use Rattle.sm_walk.specs.Changes.{advanced}
+use Rattle.sm_walk.specs.Chart.{listOf, writtenBy, joined, writtenAt}
+use Rattle.sm_walk.specs.Inside.{counted, pendingIn, pending, warpingIn, Within}
 use Rattle.sm_walk.specs.declared.Next.the-variants.{Here, End}
 use Rattle.sm_machine.specs.declared.Opened.{Opened}
 use Rattle.sm_machine.specs.declared.Warp.{Warp}
@@ -19,11 +22,10 @@ use Rattle.sm_machine.specs.declared.Written.the-variants.{Nothing, One}
 use Rattle.sm_machine.specs.declared.Moved.{Moved}
 use Rattle.sm_walk.specs.declared.Places.{Places}
 use Rattle.sm_walk.specs.declared.Counts.{Counts}
-use Rattle.sm_machine.specs.Machine.{pick, none, sixty, fits, warpOver, tempoAfter, still, owedAt, keepWarp, closeByTime, passInWarp, passBy, pass, tempoOutside, tempoBy, meetTempo, stopOutside, closeByStop, beginAgain, stopInWarp, stopBy, meetStop, beatAt, meet, endOf, finishWarp, finishBy, finish}
-use Rattle.sm_walk.specs.Chart.{listOf, writtenBy, advanced, joined, writtenAt}
+use Rattle.picks.specs.Pick.{pick}
+use Rattle.sm_machine.specs.Machine.{naught, sixty, fits, warpOver, tempoAfter, still, owedAt, keepWarp, closeByTime, passInWarp, passBy, pass, tempoOutside, tempoBy, meetTempo, stopOutside, closeByStop, beginAgain, stopInWarp, stopBy, meetStop, beatAt, meet, endOf, finishWarp, finishBy, finish}
 use Rattle.sm_machine.specs.Machine.{passed, met}
-use Rattle.sm_walk.proofs.Laid.{counted-more}
-use Rattle.sm_walk.specs.Columns.{counted, pendingIn, pending, warpingIn, Within}
+use Rattle.sm_walk.proofs.PlacedInColumns.{counted-more}
 
 -- what holds of both holds of the one picked
 pub either {ℓ} : {A : Type ℓ} (P : A → Type 0) (b : Bool) (x y : A) → P x → P y → P (pick b x y)
@@ -70,7 +72,7 @@ pass-by places counts Closed tempo last beat w =
     let a = w .tempos in let b = w .stops in let d = w .warps in
     record { number = w .number; tempos = omega arith; stops = omega arith; warps = omega arith }
 pass-by places counts (Open warp) tempo last beat w =
-    either (After places counts) (fits tempo && lt none (owedAt tempo last (warp .owed) beat)) _ _
+    either (After places counts) (fits tempo && lt naught (owedAt tempo last (warp .owed) beat)) _ _
     (closed-by-time places counts tempo last beat warp (owedAt tempo last (warp .owed) beat) w)
     (kept places counts tempo last beat warp (owedAt tempo last (warp .owed) beat) w)
 
@@ -93,7 +95,7 @@ tempo-by places counts Closed former beat tempo n w =
     let a = w .tempos in let b = w .stops in let d = w .warps in
     either (After (record { tempo = places .tempo + 1; stop = places .stop }) counts) (fits tempo) _ _
     (record { number = n; tempos = omega arith; stops = omega arith; warps = omega arith })
-    (record { number = n; tempos = omega (arith, pending-one (record { start = beat; former = former; owed = none }) tempo); stops = omega arith; warps = omega arith })
+    (record { number = n; tempos = omega (arith, pending-one (record { start = beat; former = former; owed = naught }) tempo); stops = omega arith; warps = omega arith })
 tempo-by places counts (Open warp) former beat tempo n w =
     let a = w .tempos in let b = w .stops in let d = w .warps in
     record { number = n; tempos = omega (arith, pending-one warp tempo); stops = omega arith; warps = omega arith }
@@ -111,13 +113,13 @@ stop-by : (places : Places) (counts : Counts) (warp : Warp) (tempo beat pause : 
 unfolding stopOutside stopInWarp keepWarp closeByStop beginAgain
 stop-by places counts Closed tempo beat pause w =
     let a = w .tempos in let b = w .stops in let d = w .warps in
-    either (After (record { tempo = places .tempo; stop = places .stop + 1 }) counts) (lt pause none) _ _
+    either (After (record { tempo = places .tempo; stop = places .stop + 1 }) counts) (lt pause naught) _ _
     (record { number = w .number; tempos = omega (arith, none-pending (eq tempo tempo) (w .number)); stops = omega arith; warps = omega arith })
     (record { number = w .number; tempos = omega arith; stops = omega arith; warps = omega arith })
 stop-by places counts (Open warp) tempo beat pause w =
     let a = w .tempos in let b = w .stops in let d = w .warps in
     let k = tempo-after-length warp tempo in let l = warp-over-length (warp .start) beat in
-    either (After (record { tempo = places .tempo; stop = places .stop + 1 }) counts) (lt none pause && lt none (add binary32 (warp .owed) pause)) _ _
+    either (After (record { tempo = places .tempo; stop = places .stop + 1 }) counts) (lt naught pause && lt naught (add binary32 (warp .owed) pause)) _ _
     (either (After (record { tempo = places .tempo; stop = places .stop + 1 }) counts) (fits tempo) _ _
     (record { number = w .number; tempos = omega arith; stops = omega arith; warps = omega arith })
     (record { number = w .number; tempos = omega arith; stops = omega arith; warps = omega arith }))
