@@ -1,0 +1,6 @@
+pub mod BeatsOnRows
+pub mod Segments
+pub mod ArrowsKeepOrder
+pub mod ChangesInOrder
+pub mod WrittenInOrder
+pub mod WrittenTaken
