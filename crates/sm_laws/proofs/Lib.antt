@@ -4,3 +4,4 @@ pub mod ArrowsKeepOrder
 pub mod ChangesInOrder
 pub mod WrittenInOrder
 pub mod WrittenTaken
+pub mod Incident

@@ -1,4 +1,4 @@
--- The arrows that a test chooses, each by its tests.
+-- What time does in a warp, by the tests that the code makes. Assumes nothing.
 use mathlib.Core.Bool.{Bool, true, false}
 use mathlib.Core.Path.{_≡_, refl, sym, _∙_}
 use lib.Ieee.{Float, binary32, add, lt}
