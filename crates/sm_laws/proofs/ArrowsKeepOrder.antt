@@ -19,6 +19,7 @@ use Rattle.sm_machine.specs.declared.State.{State}
 use Rattle.sm_machine.specs.declared.Written.{Written}
 use Rattle.sm_machine.specs.declared.Written.the-variants.{Nothing, One}
 use Rattle.sm_machine.specs.declared.Moved.{Moved}
+use Rattle.sm_machine.proofs.Either.{either}
 use Rattle.sm_machine.specs.Machine.{naught, fits, entryAt, warpOver, tempoAfter, still, openChart, owedAt, settledAt, keepWarp, closeByTime, passInWarp, passBy, pass, tempoOutside, tempoBy, meetTempo, stopOutside, closeByStop, beginAgain, stopInWarp, stopBy, meetStop, beatAt, meet, endOf, finishWarp, finishBy, finish}
 use Rattle.sm_walk.specs.Chart.{listOf}
 use Rattle.sm_laws.specs.Beats.{Beat, beatKey, at, spot}
@@ -32,11 +33,6 @@ lowIn (Open warp) beat = warp .start
 
 abbrev pub lowOf : State → Float
 lowOf state = lowIn (state .warp) (state .beat)
-
--- what holds of both holds of the one picked
-either {ℓ} : {A : Type ℓ} (P : A → Type 0) (b : Bool) (x y : A) → P x → P y → P (pick b x y)
-either P true x y p q = p
-either P false x y p q = q
 
 module _ (f : Format) (P : Float → Type 0) where
   -- a state whose beats are beats, and whose tempo is one of those that P has

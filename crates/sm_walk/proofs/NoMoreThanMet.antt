@@ -23,14 +23,10 @@ use Rattle.sm_machine.specs.declared.Moved.{Moved}
 use Rattle.sm_walk.specs.declared.Places.{Places}
 use Rattle.sm_walk.specs.declared.Counts.{Counts}
 use Rattle.picks.specs.Pick.{pick}
+use Rattle.sm_machine.proofs.Either.{either}
 use Rattle.sm_machine.specs.Machine.{naught, sixty, fits, warpOver, tempoAfter, still, owedAt, keepWarp, closeByTime, passInWarp, passBy, pass, tempoOutside, tempoBy, meetTempo, stopOutside, closeByStop, beginAgain, stopInWarp, stopBy, meetStop, beatAt, meet, endOf, finishWarp, finishBy, finish}
 use Rattle.sm_machine.specs.Machine.{passed, met}
 use Rattle.sm_walk.proofs.PlacedInColumns.{counted-more}
-
--- what holds of both holds of the one picked
-pub either {ℓ} : {A : Type ℓ} (P : A → Type 0) (b : Bool) (x y : A) → P x → P y → P (pick b x y)
-either P true x y p q = p
-either P false x y p q = q
 
 one-or-none : (b : Bool) (x : Entry) → length (listOf (pick b Nothing (One x))) ≡ pick b 0 1
 one-or-none true x = refl

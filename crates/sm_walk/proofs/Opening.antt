@@ -9,13 +9,11 @@ use native.Mathlib.Numerals.{add-one}
 use lib.ListN.{length, drop, getD}
 use lib.Ieee.{Float, binary32, sub, lt, le, eq, nan}
 use Rattle.sm_machine.specs.declared.Entry.{Entry}
-use Rattle.sm_machine.specs.declared.Warp.the-variants.{Closed, Open}
 use Rattle.picks.specs.Pick.{pick}
 use Rattle.sm_machine.specs.Machine.{naught, sixty, fits}
 use Rattle.order.specs.Entries.{entries}
 use Rattle.sm_walk.specs.Chart.{takenOff, stopsBefore, firstValue, firstTempo, lastTempo, temposBy0, openingTempo, offsetOf, openingPlaces}
 use Rattle.sm_walk.specs.Inside.{Numbers, Within, Reached, Chart, counted, noneCounted}
-use Rattle.sm_machine.specs.Machine.{openChart}
 use Rattle.sm_walk.proofs.NextChange.{at, entries-from, entries-end}
 
 pub first-is : (beats values : List Float) → length beats ≡ length values → firstTempo (entries beats values) ≡ firstValue values
@@ -123,8 +121,3 @@ first-empty (x ∷ l) h = absurd (omega arith)
 pub first-some : (l : List Float) → (length l ≡ 0 → ⊥) → getD l 0 nan ≡ firstValue l
 first-some [] h = absurd (h refl)
 first-some (x ∷ l) h = refl
-
--- the opening opens no warp
-pub opening-opens-none : (tempo : Float) → openChart tempo .state .warp ≡ Closed
-unfolding openChart
-opening-opens-none tempo = refl

@@ -25,7 +25,7 @@ use Rattle.sm_walk.specs.declared.Finished.{Finished}
 use Rattle.sm_machine.specs.Machine.{fits, sixty}
 use Rattle.order.proofs.Columns.{length-entries}
 use Rattle.sm_walk.proofs.PlacedInColumns.{written-more, counted-more}
-use Rattle.sm_walk.proofs.NoMoreThanMet.{either}
+use Rattle.sm_machine.proofs.Either.{either}
 use Rattle.sm_walk.proofs.OneChange.{room-less}
 use Rattle.sm_walk.proofs.Opening.{fewer-tempos, fewer-stops, last-number}
 
