@@ -5,3 +5,4 @@ pub mod ChangesInOrder
 pub mod WrittenInOrder
 pub mod WrittenTaken
 pub mod Incident
+pub mod OneOutcome
