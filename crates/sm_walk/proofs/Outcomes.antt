@@ -21,10 +21,20 @@ use Rattle.sm_walk.specs.declared.Finished.{Finished}
 use Rattle.sm_walk.specs.declared.Walked.{Walked}
 use Rattle.sm_walk.specs.Chart.{Output, processed, offsetOf}
 use Rattle.sm_walk.specs.Columns.{Columns, most}
-use Rattle.sm_walk.specs.Walking.{isNumber, hasRoom, chartNumber, walkNumber, WalkLaid}
+use Rattle.sm_walk.specs.Walking.{isNumber, roomFor, hasRoom, chartNumber, walkNumber, WalkLaid}
 use Rattle.sm_walk.specs.Inside.{placed, written, counted, noneCounted, Room, Numbers, Chart}
 use Rattle.sm_walk.proofs.PlacedInColumns.{placed-laid}
 use Rattle.sm_walk.proofs.Lengths.{bounded}
+
+-- ---- the number, by the rooms of the lists
+
+pub number-by-rooms : (tb tv sb sv : List Float) (into : Columns) (number tempoRoom stopRoom warpRoom : ℕ)
+    → tempoRoom ≡ min (length (into .tempoBeats)) (length (into .tempoValues)) → stopRoom ≡ min (length (into .stopBeats)) (length (into .stopValues))
+    → warpRoom ≡ min (length (into .warpBeats)) (length (into .warpLengths))
+    → number ≡ pick (eqb (chartNumber tb tv sb sv) 0) (pick (roomFor (most (length tb) (length sb)) tempoRoom stopRoom warpRoom) 0 7) (chartNumber tb tv sb sv)
+    → number ≡ walkNumber tb tv sb sv into
+unfolding walkNumber hasRoom
+number-by-rooms tb tv sb sv into number tempoRoom stopRoom warpRoom t s w e = rw (← t, ← s, ← w) e
 
 -- ---- a refusal
 

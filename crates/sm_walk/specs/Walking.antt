@@ -20,14 +20,17 @@ use Rattle.sm_walk.specs.Columns.{Columns, most}
 abbrev pub isNumber : Float → Bool
 isNumber x = eq x x
 
--- room for so many of each list, the columns of a list taken together
+-- room for so many of each list, by the room of each
+abbrev pub roomFor : Counts → (tempoRoom stopRoom warpRoom : ℕ) → Bool
+roomFor counts tempoRoom stopRoom warpRoom = pick (leb (counts .tempos) tempoRoom) (pick (leb (counts .stops) stopRoom) (leb (counts .warps) warpRoom) false) false
+
+-- the columns of a list have one room, the shorter
 unfoldable pub hasRoom : Counts → Columns → Bool
 hasRoom counts into =
-    pick (leb (counts .tempos) (min (length (into .tempoBeats)) (length (into .tempoValues))))
-    (pick (leb (counts .stops) (min (length (into .stopBeats)) (length (into .stopValues))))
-    (leb (counts .warps) (min (length (into .warpBeats)) (length (into .warpLengths))))
-    false)
-    false
+    roomFor counts
+    (min (length (into .tempoBeats)) (length (into .tempoValues)))
+    (min (length (into .stopBeats)) (length (into .stopValues)))
+    (min (length (into .warpBeats)) (length (into .warpLengths)))
 
 -- 2 for columns that differ in length, 4 for a tempo that is a NaN
 unfoldable pub chartNumber : (tempoBeats tempoValues stopBeats stopValues : List Float) → ℕ
