@@ -1,7 +1,7 @@
 -- What is said of the walk's outcome leaves one outcome: number, counts, offset and the six rooms. Assumes nothing.
 use Prim.Native.Nat.{ℕ}
 use mathlib.Core.List.{List}
-use mathlib.Core.Path.{_≡_, refl, sym, _∙_}
+use mathlib.Core.Path.{_≡_, sym, _∙_}
 use lib.Ieee.{Float}
 use Rattle.sm_walk.specs.declared.Walked.{Walked}
 use Rattle.sm_walk.specs.Columns.{Columns, columns}

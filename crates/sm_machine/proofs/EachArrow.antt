@@ -7,7 +7,6 @@ use Rattle.sm_machine.specs.declared.Warp.{Warp}
 use Rattle.sm_machine.specs.declared.Warp.the-variants.{Closed, Open}
 use Rattle.sm_machine.specs.declared.State.{State}
 use Rattle.sm_machine.specs.declared.Written.the-variants.{Nothing}
-use Rattle.sm_machine.specs.declared.Moved.{Moved}
 use Rattle.sm_machine.specs.Machine.{naught, fits, entryAt, warpOver, tempoAfter, still, openChart, owedAt, settledAt, keepWarp, closeByTime, passInWarp, pass, tempoOutside, meetTempo, stopOutside, closeByStop, beginAgain, stopInWarp, meetStop, endOf, finishWarp, finish}
 
 abbrev at : Float → Float → Warp → State

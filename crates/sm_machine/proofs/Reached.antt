@@ -1,5 +1,5 @@
 -- Time brings the state to the beat of the change, and the change leaves it there. Assumes nothing.
-use mathlib.Core.Bool.{Bool, true, false, _&&_}
+use mathlib.Core.Bool.{_&&_}
 use mathlib.Core.Path.{_≡_, refl}
 use lib.Ieee.{Float, binary32, add, lt}
 use Rattle.sm_machine.specs.declared.Change.{Change}

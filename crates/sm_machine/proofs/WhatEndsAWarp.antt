@@ -9,9 +9,8 @@ use Rattle.sm_machine.specs.declared.Opened.{Opened}
 use Rattle.sm_machine.specs.declared.Warp.{Warp}
 use Rattle.sm_machine.specs.declared.Warp.the-variants.{Closed, Open}
 use Rattle.sm_machine.specs.declared.State.{State}
-use Rattle.sm_machine.specs.declared.Moved.{Moved}
 use Rattle.sm_machine.proofs.EachArrow.{owing}
-use Rattle.sm_machine.specs.Machine.{naught, fits, still, owedAt, keepWarp, closeByTime, passInWarp, passBy, pass, tempoBy, meetTempo, closeByStop, beginAgain, stopInWarp, stopBy, meetStop, meet, beatAt, finishWarp, finishBy, finish, passed, met}
+use Rattle.sm_machine.specs.Machine.{naught, fits, owedAt, keepWarp, closeByTime, passInWarp, pass, meetTempo, closeByStop, beginAgain, stopInWarp, meetStop, meet, beatAt, finishWarp, finishBy, finish, passed, met}
 
 -- ---- time passes
 

@@ -2,12 +2,12 @@
 use Prim.Native.Nat.{ℕ, zero, suc, _+_, _≤_, max, min}
 use mathlib.Core.Bool.{Bool, true, false}
 use mathlib.Core.List.{List, [], _∷_, map}
-use mathlib.Core.Path.{_≡_, refl, sym, ap, _∙_}
+use mathlib.Core.Path.{_≡_, refl, ap, _∙_}
 use native.Mathlib.Omega.{arith}
 use native.Mathlib.Nat.{min-le-left, min-le-right}
 use lib.Dec.{leb, eqb}
 use lib.ListN.{length, length-map}
-use lib.Ieee.{Float, eq}
+use lib.Ieee.{Float}
 use borrow.Author.Tests.{ne-eqb, eqb-true, leb-true}
 use Rattle.picks.specs.Pick.{pick}
 use Rattle.limits.specs.Numbers.{every}
@@ -16,10 +16,8 @@ use Rattle.order.specs.Order.{laid}
 use Rattle.order.specs.Entries.{entries, first, second}
 use Rattle.columns.specs.Laying.{given, columnLaid}
 use Rattle.sm_machine.specs.Machine.{naught}
-use Rattle.sm_walk.specs.declared.Counts.{Counts}
 use Rattle.sm_walk.specs.declared.Finished.{Finished}
-use Rattle.sm_walk.specs.declared.Walked.{Walked}
-use Rattle.sm_walk.specs.Chart.{Output, processed, offsetOf}
+use Rattle.sm_walk.specs.Chart.{processed, offsetOf}
 use Rattle.sm_walk.specs.Columns.{Columns, most}
 use Rattle.sm_walk.specs.Walking.{isNumber, roomFor, hasRoom, chartNumber, walkNumber, WalkLaid}
 use Rattle.sm_walk.specs.Inside.{placed, written, counted, noneCounted, Room, Numbers, Chart}

@@ -1,5 +1,5 @@
 -- The one outcome of the walk over lent columns. Definitions only.
-use Prim.Native.Nat.{ℕ, _+_, max, min}
+use Prim.Native.Nat.{ℕ, min}
 use mathlib.Core.Bool.{Bool, false}
 use mathlib.Core.List.{List}
 use mathlib.Core.Path.{_≡_}
@@ -8,12 +8,12 @@ use lib.ListN.{length}
 use lib.Ieee.{Float, eq}
 use Rattle.picks.specs.Pick.{pick}
 use Rattle.limits.specs.Numbers.{every}
-use Rattle.order.specs.Entries.{entries, first, second}
+use Rattle.order.specs.Entries.{first, second}
 use Rattle.columns.specs.Laying.{given, columnLaid}
 use Rattle.sm_machine.specs.Machine.{naught}
 use Rattle.sm_walk.specs.declared.Counts.{Counts}
 use Rattle.sm_walk.specs.declared.Walked.{Walked}
-use Rattle.sm_walk.specs.Chart.{Output, processed, offsetOf}
+use Rattle.sm_walk.specs.Chart.{processed, offsetOf}
 use Rattle.sm_walk.specs.Columns.{Columns, most}
 
 -- a NaN differs from itself

@@ -1,4 +1,4 @@
-use mathlib.Core.Path.{_≡_, sym, _∙_}
+use mathlib.Core.Path.{sym, _∙_}
 use Rattle.sm_walk.specs.Columns.{columns}
 use Rattle.sm_walk.proofs.Outcomes.{number-by-rooms, refused-laid, chart-taken, room-taken, taken-laid}
 use borrow.Author.Needs.{needs}
