@@ -6,3 +6,4 @@ pub mod WrittenInOrder
 pub mod WrittenTaken
 pub mod Incident
 pub mod OneOutcome
+pub mod WalkTaken
