@@ -1,8 +1,7 @@
 -- Each arrow writes nothing before what is written already, and tempos only that are in force. Assumes nothing.
 use Prim.Native.Nat.{ℕ, _≤_}
-use mathlib.Core.Bool.{Bool, true, false, _&&_}
-use mathlib.Core.List.{List, [], _∷_, _++_}
-use mathlib.Core.Path.{_≡_, refl, sym}
+use mathlib.Core.Bool.{Bool, _&&_}
+use mathlib.Core.List.{List}
 use native.Mathlib.Omega.{arith}
 use lib.Dec.{T}
 use lib.Ieee.{Float, Format, binary32, add, sub, lt, eq}
@@ -17,9 +16,10 @@ use Rattle.sm_machine.specs.declared.Warp.{Warp}
 use Rattle.sm_machine.specs.declared.Warp.the-variants.{Closed, Open}
 use Rattle.sm_machine.specs.declared.State.{State}
 use Rattle.sm_machine.specs.declared.Written.{Written}
-use Rattle.sm_machine.specs.declared.Written.the-variants.{Nothing, One}
+use Rattle.sm_machine.specs.declared.Written.the-variants.{Nothing}
 use Rattle.sm_machine.specs.declared.Moved.{Moved}
-use Rattle.sm_machine.specs.Machine.{naught, fits, entryAt, warpOver, tempoAfter, still, openChart, owedAt, settledAt, keepWarp, closeByTime, passInWarp, passBy, pass, tempoOutside, tempoBy, meetTempo, stopOutside, closeByStop, beginAgain, stopInWarp, stopBy, meetStop, beatAt, meet, endOf, finishWarp, finishBy, finish}
+use Rattle.sm_machine.proofs.Either.{either}
+use Rattle.sm_machine.specs.Machine.{naught, fits, entryAt, warpOver, tempoAfter, still, openChart, owedAt, settledAt, keepWarp, closeByTime, passInWarp, passBy, pass, tempoOutside, tempoBy, meetTempo, stopOutside, closeByStop, beginAgain, stopInWarp, stopBy, meetStop, meet, endOf, finishWarp, finishBy, finish}
 use Rattle.sm_walk.specs.Chart.{listOf}
 use Rattle.sm_laws.specs.Beats.{Beat, beatKey, at, spot}
 use Rattle.sm_laws.proofs.BeatsOnRows.{spot-mono}
@@ -32,11 +32,6 @@ lowIn (Open warp) beat = warp .start
 
 abbrev pub lowOf : State → Float
 lowOf state = lowIn (state .warp) (state .beat)
-
--- what holds of both holds of the one picked
-either {ℓ} : {A : Type ℓ} (P : A → Type 0) (b : Bool) (x y : A) → P x → P y → P (pick b x y)
-either P true x y p q = p
-either P false x y p q = q
 
 module _ (f : Format) (P : Float → Type 0) where
   -- a state whose beats are beats, and whose tempo is one of those that P has

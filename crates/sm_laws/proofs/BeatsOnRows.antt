@@ -1,8 +1,8 @@
 -- A beat that is no earlier is written no earlier: quantising keeps the order of keys, at either width. Assumes nothing.
-use Prim.Native.Nat.{ℕ, _≤_}
+use Prim.Native.Nat.{_≤_}
 use mathlib.Core.Path.{_≡_, sym, _∙_, subst}
-use mathlib.Core.Bool.{Bool, true, false, not}
-use lib.IntN.{ℤ, pos}
+use mathlib.Core.Bool.{false, not}
+use lib.IntN.{pos}
 use lib.Signed.{ltZ, leZ, leZ-yes, ltZ-yes, clashℤ}
 use lib.Dec.{T, leb, ltb, not-T}
 use lib.Ieee.{Float, Format, binary32, binary64, isNan, fits, le, lt, ofInt}

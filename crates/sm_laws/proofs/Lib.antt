@@ -4,3 +4,6 @@ pub mod ArrowsKeepOrder
 pub mod ChangesInOrder
 pub mod WrittenInOrder
 pub mod WrittenTaken
+pub mod Incident
+pub mod OneOutcome
+pub mod WalkTaken

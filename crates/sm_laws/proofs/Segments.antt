@@ -1,6 +1,5 @@
 -- Lists whose keys never fall and lie between two numbers, one behind another. Assumes nothing.
 use Prim.Native.Nat.{ℕ, _≤_}
-use mathlib.Core.Path.{_≡_}
 use mathlib.Core.List.{List, [], _∷_, _++_}
 use native.Mathlib.Omega.{arith}
 use Rattle.order.specs.Order.{From, NeverFalls}

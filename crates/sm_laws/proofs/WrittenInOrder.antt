@@ -1,22 +1,21 @@
 -- Where beats are given that never fall, the beats of the tempos written never fall, nor those of the stops, nor those of the warps; every beat written is an allowed beat,
 -- and every tempo written is a given one or 60. Assumes nothing.
-use Prim.Native.Nat.{ℕ, _≤_, max}
-use mathlib.Core.Bool.{Bool, true, false, _&&_}
+use Prim.Native.Nat.{max}
+use mathlib.Core.Bool.{Bool, true, false}
 use mathlib.Core.List.{List, [], _∷_, _++_}
-use mathlib.Core.Path.{_≡_, refl, sym, ap, _∙_}
-use native.Mathlib.Omega.{arith}
+use mathlib.Core.Path.{_≡_, _∙_}
 use lib.ListN.{drop}
-use lib.Ieee.{Float, Format, binary32, add, lt, le}
+use lib.Ieee.{Float, Format, binary32, le}
 use Rattle.picks.specs.Pick.{pick}
 use Rattle.order.specs.Order.{From, NeverFalls, ordered}
-use Rattle.order.proofs.OrderedList.{Each, from-le, ordered-still}
+use Rattle.order.proofs.OrderedList.{Each, ordered-still}
 use Rattle.sm_machine.specs.declared.Change.{Change}
 use Rattle.sm_machine.specs.declared.State.{State}
 use Rattle.sm_machine.specs.Machine.{naught, sixty, openChart, beatAt, passed, met, finish}
 use Rattle.sm_machine.proofs.Reached.{pass-reaches, meet-stays}
-use Rattle.sm_walk.specs.Changes.{tempoOf, stopOf, merged, left}
-use Rattle.sm_walk.specs.Chart.{Output, walk, firstTempo, lastTempo, temposBy0, stopsBefore, openingTempo, openingPlaces, processed}
-use Rattle.sm_laws.specs.Beats.{Beat, beatKey, at, spot}
+use Rattle.sm_walk.specs.Changes.{tempoOf, stopOf, left}
+use Rattle.sm_walk.specs.Chart.{walk, firstTempo, lastTempo, temposBy0, stopsBefore, openingTempo, openingPlaces, processed}
+use Rattle.sm_laws.specs.Beats.{Beat, beatKey, at}
 use Rattle.sm_laws.proofs.Segments.{one-behind-other, each-append}
 use Rattle.sm_laws.proofs.ArrowsKeepOrder.{Good, OnRow, OneOf, Behind, Fair, ChangeIn, fair-opening, fair-pass, fair-meet, fair-finish}
 use Rattle.sm_laws.proofs.ChangesInOrder.{changeKey, Beats, each-merged, rises-merged, each-drop, rises-drop, beat-naught, after-opening}

@@ -1,12 +1,11 @@
 -- The tempos that the walk writes pass the tests of tempo tidying, where the given ones are from 2 ^ -20 to 2 ^ 30 in size and at most 1,024. Assumes nothing.
-use Prim.Native.Nat.{ℕ, _+_, _*_, _^_, _≤_, _<_, max}
+use Prim.Native.Nat.{ℕ, _+_, _*_, _^_, _≤_, max}
 use mathlib.Core.Bool.{Bool, true, false}
 use mathlib.Core.List.{List, [], _∷_, map}
-use mathlib.Core.Path.{_≡_, refl, sym, ap, _∙_, subst}
+use mathlib.Core.Path.{_≡_, refl, ap}
 use native.Mathlib.Nat.{one-mul, max-le, le-trans, le-of-eq, mul-le-mul-right, mul-right-comm, le-of-mul-le-mul-right}
 use native.Mathlib.Omega.{arith}
-use lib.Dec.{T, eqb, ltb}
-use lib.Pow.{pow-pos}
+use lib.Dec.{T}
 use lib.IntN.{ℤ, pos}
 use lib.ListN.{length, length-map}
 use lib.Ieee.{Float, nan, inf, fin, up, down, neg, lt, eq, le, binary32, binary64, ofBits}
@@ -18,14 +17,13 @@ use Rattle.ieee.proofs.FloatOrder.{sizes-le}
 use Rattle.ieee.proofs.Magnitude.{Sized, sized, within-finite}
 use Rattle.rows.specs.Rows.{allowedBeat}
 use Rattle.limits.specs.declared.Kind.the-variants.{Beat, TidyTempo}
-use Rattle.limits.specs.Numbers.{inRange, rangeOf, upTo, power, nothing, sizeOf, every, allIn}
+use Rattle.limits.specs.Numbers.{inRange, rangeOf, upTo, power, nothing, every, allIn}
 use Rattle.limits.specs.Refusals.{listNumber}
 use Rattle.order.specs.Order.{NeverFalls}
 use Rattle.order.specs.Entries.{entries, first, second}
-use Rattle.order.proofs.Columns.{length-entries}
 use Rattle.order.proofs.OrderedList.{Each}
 use Rattle.sm_machine.specs.Machine.{sixty}
-use Rattle.sm_walk.specs.Chart.{Output, processed}
+use Rattle.sm_walk.specs.Chart.{processed}
 use Rattle.sm_walk.specs.Inside.{Chart}
 use Rattle.sm_walk.proofs.Lengths.{bounded}
 use Rattle.sm_laws.specs.Beats.{beatKey}

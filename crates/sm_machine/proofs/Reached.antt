@@ -1,20 +1,15 @@
 -- Time brings the state to the beat of the change, and the change leaves it there. Assumes nothing.
-use mathlib.Core.Bool.{Bool, true, false, _&&_}
+use mathlib.Core.Bool.{_&&_}
 use mathlib.Core.Path.{_≡_, refl}
 use lib.Ieee.{Float, binary32, add, lt}
-use Rattle.picks.specs.Pick.{pick}
 use Rattle.sm_machine.specs.declared.Change.{Change}
 use Rattle.sm_machine.specs.declared.Change.the-variants.{Tempo, Stop}
 use Rattle.sm_machine.specs.declared.Warp.{Warp}
 use Rattle.sm_machine.specs.declared.Warp.the-variants.{Closed, Open}
 use Rattle.sm_machine.specs.declared.State.{State}
 use Rattle.sm_machine.specs.declared.Moved.{Moved}
+use Rattle.sm_machine.proofs.Either.{either}
 use Rattle.sm_machine.specs.Machine.{naught, fits, owedAt, keepWarp, closeByTime, passInWarp, passBy, pass, tempoOutside, tempoBy, meetTempo, stopOutside, closeByStop, beginAgain, stopInWarp, stopBy, meetStop, meet}
-
--- what holds of both holds of the one picked
-either {ℓ} : {A : Type ℓ} (P : A → Type 0) (b : Bool) (x y : A) → P x → P y → P (pick b x y)
-either P true x y p q = p
-either P false x y p q = q
 
 abbrev At : Float → Moved → Type 0
 At beat moved = moved .state .beat ≡ beat

@@ -20,11 +20,10 @@
 --
 -- "The warp" is written only where it goes forward, and "the tempo" at the warp's start only where it isn't the one before the warp.
 -- Every definition is a function with a case for each state and each outcome of its tests: one arrow leaves each state for each thing that comes.
-use mathlib.Core.Bool.{Bool, true, false, _&&_}
+use mathlib.Core.Bool.{Bool, _&&_}
 use lib.Ieee.{Float, binary32, add, sub, mul, div, lt, le, eq, ofBits}
 use Rattle.picks.specs.Pick.{pick}
 use Rattle.rows.specs.Rows.{quantized32}
-use Rattle.sm_machine.specs.declared.Entry.{Entry}
 use Rattle.sm_machine.specs.declared.Change.{Change}
 use Rattle.sm_machine.specs.declared.Change.the-variants.{Tempo, Stop}
 use Rattle.sm_machine.specs.declared.Opened.{Opened}

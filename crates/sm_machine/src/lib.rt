@@ -114,8 +114,8 @@ pub fn open_chart(tempo: f32) -> Moved
         beat: 0.0,
         warp: Warp::Closed,
     };
-    let fit = fits(tempo);
-    if fit {
+    let written = fits(tempo);
+    if written {
         let wrote_tempo = entry_at(0.0, tempo);
         return Moved {
             state,

@@ -1,19 +1,17 @@
 -- How much a chart writes: tempos no more than given, or one; stops no more than given; warps at most one a change. Assumes nothing.
-use Prim.Native.Nat.{ℕ, zero, suc, _+_, _-_, _≤_, _<_, max}
+use Prim.Native.Nat.{ℕ, zero, suc, _+_, _-_, _≤_, max}
 use mathlib.Core.Bool.{Bool, true, false}
-use mathlib.Core.List.{List, [], _∷_, _++_}
-use mathlib.Core.Path.{_≡_, refl, sym, ap, _∙_}
+use mathlib.Core.List.{List, [], _∷_}
+use mathlib.Core.Path.{_≡_}
 use native.Mathlib.Omega.{arith}
-use native.Mathlib.Nat.{le-max-left, le-max-right, max-le}
+use native.Mathlib.Nat.{le-max-left, max-le}
 use lib.ListN.{length, drop, length-drop}
 use lib.Ieee.{Float, eq, le}
-use Rattle.sm_machine.specs.declared.Entry.{Entry}
 use Rattle.sm_machine.specs.declared.Change.{Change}
-use Rattle.sm_machine.specs.declared.Change.the-variants.{Tempo, Stop}
 use Rattle.sm_machine.specs.declared.State.{State}
 use Rattle.order.specs.Entries.{entries}
 use Rattle.sm_walk.specs.Changes.{tempoOf, stopOf, merged, weave, left, advanced}
-use Rattle.sm_walk.specs.Chart.{Output, joined, writtenBy, writtenAt, walk, temposBy0, stopsBefore, openingTempo, openingPlaces, processed}
+use Rattle.sm_walk.specs.Chart.{Output, writtenBy, writtenAt, walk, openingTempo, openingPlaces, processed}
 use Rattle.sm_walk.specs.Inside.{counted, noneCounted, Within, Numbers, Chart}
 use Rattle.sm_machine.specs.Machine.{openChart}
 use Rattle.sm_walk.specs.declared.Places.{Places}
@@ -24,7 +22,6 @@ use Rattle.sm_machine.specs.Machine.{met}
 use Rattle.order.proofs.Columns.{length-entries}
 use Rattle.sm_walk.proofs.PlacedInColumns.{counted-more}
 use Rattle.sm_walk.proofs.NoMoreThanMet.{Number, within-step, within-finish}
-use Rattle.sm_walk.proofs.Opening.{fewer-tempos, fewer-stops}
 use Rattle.sm_walk.proofs.WholeChart.{opening-reached, opening-within}
 
 abbrev advancedBy : List Change → Places → Places
@@ -99,7 +96,7 @@ numbers-drop zero tempos n = n
 numbers-drop (suc i) [] n = tt
 numbers-drop (suc i) (x ∷ tempos) n = numbers-drop i tempos (n .1)
 
--- THE BOUND
+-- the bound
 pub record Bounded (givenTempos givenStops : ℕ) (out : Output) : Type 0 where
   pub tempos : length (out .tempos) ≤ max givenTempos 1
   pub stops : length (out .stops) ≤ givenStops

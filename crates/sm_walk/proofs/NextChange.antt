@@ -1,5 +1,5 @@
 -- The change that comes next, and what is left after it. Assumes nothing.
-use Prim.Native.Nat.{ℕ, zero, suc, _+_, _≤_, _<_}
+use Prim.Native.Nat.{ℕ, zero, suc, _≤_, _<_}
 use mathlib.Core.Bool.{Bool, true, false}
 use mathlib.Core.List.{List, [], _∷_}
 use mathlib.Core.Path.{_≡_, refl, sym, ap, _∙_}
@@ -14,7 +14,6 @@ use Rattle.sm_machine.specs.declared.Change.{Change}
 use Rattle.sm_machine.specs.declared.Change.the-variants.{Tempo, Stop}
 use Rattle.order.specs.Entries.{entries}
 use Rattle.sm_walk.specs.Changes.{entryOf, pairOf, tempoOf, stopOf, merged, headOf, left, advanced}
-use Rattle.sm_walk.specs.declared.Next.{Next}
 use Rattle.sm_walk.specs.declared.Next.the-variants.{Here, End}
 use Rattle.sm_walk.specs.declared.Places.{Places}
 

@@ -1,18 +1,16 @@
 -- No more is written than the changes met account for. Assumes nothing.
-use Prim.Native.Nat.{ℕ, zero, suc, _+_, _≤_, _<_, max}
+use Prim.Native.Nat.{ℕ, _+_, _≤_}
 use mathlib.Core.Bool.{Bool, true, false, _&&_}
-use mathlib.Core.List.{List, [], _∷_, _++_}
-use mathlib.Core.Path.{_≡_, refl, sym, ap, _∙_}
+use mathlib.Core.Path.{_≡_, refl}
 use native.Mathlib.Omega.{arith}
-use lib.ListN.{length, drop}
+use lib.ListN.{length}
 use lib.Ieee.{Float, binary32, add, sub, mul, div, lt, eq}
 use Rattle.sm_machine.specs.declared.Entry.{Entry}
 use Rattle.sm_machine.specs.declared.Change.{Change}
 use Rattle.sm_machine.specs.declared.Change.the-variants.{Tempo, Stop}
 use Rattle.sm_walk.specs.Changes.{advanced}
-use Rattle.sm_walk.specs.Chart.{listOf, writtenBy, joined, writtenAt}
-use Rattle.sm_walk.specs.Inside.{counted, pendingIn, pending, warpingIn, Within}
-use Rattle.sm_walk.specs.declared.Next.the-variants.{Here, End}
+use Rattle.sm_walk.specs.Chart.{listOf, writtenBy, writtenAt}
+use Rattle.sm_walk.specs.Inside.{counted, pendingIn, Within}
 use Rattle.sm_machine.specs.declared.Opened.{Opened}
 use Rattle.sm_machine.specs.declared.Warp.{Warp}
 use Rattle.sm_machine.specs.declared.Warp.the-variants.{Closed, Open}
@@ -23,14 +21,10 @@ use Rattle.sm_machine.specs.declared.Moved.{Moved}
 use Rattle.sm_walk.specs.declared.Places.{Places}
 use Rattle.sm_walk.specs.declared.Counts.{Counts}
 use Rattle.picks.specs.Pick.{pick}
-use Rattle.sm_machine.specs.Machine.{naught, sixty, fits, warpOver, tempoAfter, still, owedAt, keepWarp, closeByTime, passInWarp, passBy, pass, tempoOutside, tempoBy, meetTempo, stopOutside, closeByStop, beginAgain, stopInWarp, stopBy, meetStop, beatAt, meet, endOf, finishWarp, finishBy, finish}
+use Rattle.sm_machine.proofs.Either.{either}
+use Rattle.sm_machine.specs.Machine.{naught, sixty, fits, warpOver, tempoAfter, owedAt, keepWarp, closeByTime, passInWarp, passBy, pass, tempoOutside, tempoBy, meetTempo, stopOutside, closeByStop, beginAgain, stopInWarp, stopBy, meetStop, beatAt, meet, endOf, finishWarp, finishBy, finish}
 use Rattle.sm_machine.specs.Machine.{passed, met}
 use Rattle.sm_walk.proofs.PlacedInColumns.{counted-more}
-
--- what holds of both holds of the one picked
-pub either {ℓ} : {A : Type ℓ} (P : A → Type 0) (b : Bool) (x y : A) → P x → P y → P (pick b x y)
-either P true x y p q = p
-either P false x y p q = q
 
 one-or-none : (b : Bool) (x : Entry) → length (listOf (pick b Nothing (One x))) ≡ pick b 0 1
 one-or-none true x = refl

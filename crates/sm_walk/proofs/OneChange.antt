@@ -1,19 +1,16 @@
 -- One change: room for it, and what the columns hold after it. Assumes nothing.
-use Prim.Native.Nat.{ℕ, zero, suc, _+_, _≤_, _<_, max}
-use mathlib.Core.List.{List, [], _∷_, _++_, map}
+use Prim.Native.Nat.{_≤_}
+use mathlib.Core.List.{map}
 use mathlib.Core.Path.{_≡_, refl, sym, ap, _∙_}
 use native.Mathlib.Omega.{arith}
-use lib.ListN.{length, length-append, length-map}
-use lib.Ieee.{Float}
-use Rattle.sm_machine.specs.declared.Entry.{Entry}
+use lib.ListN.{length, length-append}
 use Rattle.sm_machine.specs.declared.Change.{Change}
 use Rattle.sm_machine.specs.declared.State.{State}
 use Rattle.sm_machine.specs.declared.Moved.{Moved}
 use Rattle.order.specs.Entries.{first, second}
 use Rattle.sm_walk.specs.Chart.{Output, joined, writtenBy, writtenAt}
 use Rattle.sm_walk.specs.Columns.{Columns}
-use Rattle.sm_walk.specs.Inside.{placed, written, counted, Room}
-use Rattle.sm_walk.specs.declared.Places.{Places}
+use Rattle.sm_walk.specs.Inside.{written, counted, Room}
 use Rattle.sm_walk.specs.declared.Counts.{Counts}
 use Rattle.sm_walk.specs.declared.Standing.{Standing}
 use Rattle.sm_machine.specs.Machine.{meet}

@@ -1,21 +1,18 @@
 -- The opening: its two loops, and what holds after it. Assumes nothing.
 use Prim.Native.Nat.{ℕ, zero, suc, _+_, _-_, _≤_, _<_, max}
-use mathlib.Core.Bool.{Bool, true, false, _&&_}
-use mathlib.Core.List.{List, [], _∷_, _++_}
+use mathlib.Core.Bool.{Bool, true, false}
+use mathlib.Core.List.{List, [], _∷_}
 use mathlib.Core.Path.{_≡_, refl, sym, ap, _∙_}
 use native.Mathlib.Omega.{arith}
-use native.Mathlib.Nat.{le-max-left, le-max-right, max-le, max-zero, suc-max-suc}
+use native.Mathlib.Nat.{max-zero, suc-max-suc}
 use native.Mathlib.Numerals.{add-one}
 use lib.ListN.{length, drop, getD}
 use lib.Ieee.{Float, binary32, sub, lt, le, eq, nan}
-use Rattle.sm_machine.specs.declared.Entry.{Entry}
-use Rattle.sm_machine.specs.declared.Warp.the-variants.{Closed, Open}
 use Rattle.picks.specs.Pick.{pick}
-use Rattle.sm_machine.specs.Machine.{naught, sixty, fits}
+use Rattle.sm_machine.specs.Machine.{naught, sixty}
 use Rattle.order.specs.Entries.{entries}
-use Rattle.sm_walk.specs.Chart.{takenOff, stopsBefore, firstValue, firstTempo, lastTempo, temposBy0, openingTempo, offsetOf, openingPlaces}
-use Rattle.sm_walk.specs.Inside.{Numbers, Within, Reached, Chart, counted, noneCounted}
-use Rattle.sm_machine.specs.Machine.{openChart}
+use Rattle.sm_walk.specs.Chart.{takenOff, stopsBefore, firstValue, firstTempo, lastTempo, temposBy0}
+use Rattle.sm_walk.specs.Inside.{Numbers}
 use Rattle.sm_walk.proofs.NextChange.{at, entries-from, entries-end}
 
 pub first-is : (beats values : List Float) → length beats ≡ length values → firstTempo (entries beats values) ≡ firstValue values
@@ -123,8 +120,3 @@ first-empty (x ∷ l) h = absurd (omega arith)
 pub first-some : (l : List Float) → (length l ≡ 0 → ⊥) → getD l 0 nan ≡ firstValue l
 first-some [] h = absurd (h refl)
 first-some (x ∷ l) h = refl
-
--- the opening opens no warp
-pub opening-opens-none : (tempo : Float) → openChart tempo .state .warp ≡ Closed
-unfolding openChart
-opening-opens-none tempo = refl

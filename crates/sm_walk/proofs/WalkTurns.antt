@@ -1,13 +1,12 @@
 -- The walk over the changes: what the loop knows, one turn, the end. Assumes nothing.
-use Prim.Native.Nat.{ℕ, zero, suc, _+_, _-_, _≤_, _<_, _^_, max}
-use mathlib.Core.Bool.{Bool, true, false}
-use mathlib.Core.List.{List, [], _∷_, _++_}
-use mathlib.Core.Path.{_≡_, refl, sym, ap, _∙_}
+use Prim.Native.Nat.{ℕ, zero, suc, _+_, _-_, _≤_, _<_, max}
+use mathlib.Core.Bool.{true}
+use mathlib.Core.List.{List, [], _∷_}
+use mathlib.Core.Path.{_≡_, sym, ap, _∙_}
 use native.Mathlib.Omega.{arith}
-use native.Mathlib.Nat.{le-max-left, le-max-right, max-le}
+use native.Mathlib.Nat.{le-max-left, max-le}
 use lib.ListN.{length, drop}
 use lib.Ieee.{Float, eq}
-use Rattle.sm_machine.specs.declared.Entry.{Entry}
 use Rattle.sm_machine.specs.declared.Change.{Change}
 use Rattle.sm_machine.specs.declared.Change.the-variants.{Tempo, Stop}
 use Rattle.order.specs.Entries.{entries}
@@ -15,7 +14,6 @@ use Rattle.sm_walk.specs.Changes.{pairOf, headOf, left, advanced}
 use Rattle.sm_walk.specs.Chart.{Output, joined, writtenBy, writtenAt, walk}
 use Rattle.sm_walk.specs.Columns.{Columns, most}
 use Rattle.sm_walk.specs.Inside.{written, counted, Room, Within, Numbers, Chart, Reached}
-use Rattle.sm_walk.specs.declared.Next.{Next}
 use Rattle.sm_walk.specs.declared.Next.the-variants.{Here, End}
 use Rattle.sm_machine.specs.declared.State.{State}
 use Rattle.sm_machine.specs.declared.Moved.{Moved}
@@ -23,12 +21,12 @@ use Rattle.sm_walk.specs.declared.Places.{Places}
 use Rattle.sm_walk.specs.declared.Counts.{Counts}
 use Rattle.sm_walk.specs.declared.Standing.{Standing}
 use Rattle.sm_machine.specs.Machine.{finish}
-use Rattle.sm_machine.specs.Machine.{passed, met}
+use Rattle.sm_machine.specs.Machine.{met}
 use Rattle.order.proofs.Columns.{length-entries}
 use Rattle.sm_walk.proofs.NextChange.{left-on, left-end, InList, next-in-list, From, taken, restOfTempos}
 use Rattle.sm_walk.proofs.PlacedInColumns.{written-more, counted-more}
 use Rattle.sm_walk.proofs.NoMoreThanMet.{Number, within-step, within-finish}
-use Rattle.sm_walk.proofs.OneChange.{SameLengths, same-refl, same-written, same-then, room-same, room-less}
+use Rattle.sm_walk.proofs.OneChange.{SameLengths, same-written, same-then, room-same, room-less}
 
 -- ---- a tempo that is met is no NaN
 

@@ -1,19 +1,17 @@
 -- The opening and the walk together. Assumes nothing.
-use Prim.Native.Nat.{ℕ, zero, suc, _+_, _-_, _≤_, _<_, max}
-use mathlib.Core.Bool.{Bool, true, false, _&&_}
-use mathlib.Core.List.{List, [], _∷_, _++_}
+use Prim.Native.Nat.{_-_, _≤_, max}
+use mathlib.Core.Bool.{true}
+use mathlib.Core.List.{List, [], _∷_}
 use mathlib.Core.Path.{_≡_, refl, sym, ap, _∙_}
 use native.Mathlib.Omega.{arith}
 use native.Mathlib.Nat.{le-max-left, le-max-right, max-le}
 use lib.ListN.{length}
 use lib.Ieee.{Float, eq, ofBits}
-use Rattle.sm_machine.specs.declared.Entry.{Entry}
 use Rattle.sm_machine.specs.declared.Written.{Written}
-use Rattle.sm_machine.specs.declared.State.{State}
 use Rattle.sm_machine.specs.declared.Moved.{Moved}
 use Rattle.order.specs.Entries.{entries}
 use Rattle.sm_walk.specs.Changes.{left}
-use Rattle.sm_walk.specs.Chart.{Output, listOf, joined, writtenBy, walk, firstTempo, temposBy0, stopsBefore, openingTempo, offsetOf, openingPlaces, processed}
+use Rattle.sm_walk.specs.Chart.{Output, listOf, writtenBy, walk, firstTempo, temposBy0, stopsBefore, openingTempo, offsetOf, openingPlaces, processed}
 use Rattle.sm_walk.specs.Columns.{Columns, most}
 use Rattle.sm_walk.specs.Inside.{written, counted, noneCounted, Room, Within, Numbers, Chart, Reached}
 use Rattle.sm_machine.specs.Machine.{openChart}
@@ -25,7 +23,7 @@ use Rattle.sm_walk.specs.declared.Finished.{Finished}
 use Rattle.sm_machine.specs.Machine.{fits, sixty}
 use Rattle.order.proofs.Columns.{length-entries}
 use Rattle.sm_walk.proofs.PlacedInColumns.{written-more, counted-more}
-use Rattle.sm_walk.proofs.NoMoreThanMet.{either}
+use Rattle.sm_machine.proofs.Either.{either}
 use Rattle.sm_walk.proofs.OneChange.{room-less}
 use Rattle.sm_walk.proofs.Opening.{fewer-tempos, fewer-stops, last-number}
 

@@ -1,5 +1,5 @@
 -- SM processing of tempos and stops that are narrowed to f32 and in order: the opening, the walk over the changes, the end. Definitions only.
-use Prim.Native.Nat.{ℕ, zero, suc, _+_, max}
+use Prim.Native.Nat.{ℕ, suc, _+_, max}
 use mathlib.Core.List.{List, [], _∷_, _++_}
 use lib.Ieee.{Float, binary32, sub, lt, le}
 use Rattle.picks.specs.Pick.{pick}

@@ -1,7 +1,7 @@
 -- What the functions inside the walk ask and say of each other. Nothing here is needed to read the call. Definitions only.
-use Prim.Native.Nat.{ℕ, zero, suc, _+_, _≤_, max}
+use Prim.Native.Nat.{ℕ, _+_, _≤_, max}
 use mathlib.Core.List.{List, [], _∷_, map}
-use mathlib.Core.Bool.{Bool, true}
+use mathlib.Core.Bool.{true}
 use mathlib.Core.Path.{_≡_}
 use lib.ListN.{length, set}
 use lib.Ieee.{Float, eq}

@@ -15,7 +15,9 @@ ghost use Rattle.sm_machine.specs.Machine.{naught, met};
 ghost use Rattle.sm_walk.specs.Changes.{headOf, left, advanced};
 ghost use Rattle.sm_walk.specs.Chart.{listOf, writtenBy, writtenAt, walk, stopsBefore, offsetOf, temposBy0, firstValue, openingTempo, processed};
 ghost use Rattle.sm_walk.specs.Columns.{columns, most};
-ghost use Rattle.sm_walk.specs.Walking.{isNumber, hasRoom, chartNumber, walkNumber, WalkLaid};
+ghost use lib.Dec.{eqb};
+ghost use Rattle.picks.specs.Pick.{pick};
+ghost use Rattle.sm_walk.specs.Walking.{isNumber, roomFor, chartNumber, walkNumber, WalkLaid};
 ghost use Rattle.sm_walk.specs.Inside.{placed, written, counted, noneCounted, Room, Within, Chart, Reached};
 
 // The change that comes next, if there is one.
@@ -452,24 +454,28 @@ fn at_least_one(n: usize) -> usize
     n
 }
 
-fn has_room(
-    counts: Counts,
-    tempo_beats: &[f64],
-    tempo_values: &[f64],
-    stop_beats: &[f64],
-    stop_values: &[f64],
-    warp_beats: &[f64],
-    warp_lengths: &[f64],
-) -> bool
-    ensures { λ r. ⌜ r ≡ hasRoom counts (columns (now («tempo_beats» .entry)) (now («tempo_values» .entry)) (now («stop_beats» .entry)) (now («stop_values» .entry)) (now («warp_beats» .entry)) (now («warp_lengths» .entry))) ⌝ }
+fn room_for(counts: Counts, tempo_room: usize, stop_room: usize, warp_room: usize) -> bool
+    ensures { λ r. ⌜ r ≡ roomFor counts «tempo_room» «stop_room» «warp_room» ⌝ }
 {
-    if counts.tempos <= columns::room_of(tempo_beats.len(), tempo_values.len()) {
-        if counts.stops <= columns::room_of(stop_beats.len(), stop_values.len()) {
-            return counts.warps <= columns::room_of(warp_beats.len(), warp_lengths.len());
+    if counts.tempos <= tempo_room {
+        if counts.stops <= stop_room {
+            return counts.warps <= warp_room;
         }
         return false;
     }
     false
+}
+
+fn most_of(tempos: usize, stops: usize) -> Counts
+    requires { ⌜ tempos + stops < 2 ^ 64 ⌝ }
+    ensures { λ r. ⌜ r ≡ most tempos stops ⌝ }
+{
+    let at_least = at_least_one(tempos);
+    Counts {
+        tempos: at_least,
+        stops,
+        warps: tempos + stops,
+    }
 }
 
 fn walk_number(
@@ -477,32 +483,16 @@ fn walk_number(
     tempo_values: &[f32],
     stop_beats: &[f32],
     stop_values: &[f32],
-    out_tempo_beats: &[f64],
-    out_tempo_values: &[f64],
-    out_stop_beats: &[f64],
-    out_stop_values: &[f64],
-    out_warp_beats: &[f64],
-    out_warp_lengths: &[f64],
+    tempo_room: usize,
+    stop_room: usize,
+    warp_room: usize,
 ) -> u32
-    ensures { λ r. ⌜ r ≡ walkNumber (now («tempo_beats» .entry)) (now («tempo_values» .entry)) (now («stop_beats» .entry)) (now («stop_values» .entry)) (columns (now («out_tempo_beats» .entry)) (now («out_tempo_values» .entry)) (now («out_stop_beats» .entry)) (now («out_stop_values» .entry)) (now («out_warp_beats» .entry)) (now («out_warp_lengths» .entry))) ⌝ }
+    ensures { λ r. ⌜ r ≡ pick (eqb (chartNumber (now («tempo_beats» .entry)) (now («tempo_values» .entry)) (now («stop_beats» .entry)) (now («stop_values» .entry))) 0) (pick (roomFor (most (length (now («tempo_beats» .entry))) (length (now («stop_beats» .entry)))) «tempo_room» «stop_room» «warp_room») 0 7) (chartNumber (now («tempo_beats» .entry)) (now («tempo_values» .entry)) (now («stop_beats» .entry)) (now («stop_values» .entry))) ⌝ }
 {
     let number = chart_number(tempo_beats, tempo_values, stop_beats, stop_values);
     if number == 0 {
-        let tempos = at_least_one(tempo_beats.len());
-        let most = Counts {
-            tempos,
-            stops: stop_beats.len(),
-            warps: tempo_beats.len() + stop_beats.len(),
-        };
-        if has_room(
-            most,
-            out_tempo_beats,
-            out_tempo_values,
-            out_stop_beats,
-            out_stop_values,
-            out_warp_beats,
-            out_warp_lengths,
-        ) {
+        let most = most_of(tempo_beats.len(), stop_beats.len());
+        if room_for(most, tempo_room, stop_room, warp_room) {
             return limits::TAKEN;
         }
         return limits::NO_ROOM;
@@ -539,17 +529,17 @@ pub fn walk_changes(
 ) -> Walked
     ensures { λ r. ⌜ WalkLaid (entries (now («tempo_beats» .entry)) (now («tempo_values» .entry))) (entries (now («stop_beats» .entry)) (now («stop_values» .entry))) (walkNumber (now («tempo_beats» .entry)) (now («tempo_values» .entry)) (now («stop_beats» .entry)) (now («stop_values» .entry)) (columns (now («out_tempo_beats» .entry)) (now («out_tempo_values» .entry)) (now («out_stop_beats» .entry)) (now («out_stop_values» .entry)) (now («out_warp_beats» .entry)) (now («out_warp_lengths» .entry)))) r (columns (now («out_tempo_beats» .entry)) (now («out_tempo_values» .entry)) (now («out_stop_beats» .entry)) (now («out_stop_values» .entry)) (now («out_warp_beats» .entry)) (now («out_warp_lengths» .entry))) (columns (now («out_tempo_beats» .exit)) (now («out_tempo_values» .exit)) (now («out_stop_beats» .exit)) (now («out_stop_values» .exit)) (now («out_warp_beats» .exit)) (now («out_warp_lengths» .exit))) ⌝ }
 {
+    let tempo_room = columns::room_of(out_tempo_beats.len(), out_tempo_values.len());
+    let stop_room = columns::room_of(out_stop_beats.len(), out_stop_values.len());
+    let warp_room = columns::room_of(out_warp_beats.len(), out_warp_lengths.len());
     let number = walk_number(
         tempo_beats,
         tempo_values,
         stop_beats,
         stop_values,
-        out_tempo_beats,
-        out_tempo_values,
-        out_stop_beats,
-        out_stop_values,
-        out_warp_beats,
-        out_warp_lengths,
+        tempo_room,
+        stop_room,
+        warp_room,
     );
     if number != 0 {
         return refused(number);

@@ -1,6 +1,5 @@
-use mathlib.Core.Path.{_≡_, sym, _∙_}
-use Rattle.sm_machine.proofs.Arrows.{pass-close, pass-keep, pass-unfit}
-use Rattle.sm_machine.specs.Machine.{passInWarp}
+use mathlib.Core.Path.{sym, _∙_}
+use Rattle.sm_machine.proofs.TimeByTests.{pass-close, pass-keep, pass-unfit}
 use borrow.Author.Needs.{needs}
 use Rattle.sm_machine.proofs.pass_in_warp.Statement.{statement}
 use Rattle.sm_machine.proofs.pass_in_warp.Tie as tie

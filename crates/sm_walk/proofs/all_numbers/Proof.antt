@@ -1,7 +1,7 @@
-use Prim.Native.Nat.{_+_, _-_, _≤_}
+use Prim.Native.Nat.{_-_}
 use native.Mathlib.Omega.{arith}
 use lib.ListN.{length, getD}
-use lib.Ieee.{Float, nan}
+use lib.Ieee.{nan}
 use Rattle.limits.proofs.Every.{Counted, miss-few, counted-start, counted-turn, counted-end}
 use Rattle.sm_walk.specs.Walking.{isNumber}
 use borrow.Author.Needs.{needs}

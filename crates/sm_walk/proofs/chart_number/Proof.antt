@@ -1,4 +1,3 @@
-use mathlib.Core.Path.{sym}
 use Rattle.picks.proofs.Rules.{flags}
 use Rattle.sm_walk.specs.Walking.{chartNumber}
 use borrow.Author.Needs.{needs}

@@ -1,4 +1,4 @@
-use Rattle.sm_walk.proofs.Opening.{max-one, first-empty, first-some}
+use Rattle.sm_walk.proofs.Opening.{first-empty, first-some}
 use borrow.Author.Needs.{needs}
 use Rattle.sm_walk.proofs.first_tempo.Statement.{statement}
 use Rattle.sm_walk.proofs.first_tempo.Tie as tie

@@ -1,4 +1,3 @@
-use mathlib.Core.Path.{sym}
 use Rattle.picks.proofs.Rules.{flags}
 use borrow.Author.Needs.{needs}
 use Rattle.sm_walk.proofs.one_nan.Statement.{statement}

@@ -1,4 +1,4 @@
-use Rattle.sm_walk.proofs.Opening.{max-one, first-empty, first-some}
+use Rattle.sm_walk.proofs.Opening.{max-one}
 use borrow.Author.Needs.{needs}
 use Rattle.sm_walk.proofs.opener_at.Statement.{statement}
 use Rattle.sm_walk.proofs.opener_at.Tie as tie

@@ -1,11 +1,11 @@
-use Prim.Native.Nat.{ℕ, _+_, _≤_, max}
+use Prim.Native.Nat.{_+_, _≤_, max}
 use lib.ListN.{length}
 use native.Mathlib.Nat.{max-le}
 use native.Mathlib.Omega.{arith}
-use mathlib.Core.Path.{_≡_, refl, sym, ap, _∙_}
+use mathlib.Core.Path.{refl, sym, _∙_}
 use Rattle.sm_walk.specs.Chart.{writtenBy}
-use Rattle.sm_walk.specs.Columns.{Columns, columns}
-use Rattle.sm_walk.proofs.OneChange.{SameLengths, same-refl, same-written, same-then}
+use Rattle.sm_walk.specs.Columns.{columns}
+use Rattle.sm_walk.proofs.OneChange.{same-refl, same-written, same-then}
 use Rattle.sm_walk.proofs.WalkTurns.{Going, ahead, room-turn, turn, room-end, ended}
 use borrow.Author.Needs.{needs}
 use Rattle.sm_walk.proofs.run.Statement.{statement}

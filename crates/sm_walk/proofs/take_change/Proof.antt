@@ -1,9 +1,9 @@
 use Rattle.sm_machine.specs.Machine.{pass, meet}
 use lib.Ieee.{Float}
-use mathlib.Core.Path.{_≡_, refl, sym, ap, _∙_}
+use mathlib.Core.Path.{ap, _∙_}
 use Rattle.sm_walk.specs.Chart.{writtenBy}
-use Rattle.sm_walk.specs.Columns.{Columns, columns}
-use Rattle.sm_walk.proofs.OneChange.{SameLengths, same-written, same-then, room-passing, room-meeting, turned}
+use Rattle.sm_walk.specs.Columns.{columns}
+use Rattle.sm_walk.proofs.OneChange.{same-written, same-then, room-passing, room-meeting, turned}
 use borrow.Author.Needs.{needs}
 use Rattle.sm_walk.proofs.take_change.Statement.{statement}
 use Rattle.sm_walk.proofs.take_change.Tie as tie

@@ -1,11 +1,9 @@
 use Rattle.order.specs.Entries.{entries}
 use Rattle.sm_walk.specs.Changes.{left}
 use Rattle.sm_walk.specs.Chart.{walk, writtenBy}
-use Rattle.sm_walk.specs.Columns.{Columns, columns, most}
+use Rattle.sm_walk.specs.Columns.{columns, most}
 use Rattle.sm_walk.specs.Inside.{noneCounted}
-use Rattle.sm_walk.specs.declared.Places.{Places}
 use lib.ListN.{length}
-use Prim.Native.Nat.{ℕ, _≤_}
 use Rattle.sm_walk.proofs.OneChange.{same-written, same-then, room-same}
 use Rattle.sm_walk.proofs.WholeChart.{room-opening, reached-here, within-here, whole}
 use borrow.Author.Needs.{needs}

@@ -1,9 +1,9 @@
--- The arrows that a test chooses, each by its tests.
-use mathlib.Core.Bool.{Bool, true, false}
-use mathlib.Core.Path.{_≡_, refl, sym, _∙_}
-use lib.Ieee.{Float, binary32, add, lt}
+-- What time does in a warp, by the tests that the code makes. Assumes nothing.
+use mathlib.Core.Bool.{true, false}
+use mathlib.Core.Path.{_≡_}
+use lib.Ieee.{Float, lt}
 use Rattle.sm_machine.specs.declared.Opened.{Opened}
-use Rattle.sm_machine.specs.Machine.{naught, fits, owedAt, keepWarp, closeByTime, passInWarp, closeByStop, beginAgain, stopInWarp}
+use Rattle.sm_machine.specs.Machine.{naught, fits, owedAt, keepWarp, closeByTime, passInWarp}
 
 module _ (tempo last : Float) (warp : Opened) (beat owed : Float) (e : owed ≡ owedAt tempo last (warp .owed) beat) where
   pub pass-close : fits tempo ≡ true → lt naught owed ≡ true → closeByTime tempo beat warp owed ≡ passInWarp tempo last warp beat

@@ -1,9 +1,6 @@
--- What ends a warp, and that nothing else does.
-use Prim.Native.Nat.{ℕ, zero, suc, _+_, _≤_, max}
+-- What ends a warp, and that nothing else does. Assumes nothing.
 use mathlib.Core.Bool.{Bool, true, false, _&&_}
-use mathlib.Core.List.{List, [], _∷_, _++_}
-use mathlib.Core.Path.{_≡_, refl, sym, ap, _∙_}
-use native.Mathlib.Omega.{arith}
+use mathlib.Core.Path.{_≡_, refl}
 use lib.Ieee.{Float, binary32, add, lt}
 use Rattle.sm_machine.specs.declared.Entry.{Entry}
 use Rattle.sm_machine.specs.declared.Change.{Change}
@@ -12,12 +9,8 @@ use Rattle.sm_machine.specs.declared.Opened.{Opened}
 use Rattle.sm_machine.specs.declared.Warp.{Warp}
 use Rattle.sm_machine.specs.declared.Warp.the-variants.{Closed, Open}
 use Rattle.sm_machine.specs.declared.State.{State}
-use Rattle.sm_machine.specs.declared.Moved.{Moved}
-use Rattle.sm_machine.specs.Machine.{naught, fits, still, owedAt, keepWarp, closeByTime, passInWarp, passBy, pass, tempoBy, meetTempo, closeByStop, beginAgain, stopInWarp, stopBy, meetStop, meet, beatAt, finishWarp, finishBy, finish, passed, met}
-
--- the same warp, with this much owed
-abbrev pub owing : Opened → Float → Warp
-owing warp owed = Open (record { start = warp .start; former = warp .former; owed = owed })
+use Rattle.sm_machine.proofs.EachArrow.{owing}
+use Rattle.sm_machine.specs.Machine.{naught, fits, owedAt, keepWarp, closeByTime, passInWarp, pass, meetTempo, closeByStop, beginAgain, stopInWarp, meetStop, meet, beatAt, finishWarp, finishBy, finish, passed, met}
 
 -- ---- time passes
 
@@ -62,16 +55,6 @@ stop-in-warp tempo beat warp pause true false h k = begins h k (rw (h, k))
 pub after-stop : (state : State) (warp : Opened) (pause : Float) → state .warp ≡ Open warp → AfterStop state warp pause (meetStop state pause .state .warp)
 unfolding meetStop
 after-stop state warp pause e = rw e (stop-in-warp (state .tempo) (state .beat) warp pause (lt naught pause && lt naught (add binary32 (warp .owed) pause)) (fits (state .tempo)) refl refl)
-
--- THE INCIDENT'S ARROW: a pause that leaves the owed time at or below zero keeps the warp, and writes nothing
-and-false : (a b : Bool) → b ≡ false → a && b ≡ false
-and-false true b h = h
-and-false false b h = refl
-
-pub pause-keeps : (state : State) (warp : Opened) (pause : Float) → state .warp ≡ Open warp → lt naught (add binary32 (warp .owed) pause) ≡ false
-    → meetStop state pause ≡ still (record { tempo = state .tempo; beat = state .beat; warp = owing warp (add binary32 (warp .owed) pause) })
-unfolding meetStop stopInWarp keepWarp
-pause-keeps state warp pause e h = rw (e, and-false (lt naught pause) (lt naught (add binary32 (warp .owed) pause)) h)
 
 -- ---- a change whole
 
