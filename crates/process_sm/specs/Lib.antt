@@ -1,2 +1,0 @@
-pub mod Sm
-pub mod Inside
