@@ -122,15 +122,19 @@ fn full(random: &mut Random) -> Lists {
     made
 }
 
-/// Charts that make a warp at every other event or more: more of them than a list may have.
+/// Charts that make a warp at three events of four: more of them than a list may have.
 fn warps(random: &mut Random) -> Lists {
     let count = 500 + random.below(525) as usize;
-    let every = 1 + random.below(2) as usize;
-    let beats: Vec<f64> = (0..count).map(|place| place as f64).collect();
-    let tempos = (0..count).map(|place| if place % 2 == every - 1 { 120.0 } else { -120.0 }).collect();
-    let stop_beats = (0..count).map(|place| place as f64 + 0.5).collect();
-    let stops = (0..count).map(|place| if place % 2 == 0 { -0.125 } else { [0.25, -0.125][every - 1] }).collect();
-    Lists { columns: [beats, tempos, stop_beats, stops] }
+    let beat = |place: usize| (place / 2) as f64;
+    let quick = [10_000_000.0, -120.0][random.below(2) as usize];
+    Lists {
+        columns: [
+            (0..count).map(|place| beat(place) + [0.0, 0.25][place % 2]).collect(),
+            (0..count).map(|place| [quick, 120.0][place % 2]).collect(),
+            (0..count).map(|place| beat(place) + [0.5, 0.75][place % 2]).collect(),
+            (0..count).map(|_| -0.1).collect(),
+        ],
+    }
 }
 
 /// Numbers that are not finite: their entries are dropped.

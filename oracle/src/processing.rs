@@ -103,6 +103,77 @@ impl Format for Ssc {
     }
 }
 
+pub struct Sm;
+
+impl Format for Sm {
+    const NAME: &str = "process_bpms_and_stops_sm";
+    const ROOMS: usize = 6;
+
+    fn original(tempos: &[(f64, f64)], stops: &[Segment]) -> Result {
+        probe::process_bpms_and_stops_sm(tempos, stops)
+    }
+
+    fn port(lists: &Lists, rooms: &mut Rooms, lengths: &[usize; 6]) -> Processed {
+        unsafe extern "C" {
+            fn marrighentu_process_bpms_and_stops_sm(
+                tempo_beats: *const f64,
+                tempo_beats_len: usize,
+                tempo_values: *const f64,
+                tempo_values_len: usize,
+                stop_beats: *const f64,
+                stop_beats_len: usize,
+                stop_values: *const f64,
+                stop_values_len: usize,
+                out_tempo_beats: *mut f64,
+                out_tempo_beats_len: usize,
+                out_tempo_values: *mut f64,
+                out_tempo_values_len: usize,
+                out_stop_beats: *mut f64,
+                out_stop_beats_len: usize,
+                out_stop_values: *mut f64,
+                out_stop_values_len: usize,
+                out_warp_beats: *mut f64,
+                out_warp_beats_len: usize,
+                out_warp_lengths: *mut f64,
+                out_warp_lengths_len: usize,
+            ) -> Processed;
+        }
+        let [tempo_beats, tempo_values, stop_beats, stop_values] = &lists.columns;
+        let [room0, room1, room2, room3, room4, room5] = rooms;
+        assert!(
+            [&room0, &room1, &room2, &room3, &room4, &room5]
+                .iter()
+                .zip(lengths)
+                .all(|(room, length)| *length <= room.len())
+        );
+        // SAFETY: the ten columns are lent whole and apart, and a slice crosses as its pointer and its length.
+        unsafe {
+            marrighentu_process_bpms_and_stops_sm(
+                tempo_beats.as_ptr(),
+                tempo_beats.len(),
+                tempo_values.as_ptr(),
+                tempo_values.len(),
+                stop_beats.as_ptr(),
+                stop_beats.len(),
+                stop_values.as_ptr(),
+                stop_values.len(),
+                room0.as_mut_ptr(),
+                lengths[0],
+                room1.as_mut_ptr(),
+                lengths[1],
+                room2.as_mut_ptr(),
+                lengths[2],
+                room3.as_mut_ptr(),
+                lengths[3],
+                room4.as_mut_ptr(),
+                lengths[4],
+                room5.as_mut_ptr(),
+                lengths[5],
+            )
+        }
+    }
+}
+
 /// The number by which a list is refused by itself; else 0. What is not finite passes, to be dropped later.
 fn list_number(beats: &[f64], values: &[f64]) -> u32 {
     if beats.len() > 1_024 || values.len() > 1_024 {
@@ -311,4 +382,5 @@ pub fn compare_all(work: Work, total: &mut Total) {
         total.add(F::NAME, found.compared, found.different, found.plainest.map(|asked| asked.shown::<F>()));
     }
     add::<Ssc>(work, total);
+    add::<Sm>(work, total);
 }

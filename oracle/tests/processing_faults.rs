@@ -3,7 +3,7 @@
 
 use oracle::cases::Work;
 use oracle::charts::Lists;
-use oracle::processing::{Format, Processed, Result, Rooms, Ssc, compare};
+use oracle::processing::{Format, Processed, Result, Rooms, Sm, Ssc, compare};
 use oracle::timing::Segment;
 
 const WORK: Work = Work { seed: 1, seconds: 0 };
@@ -50,8 +50,23 @@ wrong! { OneTooFew like Ssc(lists, rooms, lengths) {
     answer
 } }
 
+wrong! { KeepsOffset like Sm(lists, rooms, lengths) {
+    let mut answer = Sm::port(lists, rooms, lengths);
+    if answer.number == 7 {
+        answer.offset = -1.0;
+    }
+    answer
+} }
+
+wrong! { FewWarps like Sm(lists, rooms, lengths) {
+    let answer = Sm::port(lists, rooms, lengths);
+    if answer.warps > 1_024 { Processed::refused(1) } else { answer }
+} }
+
 #[test]
 fn faults_are_found() {
+    assert!(compare::<KeepsOffset>(WORK).different > 0);
+    assert!(compare::<FewWarps>(WORK).different > 0);
     assert!(compare::<WritesBeforeRefusing>(WORK).different > 0);
     assert!(compare::<DropsFirst>(WORK).different > 0);
     assert!(compare::<OneTooFew>(WORK).different > 0);
@@ -59,9 +74,12 @@ fn faults_are_found() {
 
 #[test]
 fn every_number_is_asked() {
-    let found = compare::<Ssc>(WORK);
-    assert_eq!(found.different, 0);
-    let wanted = [0, 1, 2, 3, 4, 5, 6, 7].map(|number| ![5, 6].contains(&number));
-    assert_eq!(found.numbers.map(|times| times > 20), wanted);
-    println!("{:?}", found.numbers);
+    fn asked<F: Format>() {
+        let found = compare::<F>(WORK);
+        assert_eq!(found.different, 0);
+        let wanted = [0, 1, 2, 3, 4, 5, 6, 7].map(|number| ![5, 6].contains(&number));
+        assert_eq!(found.numbers.map(|times| times > 20), wanted);
+    }
+    asked::<Ssc>();
+    asked::<Sm>();
 }
