@@ -3,6 +3,7 @@
 use columns::Outcome;
 use limits::Kind;
 use lookup::Looked;
+use raw_lists::Processed;
 use row_store::Stored;
 ghost use mathlib.Core.Path.{_≡_};
 ghost use Prim.Native.Nat.{min};
@@ -18,6 +19,8 @@ ghost use Rattle.lookup.specs.Lookups.{isWarped, isFake, isJudgable, askedRow, 
 ghost use Rattle.limits.specs.Refusals.{listNumber};
 ghost use Rattle.tidy_rows.specs.RowTidying.{RowsTidied};
 ghost use Rattle.tidy_tempos.specs.TempoTidying.{tidyTempos};
+ghost use Rattle.process_ssc.specs.Ssc.{SscProcessed};
+ghost use Rattle.process_sm.specs.Sm.{SmProcessed};
 
 #[no_mangle]
 pub extern "C" fn marrighentu_lrint_f64(x: f64) -> i32
@@ -399,5 +402,59 @@ pub extern "C" fn marrighentu_judgable_rows(
         fake_lengths,
         rows,
         out,
+    )
+}
+
+#[no_mangle]
+pub extern "C" fn marrighentu_process_bpms_and_stops_ssc(
+    tempo_beats: &[f64],
+    tempo_values: &[f64],
+    stop_beats: &[f64],
+    stop_values: &[f64],
+    out_tempo_beats: &mut [f64],
+    out_tempo_values: &mut [f64],
+    out_stop_beats: &mut [f64],
+    out_stop_values: &mut [f64],
+) -> Processed
+    ensures { λ r. ⌜ SscProcessed (now («tempo_beats» .entry)) (now («tempo_values» .entry)) (now («stop_beats» .entry)) (now («stop_values» .entry)) r (now («out_tempo_beats» .entry)) (now («out_tempo_beats» .exit)) (now («out_tempo_values» .entry)) (now («out_tempo_values» .exit)) (now («out_stop_beats» .entry)) (now («out_stop_beats» .exit)) (now («out_stop_values» .entry)) (now («out_stop_values» .exit)) ⌝ }
+{
+    process_ssc::process_bpms_and_stops_ssc(
+        tempo_beats,
+        tempo_values,
+        stop_beats,
+        stop_values,
+        out_tempo_beats,
+        out_tempo_values,
+        out_stop_beats,
+        out_stop_values,
+    )
+}
+
+#[no_mangle]
+pub extern "C" fn marrighentu_process_bpms_and_stops_sm(
+    tempo_beats: &[f64],
+    tempo_values: &[f64],
+    stop_beats: &[f64],
+    stop_values: &[f64],
+    out_tempo_beats: &mut [f64],
+    out_tempo_values: &mut [f64],
+    out_stop_beats: &mut [f64],
+    out_stop_values: &mut [f64],
+    out_warp_beats: &mut [f64],
+    out_warp_lengths: &mut [f64],
+) -> Processed
+    ensures { λ r. ⌜ SmProcessed (now («tempo_beats» .entry)) (now («tempo_values» .entry)) (now («stop_beats» .entry)) (now («stop_values» .entry)) r (now («out_tempo_beats» .entry)) (now («out_tempo_beats» .exit)) (now («out_tempo_values» .entry)) (now («out_tempo_values» .exit)) (now («out_stop_beats» .entry)) (now («out_stop_beats» .exit)) (now («out_stop_values» .entry)) (now («out_stop_values» .exit)) (now («out_warp_beats» .entry)) (now («out_warp_beats» .exit)) (now («out_warp_lengths» .entry)) (now («out_warp_lengths» .exit)) ⌝ }
+{
+    process_sm::process_bpms_and_stops_sm(
+        tempo_beats,
+        tempo_values,
+        stop_beats,
+        stop_values,
+        out_tempo_beats,
+        out_tempo_values,
+        out_stop_beats,
+        out_stop_values,
+        out_warp_beats,
+        out_warp_lengths,
     )
 }

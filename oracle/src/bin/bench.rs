@@ -2,7 +2,9 @@
 
 use oracle::calls::{self, Call, Visit};
 use oracle::cases::Cases;
+use oracle::charts;
 use oracle::lookups::{self, Lists};
+use oracle::processing::{self, Format, Rooms, Sm, Ssc};
 use oracle::random::Random;
 use oracle::tidying::{self, Rows, Tempos, Tidying};
 use oracle::timing::probe;
@@ -30,6 +32,10 @@ fn main() {
     }
     for entries in [16, 256] {
         bench.lookups(entries);
+    }
+    for (tempos, stops) in [(50, 30), (1_024, 1_024)] {
+        bench.processing::<Ssc>(tempos, stops);
+        bench.processing::<Sm>(tempos, stops);
     }
     println!("worst ratio {:.2} ({})", bench.worst.0, bench.worst.1);
 }
@@ -113,6 +119,31 @@ impl Bench {
             || {
                 black_box(probe::is_judgable_at_row(black_box(&timing), black_box(row)));
             },
+        );
+    }
+}
+
+impl Bench {
+    /// A chart in order: a tempo and a stop every few beats.
+    fn processing<F: Format>(&mut self, tempos: usize, stops: usize) {
+        let mut random = Random::new(1, "bench of processing");
+        let columns = [
+            (0..tempos).map(|place| place as f64 * 4.0).collect(),
+            (0..tempos).map(|_| 60.0 + random.part() * 200.0).collect(),
+            (0..stops).map(|place| place as f64 * 5.0 + 0.5).collect(),
+            (0..stops).map(|_| 0.05 + random.part()).collect(),
+        ];
+        let lists = charts::Lists { columns };
+        let (list, segments) = (processing::tempos(&lists), processing::stops(&lists));
+        let lengths = [tempos, tempos, stops, stops, tempos + stops, tempos + stops];
+        let mut rooms: Rooms = lengths.map(|length| vec![0.0; length]);
+        self.line(
+            &format!("{} of {tempos} tempos, {stops} stops", F::NAME),
+            1,
+            || {
+                black_box(F::port(black_box(&lists), &mut rooms, &lengths));
+            },
+            || drop(black_box(F::original(black_box(&list), black_box(&segments)))),
         );
     }
 }
