@@ -27,6 +27,8 @@ pub mod numbers;
 pub mod processing;
 pub mod random;
 #[cfg(feature = "port")]
+pub mod sm_stops;
+#[cfg(feature = "port")]
 pub mod tally;
 #[cfg(feature = "port")]
 pub mod tidying;

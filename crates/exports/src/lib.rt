@@ -5,6 +5,7 @@ use limits::Kind;
 use lookup::Looked;
 use raw_lists::Processed;
 use row_store::Stored;
+use sm_stops::Filled;
 ghost use mathlib.Core.Path.{_≡_};
 ghost use Prim.Native.Nat.{min};
 ghost use lib.Ieee.{Float, binary32, binary64};
@@ -19,6 +20,8 @@ ghost use Rattle.lookup.specs.Lookups.{isWarped, isFake, isJudgable, askedRow, 
 ghost use Rattle.limits.specs.Refusals.{listNumber};
 ghost use Rattle.tidy_rows.specs.RowTidying.{RowsTidied};
 ghost use Rattle.tidy_tempos.specs.TempoTidying.{tidyTempos};
+ghost use Rattle.sm_stops.specs.Merging.{sources};
+ghost use Rattle.sm_stops.specs.Filling.{StopsFilled};
 ghost use Rattle.process_ssc.specs.Ssc.{SscProcessed};
 ghost use Rattle.process_sm.specs.Sm.{SmProcessed};
 
@@ -456,5 +459,30 @@ pub extern "C" fn marrighentu_process_bpms_and_stops_sm(
         out_stop_values,
         out_warp_beats,
         out_warp_lengths,
+    )
+}
+
+#[no_mangle]
+pub extern "C" fn marrighentu_convert_warps_and_delays_to_sm_stops(
+    tempo_beats: &[f32],
+    tempo_values: &[f32],
+    stops: &[f32],
+    delay_beats: &[f32],
+    delay_values: &[f32],
+    warp_beats: &[f32],
+    warp_lengths: &[f32],
+    work: &mut [f32],
+) -> Filled
+    ensures { λ r. ⌜ StopsFilled (sources (now («tempo_beats» .entry)) (now («tempo_values» .entry)) (now (stops .entry)) (now («delay_beats» .entry)) (now («delay_values» .entry)) (now («warp_beats» .entry)) (now («warp_lengths» .entry))) r (now (work .entry)) (now (work .exit)) ⌝ }
+{
+    sm_stops::convert_warps_and_delays_to_sm_stops(
+        tempo_beats,
+        tempo_values,
+        stops,
+        delay_beats,
+        delay_values,
+        warp_beats,
+        warp_lengths,
+        work,
     )
 }

@@ -6,6 +6,7 @@ use oracle::lookups;
 use oracle::numbers::Number;
 use oracle::processing;
 use oracle::random::Random;
+use oracle::sm_stops;
 use oracle::tally::{Tally, Total};
 use oracle::tidying;
 use std::process::ExitCode;
@@ -22,6 +23,7 @@ fn main() -> ExitCode {
     tidying::compare_all(work, &mut total);
     lookups::compare_all(work, &mut total);
     processing::compare_all(work, &mut total);
+    sm_stops::compare_all(work, &mut total);
     if total.end() { ExitCode::SUCCESS } else { ExitCode::FAILURE }
 }
 
