@@ -8,6 +8,7 @@ use Rattle.rows.specs.Rows.{row}
 use Rattle.tidy_rows.specs.RowTidying.{tidyRows}
 use Rattle.tidy_tempos.specs.TempoTidying.{tidyTempos}
 use Rattle.lookup.specs.Lookups.{isWarped, askedRow}
+use Rattle.sm_stops.specs.Merging.{sources, merged, atFirst}
 use Rattle.played.specs.Numbers.{decimal, whole, minus}
 
 pub record Examples : Type 0 where
@@ -21,3 +22,5 @@ pub record Examples : Type 0 where
   pub tempos-that-change : tidyTempos (whole 0 ∷ whole 4 ∷ whole 8 ∷ []) (whole 120 ∷ whole 120 ∷ whole 60 ∷ []) ≡ (whole 0, whole 120) ∷ (whole 8, whole 60) ∷ []
   -- lookups: of two warps only the later is tested, though the earlier covers the beat
   pub later-warp-tested : isWarped [] [] [] [] (whole 0 ∷ whole 4 ∷ []) (whole 8 ∷ whole 1 ∷ []) (askedRow (whole 6)) ≡ false
+  -- SM stops: a warp takes away just what a stop on its beat would last
+  pub warp-for-stop : merged (sources (whole 0 ∷ []) (whole 120 ∷ []) (whole 4 ∷ whole 1 ∷ []) [] [] (whole 4 ∷ []) (whole 2 ∷ [])) atFirst ≡ []
