@@ -1,0 +1,4 @@
+pub mod BackFromBits
+pub mod EachCandidate
+pub mod EventByEvent
+pub mod LastUpTo

@@ -1,69 +1,78 @@
+-- `walk::last_up_to` meets its contract. Assumes nothing.
+use Prim.Native.Nat.{_-_}
+use mathlib.Core.Path.{_≡_, refl, sym, ap, _∙_}
+use mathlib.Core.Bool.{true, false}
+use native.Mathlib.Omega.{arith}
+use lib.ListN.{length, getD}
+use lib.Ieee.{Float, le, nan}
+use Rattle.walk.proofs.LastUpTo.{Finding, beats-over, values-over, later, found}
 use borrow.Author.Needs.{needs}
 use Rattle.walk.proofs.last_up_to.Statement.{statement}
 use Rattle.walk.proofs.last_up_to.Tie as tie
-use Rattle.walk.proofs.last_up_to.Reads as reads
-use Rattle.walk.proofs.last_up_to.Lts as lts
-use Rattle.std.proofs.num.f32_to_f64_with_nan.Reads as f32-to-f64-with-nan-reads
 
 abbrev Inv-loop : tie.InvT-loop
-Inv-loop beat other tempo-beats tempo-values tempo₀ i₀ tempo i = ?
+Inv-loop beat other tempo-beats tempo-values tempo₀ i₀ tempo i = Finding beat other tempo-beats tempo-values tempo i
 
 abbrev μ-loop : tie.MeasureT-loop
-μ-loop beat other tempo-beats tempo-values tempo₀ i₀ tempo i = ?
+μ-loop beat other tempo-beats tempo-values tempo₀ i₀ tempo i = length tempo-beats - i
 
--- src/lib.rt:133:5
 loop-holds : tie.Need-loop-holds Inv-loop μ-loop
-loop-holds c = search needs
+loop-holds c =
+    record { same = refl }
 
--- src/lib.rt:135:13
 returns : tie.Need-returns Inv-loop μ-loop
-returns c = search needs
+returns c =
+    let a = c .before .before .before .before .before .args in
+    let l = c .before .before .loop in
+    values-over (a .beat) (a .other) (a .tempo-beats .now) (a .tempo-values .now) (l .tempo) (l .i) (l .inv) (c .if1 .taken)
 
--- src/lib.rt:137:48
 mul-f32-to-f64-with-nan : tie.Need-mul-f32-to-f64-with-nan Inv-loop μ-loop
 mul-f32-to-f64-with-nan c = search needs
 
--- src/lib.rt:137:48
 shared-slice-read-f32-to-f64-with-nan :
     tie.Need-shared-slice-read-f32-to-f64-with-nan Inv-loop μ-loop
 shared-slice-read-f32-to-f64-with-nan c = search needs
 
--- src/lib.rt:137:13
 f32-to-f64-with-nan-requires : tie.Need-f32-to-f64-with-nan-requires Inv-loop μ-loop
 f32-to-f64-with-nan-requires c κs = search needs
 
--- src/lib.rt:139:51
 mul-f32-to-f64-with-nan-2 : tie.Need-mul-f32-to-f64-with-nan-2 Inv-loop μ-loop
 mul-f32-to-f64-with-nan-2 c = search needs
 
--- src/lib.rt:139:51
 shared-slice-read-f32-to-f64-with-nan-2 :
     tie.Need-shared-slice-read-f32-to-f64-with-nan-2 Inv-loop μ-loop
 shared-slice-read-f32-to-f64-with-nan-2 c = search needs
 
--- src/lib.rt:139:13
 f32-to-f64-with-nan-requires-2 : tie.Need-f32-to-f64-with-nan-requires-2 Inv-loop μ-loop
 f32-to-f64-with-nan-requires-2 c κs = search needs
 
--- src/lib.rt:140:13
 add-i : tie.Need-add-i Inv-loop μ-loop
 add-i c = search needs
 
--- src/lib.rt:133:5
 loop-less : tie.Need-loop-less Inv-loop μ-loop
-loop-less c = search needs
+loop-less c =
+    let h = c .before .before .before .before .before .before .loop-test .taken in omega arith
 
--- src/lib.rt:133:5
 loop-again : tie.Need-loop-again Inv-loop μ-loop
-loop-again c = search needs
+loop-again c =
+    let a = c .before .before .before .before .before .before .before .before .before .before .args in
+    let l = c .before .before .before .before .before .before .before .loop in
+    let e : le (getD (a .tempo-beats .now) (l .i) nan) (a .beat) ≡ true = sym (ap (λ (x : Float). le x (a .beat)) (c .before .before .before .f32-to-f64-with-nan .ensures)) ∙ c .before .before .if2 .taken in
+    let go = found (a .beat) (a .other) (a .tempo-beats .now) (a .tempo-values .now) (l .tempo) (l .i) (l .inv) (c .before .before .before .before .before .before .loop-test .taken) (omega (arith, c .before .before .before .before .before .if1 .left)) e in
+    rw (c .f32-to-f64-with-nan2 .ensures) go
 
--- src/lib.rt:143:9
 returns-2 : tie.Need-returns-2 Inv-loop μ-loop
-returns-2 c = search needs
+returns-2 c =
+    let a = c .before .before .before .before .before .before .before .before .args in
+    let l = c .before .before .before .before .before .loop in
+    let e : le (getD (a .tempo-beats .now) (l .i) nan) (a .beat) ≡ false = sym (ap (λ (x : Float). le x (a .beat)) (c .before .f32-to-f64-with-nan .ensures)) ∙ c .if2 .left in
+    later (a .beat) (a .other) (a .tempo-beats .now) (a .tempo-values .now) (l .tempo) (l .i) (l .inv) (c .before .before .before .before .loop-test .taken) (omega (arith, c .before .before .before .if1 .left)) e
 
--- src/lib.rt:128:1
 returns-3 : tie.Need-returns-3 Inv-loop μ-loop
-returns-3 c = search needs
+returns-3 c =
+    let a = c .before .before .before .before .args in
+    let l = c .before .loop in
+    beats-over (a .beat) (a .other) (a .tempo-beats .now) (a .tempo-values .now) (l .tempo) (l .i) (l .inv) (c .loop-test .left)
 
 pub last-up-to-spec : {M : Type 1} → statement M
 last-up-to-spec =
