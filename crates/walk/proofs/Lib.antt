@@ -3,3 +3,8 @@ pub mod EachCandidate
 pub mod EventByEvent
 pub mod LastUpTo
 pub mod EventsSpent
+pub mod RowOrder
+pub mod WalkedOn
+pub mod CountApart
+pub mod EarlyTempoApart
+pub mod BeforeAnyTempo
