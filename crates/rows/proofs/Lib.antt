@@ -1,4 +1,5 @@
 pub mod RowValue
+pub mod RowOfZero
 pub mod RowOfBeat
 pub mod RowWithin
 pub mod RowsKeepOrder
