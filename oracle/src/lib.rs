@@ -18,8 +18,11 @@ use missing::{nps, parse, resolve_difficulty_label, stats, supported_stepstype_l
 
 pub mod calls;
 pub mod cases;
+pub mod charts;
 pub mod lists;
 pub mod numbers;
+#[cfg(feature = "port")]
+pub mod processing;
 pub mod random;
 #[cfg(feature = "port")]
 pub mod tally;

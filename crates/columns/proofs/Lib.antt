@@ -3,3 +3,4 @@ pub mod Rooms
 pub mod LaidEach
 pub mod EachOverFront
 pub mod LastsLaid
+pub mod KeptLaid

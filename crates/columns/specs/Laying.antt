@@ -34,3 +34,9 @@ pub record LaidPair (tests : ℕ) (result : List (Float × Float)) (outcome : Ou
   pub count : outcome .count ≡ length (given (outcome .number) result)
   pub firstIs : firstNew ≡ columnLaid first (outcome .number) result firstOld
   pub secondIs : secondNew ≡ columnLaid second (outcome .number) result secondOld
+
+-- One list of a call that has several, under the call's one number: its count, and both rooms to their last place.
+pub record LaidList (number : ℕ) (result : List (Float × Float)) (count : ℕ) (firstOld firstNew secondOld secondNew : List Float) : Type 0 where
+  pub counted : count ≡ length (given number result)
+  pub firstIs : firstNew ≡ columnLaid first number result firstOld
+  pub secondIs : secondNew ≡ columnLaid second number result secondOld

@@ -1,2 +1,3 @@
 pub mod Laying
 pub mod Each
+pub mod Kept

@@ -1,7 +1,8 @@
 // The calls of `ieee` and `rows` under C names, for native programs to link: each by itself, and in a loop over lent columns.
-// After them the calls that tidy lists.
+// After them the calls that tidy lists, and those that process raw tempos and stops.
 use columns::Outcome;
 use limits::Kind;
+use raw_lists::Processed;
 ghost use mathlib.Core.Path.{_≡_};
 ghost use Prim.Native.Nat.{min};
 ghost use lib.Ieee.{Float, binary32, binary64};
@@ -14,6 +15,7 @@ ghost use Rattle.limits.specs.Numbers.{rangeOf};
 ghost use Rattle.limits.specs.Refusals.{listNumber};
 ghost use Rattle.tidy_rows.specs.RowTidying.{RowsTidied};
 ghost use Rattle.tidy_tempos.specs.TempoTidying.{tidyTempos};
+ghost use Rattle.process_ssc.specs.Ssc.{SscProcessed};
 
 #[no_mangle]
 pub extern "C" fn marrighentu_lrint_f64(x: f64) -> i32
@@ -216,4 +218,29 @@ pub extern "C" fn marrighentu_tidy_bpms(
     ensures { λ r. ⌜ LaidPair (listNumber (rangeOf Kind.Beat) (rangeOf Kind.TidyTempo) (now (beats .entry)) (now (tempos .entry))) (tidyTempos (now (beats .entry)) (now (tempos .entry))) r (now («out_beats» .entry)) (now («out_beats» .exit)) (now («out_tempos» .entry)) (now («out_tempos» .exit)) ⌝ }
 {
     tidy_tempos::tidy_bpms(beats, tempos, out_beats, out_tempos)
+}
+
+#[no_mangle]
+pub extern "C" fn marrighentu_process_bpms_and_stops_ssc(
+    tempo_beats: &[f64],
+    tempo_values: &[f64],
+    stop_beats: &[f64],
+    stop_values: &[f64],
+    out_tempo_beats: &mut [f64],
+    out_tempo_values: &mut [f64],
+    out_stop_beats: &mut [f64],
+    out_stop_values: &mut [f64],
+) -> Processed
+    ensures { λ r. ⌜ SscProcessed (now («tempo_beats» .entry)) (now («tempo_values» .entry)) (now («stop_beats» .entry)) (now («stop_values» .entry)) r (now («out_tempo_beats» .entry)) (now («out_tempo_beats» .exit)) (now («out_tempo_values» .entry)) (now («out_tempo_values» .exit)) (now («out_stop_beats» .entry)) (now («out_stop_beats» .exit)) (now («out_stop_values» .entry)) (now («out_stop_values» .exit)) ⌝ }
+{
+    process_ssc::process_bpms_and_stops_ssc(
+        tempo_beats,
+        tempo_values,
+        stop_beats,
+        stop_values,
+        out_tempo_beats,
+        out_tempo_values,
+        out_stop_beats,
+        out_stop_values,
+    )
 }

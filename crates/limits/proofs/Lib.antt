@@ -1,3 +1,4 @@
 pub mod Every
 pub mod ListTaken
 pub mod NoRefusal
+pub mod TakenWithin

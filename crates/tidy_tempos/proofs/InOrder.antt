@@ -1,13 +1,21 @@
--- Whether beats never fall, from one beat on: by the test of it and the next. Assumes nothing.
+-- Whether beats never fall, from one beat on: by the test of it and the next; and beats that are numbers never fall where their keys do not. Assumes nothing.
 use Prim.Native.Nat.{ℕ, suc, _+_, _≤_, _<_}
 use mathlib.Core.Path.{_≡_, refl, sym, ap, _∙_}
-use mathlib.Core.Bool.{Bool, true, false}
-use mathlib.Core.List.{List, [], _∷_}
+use mathlib.Core.Bool.{Bool, true, false, not, cond}
+use mathlib.Core.Logic.{inl, inr}
+use mathlib.Core.List.{List, [], _∷_, map}
 use native.Mathlib.Numerals.{add-one}
 use native.Mathlib.Omega.{arith}
 use lib.ListN.{length, drop, getD, drop-of-length-le}
 use lib.Seq.{drop-cons}
-use lib.Ieee.{Float, nan, lt}
+use lib.Dec.{T, ltb, leb}
+use lib.Ieee.{Float, nan, Format, isNan, fits, lt}
+use borrow.Author.Tests.{lt-ltb, le-ltb, lt-leb, le-leb}
+use Rattle.order.specs.Order.{neverFalls, mayPrecede}
+use Rattle.order.specs.FloatKey.{floatKey}
+use Rattle.order.proofs.Compare.{below?}
+use Rattle.order.proofs.OrderedList.{Each}
+use Rattle.order.proofs.FloatKeys.{floats-below}
 use Rattle.picks.specs.Pick.{pick}
 use Rattle.tidy_tempos.specs.Keeping.{inOrder}
 
@@ -33,3 +41,28 @@ module _ (beats : List Float) (i : ℕ) where
   pub order-end : length beats ≤ i → inOrder (drop i beats) ≡ true
   unfolding inOrder
   order-end l = rw (drop-of-length-le beats l)
+
+-- ---- by keys, over the format
+pub record Number (f : Format) (x : Float) : Type 0 where
+  pub held : T (fits f x)
+  pub number : T (not (isNan x))
+
+precedes : (a b : ℕ) → leb a b ≡ not (ltb b a)
+precedes a b = elim (below? b a) [ inl h ↦ rw (lt-leb a b h, lt-ltb b a h) | inr h ↦ rw (le-leb a b h, le-ltb b a h) ]
+
+module _ {A : Type 0} (f : Format) (beat : A → Float) where
+  abbrev key : A → ℕ
+  key x = floatKey f (beat x)
+
+  pub in-order-by-key : (list : List A) → Each key (λ (x : A). Number f (beat x)) list → inOrder (map beat list) ≡ neverFalls key list
+  unfolding inOrder neverFalls mayPrecede
+  in-order-by-key [] ps = refl
+  in-order-by-key (x ∷ []) ps = refl
+  in-order-by-key (x ∷ next ∷ list) ps =
+      rw (floats-below f (beat next) (beat x) (ps .1 .0 .held) (ps .0 .held) (ps .1 .0 .number) (ps .0 .number), precedes (key x) (key next))
+      (go (ltb (key next) (key x)) (in-order-by-key (next ∷ list) (ps .1)))
+    where
+      go : (falls : Bool) → inOrder (map beat (next ∷ list)) ≡ neverFalls key (next ∷ list)
+          → pick falls false (inOrder (map beat (next ∷ list))) ≡ cond (not falls) (neverFalls key (next ∷ list)) false
+      go true e = refl
+      go false e = e

@@ -1,0 +1,3 @@
+pub mod StayTests
+pub mod TemposTaken
+pub mod Outcomes

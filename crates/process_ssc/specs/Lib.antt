@@ -1,0 +1,2 @@
+pub mod Ssc
+pub mod Tests

@@ -1,0 +1,49 @@
+-- The processing of raw tempos and stops in SSC. Definitions only.
+use Prim.Native.Nat.{ℕ}
+use mathlib.Core.Bool.{Bool, false}
+use mathlib.Core.List.{List, map}
+use mathlib.Core.Path.{_≡_}
+use lib.IntN.{pos}
+use lib.ListN.{length}
+use lib.Ieee.{Float, fin, lt, le}
+use lib.Ieee.Scale.{finite}
+use Rattle.picks.specs.Pick.{pick}
+use Rattle.rows.specs.Rows.{quantized}
+use Rattle.order.specs.Entries.{entries, first, second}
+use Rattle.columns.specs.Kept.{kept}
+use Rattle.columns.specs.Laying.{roomNumber, LaidList}
+use Rattle.tidy_tempos.specs.TempoTidying.{tidyTempos}
+use Rattle.raw_lists.specs.declared.Processed.{Processed}
+use Rattle.raw_lists.specs.RawLists.{rawNumbers, roomFor}
+
+abbrev pub zero : Float
+zero = fin false 0 (pos 0)
+
+-- two finite numbers, the beat not below 0 and the value above it
+unfoldable pub staysSsc : Float × Float → Bool
+staysSsc e = pick (finite (e .0)) (pick (finite (e .1)) (pick (le zero (e .0)) (lt zero (e .1)) false) false) false
+
+-- the beat on its row
+abbrev pub onRow : Float × Float → Float × Float
+onRow e = (quantized (e .0), e .1)
+
+-- the entries that stay, in the order given
+abbrev pub stayed : List Float → List Float → List (Float × Float)
+stayed beats values = kept staysSsc onRow (entries beats values)
+
+-- stops are that; tempos are tidied besides
+abbrev pub sscTempos : List Float → List Float → List (Float × Float)
+sscTempos beats values = tidyTempos (map first (stayed beats values)) (map second (stayed beats values))
+
+-- The one outcome: the number by the tests of both lists, then 7 by the rooms of both results; under it the lists. SSC makes no warps and has no offset.
+pub record SscProcessed (tempoBeats tempoValues stopBeats stopValues : List Float) (outcome : Processed)
+    (tempoBeatsOld tempoBeatsNew tempoValuesOld tempoValuesNew stopBeatsOld stopBeatsNew stopValuesOld stopValuesNew : List Float) : Type 0 where
+  pub number :
+      outcome .number
+      ≡ roomNumber
+      (roomNumber (rawNumbers tempoBeats tempoValues stopBeats stopValues) (length (stayed stopBeats stopValues)) (roomFor stopBeatsOld stopValuesOld))
+      (length (sscTempos tempoBeats tempoValues)) (roomFor tempoBeatsOld tempoValuesOld)
+  pub tempos : LaidList (outcome .number) (sscTempos tempoBeats tempoValues) (outcome .tempos) tempoBeatsOld tempoBeatsNew tempoValuesOld tempoValuesNew
+  pub stops : LaidList (outcome .number) (stayed stopBeats stopValues) (outcome .stops) stopBeatsOld stopBeatsNew stopValuesOld stopValuesNew
+  pub warps : outcome .warps ≡ 0
+  pub offset : outcome .offset ≡ zero

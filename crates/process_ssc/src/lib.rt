@@ -1,0 +1,192 @@
+// SSC: the processing of raw tempos and stops.
+use columns::Outcome;
+use raw_lists::Processed;
+ghost use mathlib.Core.Path.{_≡_};
+ghost use mathlib.Core.List.{map};
+ghost use Prim.Native.Nat.{_≤_, min};
+ghost use lib.Dec.{leb};
+ghost use lib.ListN.{length};
+ghost use Rattle.order.specs.Order.{laid};
+ghost use Rattle.order.specs.Entries.{first, second};
+ghost use Rattle.columns.specs.Laying.{LaidPair};
+ghost use Rattle.raw_lists.specs.RawLists.{rawNumber};
+ghost use Rattle.process_ssc.specs.Ssc.{staysSsc, stayed, sscTempos, SscProcessed};
+
+// Whether an entry stays: finite, the beat not below 0, the value above it.
+fn stays(beat: f64, value: f64) -> bool
+    ensures { λ r. ⌜ r ≡ staysSsc (beat, value) ⌝ }
+{
+    if beat >= 0.0 {
+        if beat < 1.0 / 0.0 {
+            if value > 0.0 {
+                return value < 1.0 / 0.0;
+            }
+            return false;
+        }
+        return false;
+    }
+    false
+}
+
+fn count_stayed(beats: &[f64], values: &[f64]) -> usize
+    requires { ⌜ length (now beats) ≡ length (now values) ⌝ }
+    ensures { λ r. ⌜ r ≡ length (stayed (now (beats .entry)) (now (values .entry))) ⌝ }
+{
+    let mut count = 0;
+    let mut i = 0;
+    while i < beats.len() {
+        if stays(beats[i], values[i]) {
+            count += 1;
+            i += 1;
+            continue;
+        }
+        i += 1;
+    }
+    count
+}
+
+// Whether the entries that stay have room: counted only where there are more entries than room.
+fn have_room(beats: &[f64], values: &[f64], room: usize) -> bool
+    requires { ⌜ length (now beats) ≡ length (now values) ⌝ }
+    ensures { λ r. ⌜ r ≡ leb (length (stayed (now (beats .entry)) (now (values .entry)))) room ⌝ }
+{
+    if beats.len() <= room {
+        return true;
+    }
+    count_stayed(beats, values) <= room
+}
+
+// The entries that stay, each beat on its row, over the front of the rooms.
+fn lay_stayed(beats: &[f64], values: &[f64], out_beats: &mut [f64], out_values: &mut [f64]) -> usize
+    requires { ⌜ length (now beats) ≡ length (now values) ⌝ }
+    requires { ⌜ length (stayed (now beats) (now values)) ≤ min (length (now «out_beats»)) (length (now «out_values»)) ⌝ }
+    ensures { λ r. ⌜ r ≡ length (stayed (now (beats .entry)) (now (values .entry))) ⌝ }
+    ensures { λ _. ⌜ now («out_beats» .exit) ≡ laid (map first (stayed (now (beats .entry)) (now (values .entry)))) (now («out_beats» .entry)) ⌝ }
+    ensures { λ _. ⌜ now («out_values» .exit) ≡ laid (map second (stayed (now (beats .entry)) (now (values .entry)))) (now («out_values» .entry)) ⌝ }
+{
+    let mut count = 0;
+    let mut i = 0;
+    while i < beats.len() {
+        let beat = beats[i];
+        let value = values[i];
+        if stays(beat, value) {
+            out_beats[count] = rows::quantize_beat(beat);
+            out_values[count] = value;
+            count += 1;
+            i += 1;
+            continue;
+        }
+        i += 1;
+    }
+    count
+}
+
+// The tempos that stay, tidied, by way of columns that hold them.
+fn tidy_stayed(
+    beats: &[f64],
+    values: &[f64],
+    work_beats: &mut [f64],
+    work_values: &mut [f64],
+    out_beats: &mut [f64],
+    out_values: &mut [f64],
+) -> Outcome
+    requires { ⌜ (rawNumber (now beats) (now values) ≡ 0) × (length (now beats) ≤ min (length (now «work_beats»)) (length (now «work_values»))) ⌝ }
+    ensures { λ r. ⌜ LaidPair 0 (sscTempos (now (beats .entry)) (now (values .entry))) r (now («out_beats» .entry)) (now («out_beats» .exit)) (now («out_values» .entry)) (now («out_values» .exit)) ⌝ }
+{
+    let count = lay_stayed(beats, values, work_beats, work_values);
+    tidy_tempos::tidy_bpms(
+        &work_beats[..count],
+        &work_values[..count],
+        out_beats,
+        out_values,
+    )
+}
+
+// Columns for as many tempos as a chart has.
+fn tidy_few(beats: &[f64], values: &[f64], out_beats: &mut [f64], out_values: &mut [f64]) -> Outcome
+    requires { ⌜ (rawNumber (now beats) (now values) ≡ 0) × (length (now beats) ≤ 64) ⌝ }
+    ensures { λ r. ⌜ LaidPair 0 (sscTempos (now (beats .entry)) (now (values .entry))) r (now («out_beats» .entry)) (now («out_beats» .exit)) (now («out_values» .entry)) (now («out_values» .exit)) ⌝ }
+{
+    let mut work_beats = [0.0; 64];
+    let mut work_values = [0.0; 64];
+    tidy_stayed(
+        beats,
+        values,
+        &mut work_beats,
+        &mut work_values,
+        out_beats,
+        out_values,
+    )
+}
+
+// Columns for as many as are taken.
+fn tidy_many(
+    beats: &[f64],
+    values: &[f64],
+    out_beats: &mut [f64],
+    out_values: &mut [f64],
+) -> Outcome
+    requires { ⌜ rawNumber (now beats) (now values) ≡ 0 ⌝ }
+    ensures { λ r. ⌜ LaidPair 0 (sscTempos (now (beats .entry)) (now (values .entry))) r (now («out_beats» .entry)) (now («out_beats» .exit)) (now («out_values» .entry)) (now («out_values» .exit)) ⌝ }
+{
+    let mut work_beats = [0.0; 1024];
+    let mut work_values = [0.0; 1024];
+    tidy_stayed(
+        beats,
+        values,
+        &mut work_beats,
+        &mut work_values,
+        out_beats,
+        out_values,
+    )
+}
+
+fn lay_tempos(
+    beats: &[f64],
+    values: &[f64],
+    out_beats: &mut [f64],
+    out_values: &mut [f64],
+) -> Outcome
+    requires { ⌜ rawNumber (now beats) (now values) ≡ 0 ⌝ }
+    ensures { λ r. ⌜ LaidPair 0 (sscTempos (now (beats .entry)) (now (values .entry))) r (now («out_beats» .entry)) (now («out_beats» .exit)) (now («out_values» .entry)) (now («out_values» .exit)) ⌝ }
+{
+    if beats.len() <= 64 {
+        return tidy_few(beats, values, out_beats, out_values);
+    }
+    tidy_many(beats, values, out_beats, out_values)
+}
+
+// Of both lists the entries that stay, beats on their rows, and the tempos tidied. Counts and columns of the tempos, then of the stops.
+pub fn process_bpms_and_stops_ssc(
+    tempo_beats: &[f64],
+    tempo_values: &[f64],
+    stop_beats: &[f64],
+    stop_values: &[f64],
+    out_tempo_beats: &mut [f64],
+    out_tempo_values: &mut [f64],
+    out_stop_beats: &mut [f64],
+    out_stop_values: &mut [f64],
+) -> Processed
+    ensures { λ r. ⌜ SscProcessed (now («tempo_beats» .entry)) (now («tempo_values» .entry)) (now («stop_beats» .entry)) (now («stop_values» .entry)) r (now («out_tempo_beats» .entry)) (now («out_tempo_beats» .exit)) (now («out_tempo_values» .entry)) (now («out_tempo_values» .exit)) (now («out_stop_beats» .entry)) (now («out_stop_beats» .exit)) (now («out_stop_values» .entry)) (now («out_stop_values» .exit)) ⌝ }
+{
+    let number = raw_lists::number_of(tempo_beats, tempo_values, stop_beats, stop_values);
+    if number != 0 {
+        return raw_lists::refused(number);
+    }
+    let stop_room = columns::room_of(out_stop_beats.len(), out_stop_values.len());
+    if !have_room(stop_beats, stop_values, stop_room) {
+        return raw_lists::refused(limits::NO_ROOM);
+    }
+    let tempos = lay_tempos(tempo_beats, tempo_values, out_tempo_beats, out_tempo_values);
+    if tempos.number != 0 {
+        return raw_lists::refused(limits::NO_ROOM);
+    }
+    let stops = lay_stayed(stop_beats, stop_values, out_stop_beats, out_stop_values);
+    Processed {
+        number: limits::TAKEN,
+        tempos: tempos.count,
+        stops: stops,
+        warps: 0,
+        offset: 0.0,
+    }
+}

@@ -1,0 +1,2 @@
+pub mod BothTaken
+pub mod FrontRead

@@ -1,0 +1,27 @@
+-- Raw tempos and raw stops, as both formats are given them: by what numbers they are refused. Definitions only.
+use Prim.Native.Nat.{ℕ, min}
+use mathlib.Core.List.{List}
+use mathlib.Core.Bool.{false}
+use lib.IntN.{pos}
+use lib.Ieee.{Float, fin}
+use lib.ListN.{length}
+use Rattle.limits.specs.declared.Kind.the-variants.{RawBeat, RawTempo}
+use Rattle.limits.specs.Numbers.{rangeOf}
+use Rattle.limits.specs.Refusals.{lower, listNumber}
+use Rattle.raw_lists.specs.declared.Processed.{Processed}
+
+-- A list by itself. A stop's length has the limits of a tempo, and what is not finite passes here: its entry is dropped later.
+abbrev pub rawNumber : List Float → List Float → ℕ
+rawNumber beats values = listNumber (rangeOf RawBeat) (rangeOf RawTempo) beats values
+
+-- both lists, every entry of either before one is dropped
+abbrev pub rawNumbers : List Float → List Float → List Float → List Float → ℕ
+rawNumbers tempoBeats tempoValues stopBeats stopValues = lower (rawNumber tempoBeats tempoValues) (rawNumber stopBeats stopValues)
+
+-- the room of two columns
+abbrev pub roomFor : List Float → List Float → ℕ
+roomFor first second = min (length first) (length second)
+
+-- a refusal: nothing written, and no offset
+abbrev pub processedNothing : ℕ → Processed
+processedNothing number = record { number = number; tempos = 0; stops = 0; warps = 0; offset = fin false 0 (pos 0) }

@@ -1,0 +1,4 @@
+pub mod StayTests
+pub mod Narrowed
+pub mod SortedChanges
+pub mod Outcomes

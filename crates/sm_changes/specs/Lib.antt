@@ -1,0 +1,2 @@
+pub mod SmChanges
+pub mod Inside

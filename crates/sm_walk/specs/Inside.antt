@@ -1,0 +1,86 @@
+-- What the functions inside the walk ask and say of each other. Nothing here is needed to read the call. Definitions only.
+use Prim.Native.Nat.{ℕ, _+_, _≤_, max}
+use mathlib.Core.List.{List, [], _∷_, map}
+use mathlib.Core.Bool.{true}
+use mathlib.Core.Path.{_≡_}
+use lib.ListN.{length, set}
+use lib.Ieee.{Float, eq}
+use Rattle.picks.specs.Pick.{pick}
+use Rattle.order.specs.Entries.{entries, first, second}
+use Rattle.sm_machine.specs.declared.State.{State}
+use Rattle.sm_machine.specs.declared.Warp.{Warp}
+use Rattle.sm_machine.specs.declared.Warp.the-variants.{Closed, Open}
+use Rattle.sm_walk.specs.Chart.{Output}
+use Rattle.sm_walk.specs.Columns.{Columns}
+use Rattle.sm_walk.specs.declared.Counts.{Counts}
+use Rattle.sm_walk.specs.declared.Places.{Places}
+
+-- a list written into a column, from a place on
+unfoldable pub placed : ℕ → List Float → List Float → List Float
+placed at [] column = column
+placed at (x ∷ xs) column = placed (at + 1) xs (set column at x)
+
+-- each list from its count on
+abbrev pub written : Counts → Output → Columns → Columns
+written counts out into = record {
+  tempoBeats = placed (counts .tempos) (map first (out .tempos)) (into .tempoBeats);
+  tempoValues = placed (counts .tempos) (map second (out .tempos)) (into .tempoValues);
+  stopBeats = placed (counts .stops) (map first (out .stops)) (into .stopBeats);
+  stopValues = placed (counts .stops) (map second (out .stops)) (into .stopValues);
+  warpBeats = placed (counts .warps) (map first (out .warps)) (into .warpBeats);
+  warpLengths = placed (counts .warps) (map second (out .warps)) (into .warpLengths);
+}
+
+abbrev pub counted : Counts → Output → Counts
+counted counts out = record {
+  tempos = counts .tempos + length (out .tempos);
+  stops = counts .stops + length (out .stops);
+  warps = counts .warps + length (out .warps);
+}
+
+abbrev pub noneCounted : Counts
+noneCounted = record { tempos = 0; stops = 0; warps = 0 }
+
+-- ---- room
+
+pub record Room (counts : Counts) (into : Columns) : Type 0 where
+  pub tempoBeats : counts .tempos ≤ length (into .tempoBeats)
+  pub tempoValues : counts .tempos ≤ length (into .tempoValues)
+  pub stopBeats : counts .stops ≤ length (into .stopBeats)
+  pub stopValues : counts .stops ≤ length (into .stopValues)
+  pub warpBeats : counts .warps ≤ length (into .warpBeats)
+  pub warpLengths : counts .warps ≤ length (into .warpLengths)
+
+-- a tempo that is to be written when the warp is over
+abbrev pub pendingIn : Warp → Float → ℕ
+pendingIn Closed tempo = 0
+pendingIn (Open warp) tempo = pick (eq tempo (warp .former)) 0 1
+
+abbrev pub pending : State → ℕ
+pending state = pendingIn (state .warp) (state .tempo)
+
+abbrev pub warpingIn : Warp → ℕ
+warpingIn Closed = 0
+warpingIn (Open warp) = 1
+
+-- no more was written than the changes met account for
+pub record Within (places : Places) (state : State) (counts : Counts) : Type 0 where
+  pub number : eq (state .tempo) (state .tempo) ≡ true
+  pub tempos : counts .tempos + pending state ≤ places .tempo
+  pub stops : counts .stops ≤ places .stop
+  pub warps : counts .warps + warpingIn (state .warp) + 1 ≤ places .tempo + places .stop
+
+-- no tempo is a NaN
+abbrev pub Numbers : List (Float × Float) → Type 0
+Numbers [] = Unit {0}
+Numbers (entry ∷ list) = (eq (entry .1) (entry .1) ≡ true) × Numbers list
+
+pub record Chart (tempoBeats tempoValues stopBeats stopValues : List Float) : Type 0 where
+  pub tempos : length tempoBeats ≡ length tempoValues
+  pub stops : length stopBeats ≡ length stopValues
+  pub numbers : Numbers (entries tempoBeats tempoValues)
+
+-- places within lists of so many tempos and stops
+pub record Reached (tempos stops : ℕ) (places : Places) : Type 0 where
+  pub tempo : places .tempo ≤ max tempos 1
+  pub stop : places .stop ≤ stops

@@ -1,0 +1,5 @@
+pub mod Changes
+pub mod Chart
+pub mod Columns
+pub mod Walking
+pub mod Inside
