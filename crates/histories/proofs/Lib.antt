@@ -1,0 +1,2 @@
+pub mod FirstTempoInForce
+pub mod WhereAFreshOneEnds
