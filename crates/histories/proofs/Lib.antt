@@ -1,2 +1,3 @@
 pub mod FirstTempoInForce
 pub mod WhereAFreshOneEnds
+pub mod DemandThree
