@@ -19,7 +19,7 @@ use Rattle.walk.specs.declared.State.{State}
 use Rattle.walk.specs.declared.Next.{Next}
 use Rattle.walk.specs.declared.Event.{Event}
 use Rattle.walk.specs.declared.Event.the-variants.{WarpEnd, Tempo, Delay, Asked, Stop, Warp, NotFound}
-use Rattle.walk.proofs.RowOrder.{no, le-trans, lt-not}
+use Rattle.walk.proofs.RowOrder.{no, le-trans, lt-not, lt-not-self}
 use Rattle.walk.proofs.EarlyTempoApart.{step-grows}
 
 -- the row of an event that is passed is the last row after it
@@ -37,25 +37,42 @@ pub step-row : (early : Float) (t : Timing) (r : ℤ) (s : State) → due t r s 
 unfolding passed
 step-row early t r s e = row-at t s (next t r s .row) _ (next t r s .kind) e
 
--- at most 0
-abbrev pub Low : ℤ → Type 0
-Low z = ltZ (pos 0) z ≡ false
+-- at most a row
+abbrev pub UpTo : ℤ → ℤ → Type 0
+UpTo most z = ltZ most z ≡ false
 
-low-sooner : (n : Next) (at : ℤ) (k : Event) → Low (n .row) → Low (sooner n at k .row)
+pub sooner-up-to : (most : ℤ) (n : Next) (at : ℤ) (k : Event) → UpTo most (n .row) → UpTo most (sooner n at k .row)
 unfolding sooner
-low-sooner n at k h = go (ltZ at (n .row)) refl
+sooner-up-to most n at k h = go (ltZ at (n .row)) refl
   where
-    go : (b : Bool) → ltZ at (n .row) ≡ b → Low (pick b (record { row = at; kind = k }) n .row)
-    go true e = le-trans at (n .row) (pos 0) (lt-not at (n .row) e) h
+    go : (b : Bool) → ltZ at (n .row) ≡ b → UpTo most (pick b (record { row = at; kind = k }) n .row)
+    go true e = le-trans at (n .row) most (lt-not at (n .row) e) h
     go false e = h
 
-low-offered : (n : Next) (beats : List Float) (place : ℕ) (k : Event) → Low (n .row) → Low (offered n beats place k .row)
+pub offered-up-to : (most : ℤ) (n : Next) (beats : List Float) (place : ℕ) (k : Event) → UpTo most (n .row) → UpTo most (offered n beats place k .row)
 unfolding offered
-low-offered n beats place k h = go (ltb place (length beats))
+offered-up-to most n beats place k h = go (ltb place (length beats))
   where
-    go : (b : Bool) → Low (pick b (sooner n (row binary64 (getD beats place nan)) k) n .row)
-    go true = low-sooner n (row binary64 (getD beats place nan)) k h
+    go : (b : Bool) → UpTo most (pick b (sooner n (row binary64 (getD beats place nan)) k) n .row)
+    go true = sooner-up-to most n (row binary64 (getD beats place nan)) k h
     go false = h
+
+-- a candidate brings the next event to its row or before it
+found-by : (n : Next) (at : ℤ) (k : Event) → UpTo at (sooner n at k .row)
+unfolding sooner
+found-by n at k = go (ltZ at (n .row)) refl
+  where
+    go : (b : Bool) → ltZ at (n .row) ≡ b → UpTo at (pick b (record { row = at; kind = k }) n .row)
+    go true e = lt-not-self at
+    go false e = e
+
+-- the next event is never later than the asked row
+pub next-by-asked : (t : Timing) (r : ℤ) (s : State) → UpTo r (next t r s .row)
+unfolding nextEvent
+next-by-asked t r s = offered-up-to r _ (t .warpBeats) (s .warps) Warp (offered-up-to r _ (t .stopBeats) (s .stops) Stop (found-by _ r Asked))
+
+abbrev pub Low : ℤ → Type 0
+Low z = UpTo (pos 0) z
 
 -- a candidate on row 0 brings the next event there or before it
 zero-offered : (n : Next) (beats : List Float) (place : ℕ) (k : Event) → place < length beats → row binary64 (getD beats place nan) ≡ pos 0 → Low (offered n beats place k .row)
@@ -69,10 +86,10 @@ zero-offered n beats place k h e = rw (lt-ltb place (length beats) h, e) (go (lt
 low-next : (t : Timing) (r : ℤ) (s : State) → s .tempos < length (t .tempoBeats) → row binary64 (getD (t .tempoBeats) (s .tempos) nan) ≡ pos 0 → Low (next t r s .row)
 unfolding nextEvent
 low-next t r s h e =
-    low-offered _ (t .warpBeats) (s .warps) Warp
-    (low-offered _ (t .stopBeats) (s .stops) Stop
-    (low-sooner _ r Asked
-    (low-offered _ (t .delayBeats) (s .delays) Delay
+    offered-up-to (pos 0) _ (t .warpBeats) (s .warps) Warp
+    (offered-up-to (pos 0) _ (t .stopBeats) (s .stops) Stop
+    (sooner-up-to (pos 0) _ r Asked
+    (offered-up-to (pos 0) _ (t .delayBeats) (s .delays) Delay
     (zero-offered _ (t .tempoBeats) (s .tempos) Tempo h e))))
 
 -- no tempo is passed only at rows up to 0

@@ -8,3 +8,4 @@ pub mod WalkedOn
 pub mod CountApart
 pub mod EarlyTempoApart
 pub mod BeforeAnyTempo
+pub mod StaysWithin

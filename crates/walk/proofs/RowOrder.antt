@@ -33,3 +33,7 @@ lt-not (pos a) (pos b) h = le-ltb b a (omega (arith, ltb-true a b h))
 lt-not (pos a) (negsuc b) h = no h
 lt-not (negsuc a) (pos b) h = refl
 lt-not (negsuc a) (negsuc b) h = le-ltb a b (omega (arith, ltb-true b a h))
+
+pub lt-not-self : (a : ℤ) → ltZ a a ≡ false
+lt-not-self (pos a) = le-ltb a a (omega arith)
+lt-not-self (negsuc a) = le-ltb a a (omega arith)
