@@ -9,3 +9,4 @@ pub mod CountApart
 pub mod EarlyTempoApart
 pub mod BeforeAnyTempo
 pub mod StaysWithin
+pub mod TimeOfTheEnd

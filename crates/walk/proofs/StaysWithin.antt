@@ -42,7 +42,12 @@ arrives t s at time Warp p w = record { tempos = w .tempos; stops = w .stops; de
 arrives t s at time Asked p w = w
 arrives t s at time NotFound p w = w
 
+pub places-step : (early : Float) (t : Timing) (r : ℤ) (s : State) → PlacesWithin t s → PlacesWithin t (step early t r s)
+unfolding passed
+places-step early t r s w = arrives t s (next t r s .row) _ (next t r s .kind) (placed t r s) w
+
 pub places-stay : (t : Timing) (r : ℤ) (s : State) → PlacesWithin t s → PlacesWithin t (walk t r s .state)
-unfolding walk passed
+unfolding walk
 places-stay t r s w =
-    walk-keeps (earlyTempo (t .tempoBeats) (t .tempoValues) s) t r (λ (s : State) (n : ℕ). PlacesWithin t s) (λ s n e h. arrives t s (next t r s .row) _ (next t r s .kind) (placed t r s) h) s 0 w
+    let early = earlyTempo (t .tempoBeats) (t .tempoValues) s in
+    walk-keeps early t r (λ (s : State) (n : ℕ). PlacesWithin t s) (λ s n e h. places-step early t r s h) s 0 w
