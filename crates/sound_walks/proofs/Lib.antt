@@ -1,0 +1,4 @@
+pub mod TempoInForce
+pub mod TimeBetweenRows
+pub mod WarpEnds
+pub mod EachEventKeeps
