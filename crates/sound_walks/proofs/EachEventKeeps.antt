@@ -35,6 +35,7 @@ use Rattle.walk.proofs.EachCandidate.{Placed, placed, of-next}
 use Rattle.walk.proofs.BeforeAnyTempo.{UpTo, next-by-asked, step-row}
 use Rattle.walk.proofs.EventByEvent.{left-falls}
 use Rattle.walk.proofs.StaysWithin.{PlacesWithin, places-step, walk-keeps}
+use Rattle.walk.proofs.TimeOfTheEnd.{time-of-end}
 use Rattle.sound_walks.proofs.TempoInForce.{IsTempo, early-taken, force-taken}
 use Rattle.sound_walks.proofs.TimeBetweenRows.{time-between}
 use Rattle.sound_walks.proofs.WarpEnds.{EndFine, end-grows}
@@ -153,3 +154,29 @@ module _ (t : Timing) (lists : ListsTaken t) (r : ℤ) (asked : natAbs r ≤ mos
 
     pub fine-walk : (s : State) (n : ℕ) → Fine t s n → Fine t (walkOn early t r s n .state) (walkOn early t r s n .passed)
     fine-walk s n f = walk-keeps early t r (Fine t) fine-step s n f
+
+    -- where nothing is next, the last time
+    there : (s : State) (n : ℕ) → Fine t s n → AtMost (spans (2 * n + 1 + 1)) (timeAt early (t .tempoValues) s (next t r s))
+    unfolding timeAt
+    there s n f = go (isNothing (next t r s .kind))
+      where
+        go : (b : Bool) → AtMost (spans (2 * n + 1 + 1)) (pick b (s .time) (add binary64 (s .time) (timeTo early (t .tempoValues) s (next t r s .row))))
+        go true = at-most-wider (omega arith) (f .time)
+        go false = time-there s n f
+
+  -- ---- the walk of a question, from before any tempo
+  module _ (s : State) (none : s .tempos ≡ 0) (fine : Fine t s 0) where
+    tempo : IsTempo (earlyTempo (t .tempoBeats) (t .tempoValues) s)
+    tempo = early-taken (t .tempoBeats) (t .tempoValues) s none (lists .tempos .valuesIn)
+
+    pub walk-fine : Fine t (walk t r s .state) (walk t r s .passed)
+    unfolding walk
+    walk-fine = fine-walk (earlyTempo (t .tempoBeats) (t .tempoValues) s) tempo s 0 fine
+
+    -- and its time
+    pub walk-time : AtMost (spans (2 * walk t r s .passed + 1 + 1)) (walk t r s .time)
+    unfolding walk
+    walk-time =
+        let early = earlyTempo (t .tempoBeats) (t .tempoValues) s in
+        let w = walkOn early t r s 0 in
+        rw (time-of-end early t r s 0) (there early tempo (w .state) (w .passed) (fine-walk early tempo s 0 fine))

@@ -2,3 +2,4 @@ pub mod TempoInForce
 pub mod TimeBetweenRows
 pub mod WarpEnds
 pub mod EachEventKeeps
+pub mod CursorTestPasses

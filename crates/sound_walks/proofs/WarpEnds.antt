@@ -7,6 +7,7 @@ use native.Mathlib.Omega.{arith}
 use lib.Dec.{T, lit<, lit≤}
 use lib.IntN.{ℤ, pos}
 use lib.Ieee.{Float, nan, inf, fin, binary64, add, lt, le}
+use lib.Ieee.Bits.{is-true}
 use lib.Ieee.Exact.{HasValue}
 use Rattle.picks.specs.Pick.{pick}
 use Rattle.ieee.proofs.FloatOrder.{sizes-le}
@@ -63,16 +64,12 @@ pub end-grows : (old beat length : Float) → EndFine old → Sized 16 beat → 
 end-grows old beat length o b l = larger-fine old (add binary64 beat length) o (at-most-wider (lit≤ tt) (add-at-most binary64 sum-of-format beat length b l (lit≤ tt)))
 
 -- the cursor test takes it
-yes : (t : Bool) → T t → t ≡ true
-yes true h = refl
-yes false h = absurd h
-
 pub end-in : (x : Float) → EndFine x → endIn x ≡ true
 unfolding endIn
 end-in x e =
     let a = e .num in
     let c = e .den in
     rw (
-      yes (le (fin false 0 (pos 0)) x) (sizes-le (fin false 0 (pos 0)) x false false 0 1 a c (zero-lt-suc 0) (e .den-pos) (refl, refl) (e .value) (omega arith)),
-      yes (le x (fin false 1 (pos 31))) (sizes-le x (fin false 1 (pos 31)) false false a c (2 ^ 31) 1 (e .den-pos) (zero-lt-suc 0) (e .value) (refl, refl) (le-trans (le-of-eq (mul-one a)) (e .small))),
+      is-true (le (fin false 0 (pos 0)) x) (sizes-le (fin false 0 (pos 0)) x false false 0 1 a c (zero-lt-suc 0) (e .den-pos) (refl, refl) (e .value) (omega arith)),
+      is-true (le x (fin false 1 (pos 31))) (sizes-le x (fin false 1 (pos 31)) false false a c (2 ^ 31) 1 (e .den-pos) (zero-lt-suc 0) (e .value) (refl, refl) (le-trans (le-of-eq (mul-one a)) (e .small))),
     ) refl
