@@ -1,14 +1,13 @@
 -- Up to row 0 the tempo at a row is the first one, where tempos start at beat 0 and rise. Assumes nothing.
-use Prim.Native.Nat.{ℕ, _≤_}
+use Prim.Native.Nat.{_≤_}
 use mathlib.Core.List.{List, [], _∷_}
 use mathlib.Core.Bool.{Bool, true, false}
-use mathlib.Core.Path.{_≡_, refl, sym, ap, _∙_, subst}
-use native.Mathlib.Omega.{arith}
+use mathlib.Core.Path.{_≡_, refl, sym, _∙_, subst}
 use borrow.Author.Tests.{leb-true, le-ltb}
-use lib.Dec.{T, leb}
+use lib.Dec.{T}
 use lib.IntN.{ℤ, pos, negsuc, natAbs}
 use lib.Signed.{ltZ, leZ}
-use lib.Ieee.{Float, binary64, le, eq}
+use lib.Ieee.{Float, binary64, le}
 use Rattle.picks.specs.Pick.{pick}
 use Rattle.rows.specs.Rows.{row, beatOf, allowedBeat, mostRow}
 use Rattle.rows.proofs.RowsKeepOrder.{row-mono}

@@ -1,8 +1,7 @@
 -- Wherever a cursor has come to, its next walk ends where a fresh cursor's would, at the same time. Assumes nothing.
-use Prim.Native.Nat.{ℕ, zero, suc, _+_, _≤_, _<_}
-use mathlib.Core.List.{List}
+use Prim.Native.Nat.{_≤_, _<_}
 use mathlib.Core.Bool.{Bool, true, false}
-use mathlib.Core.Logic.{_⊎_, inl, inr, ⊎-elim}
+use mathlib.Core.Logic.{_⊎_, ⊎-elim}
 use mathlib.Core.Path.{_≡_, refl, sym, ap, _∙_}
 use native.Mathlib.Omega.{arith}
 use native.Mathlib.Nat.{eq-zero-or-pos}
@@ -16,7 +15,7 @@ use Rattle.rows.specs.Rows.{row, mostRow}
 use Rattle.limits.specs.Numbers.{rangeOf, allIn}
 use Rattle.limits.specs.declared.Kind.the-variants.{Beat}
 use Rattle.walk.specs.Events.{Timing}
-use Rattle.walk.specs.Passing.{sixty, firstOr, tempoAt, earlyTempo}
+use Rattle.walk.specs.Passing.{sixty, firstOr, earlyTempo}
 use Rattle.walk.specs.Walk.{walkOn, walk}
 use Rattle.walk.specs.declared.State.{State}
 use Rattle.walk.specs.declared.Walked.{Walked}

@@ -4,7 +4,7 @@
 -- each time given is the time that a fresh cursor gives for that beat, bit for bit; a used cursor gives the number that a fresh one gives, so
 -- that it cannot get out of the first promise by refusing; each count is the events passed and one; and all counts together are at most
 -- one round of events for the first question and for each time that the asked row fell, and one for each accepted question.
-use Prim.Native.Nat.{ℕ, _+_, _*_, _≤_}
+use Prim.Native.Nat.{_+_, _*_, _≤_}
 use mathlib.Core.List.{List}
 use mathlib.Core.Path.{_≡_}
 use lib.Ieee.{Float, binary64}

@@ -9,9 +9,8 @@ use lib.Dec.{lit<}
 use lib.Pow.{pow-pos}
 use lib.Ieee.{Float, Format, binary32, binary64, prec, emax, low, round, ofInt}
 use lib.Ieee.Exact.{HasValue}
-use lib.Ieee.Nearest.{closest}
 use lib.Ieee.Scale.{grid}
-use Rattle.ieee.specs.Rounding.{signed, rint, hold}
+use Rattle.ieee.specs.Rounding.{rint, hold}
 use Rattle.ieee.proofs.Units.{round-units}
 use Rattle.ieee.proofs.RoundedSize.{grid-under}
 use Rattle.ieee.proofs.ByValue.{rint-value, mul-value}

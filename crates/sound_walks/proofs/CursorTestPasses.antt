@@ -1,7 +1,7 @@
 -- The cursor test refuses nothing of a state that is fine. Assumes nothing.
 use Prim.Native.Nat.{ℕ}
-use mathlib.Core.Bool.{true, false}
-use mathlib.Core.Path.{_≡_, refl, ap, _∙_}
+use mathlib.Core.Bool.{true}
+use mathlib.Core.Path.{_≡_, refl}
 use borrow.Author.Tests.{le-leb}
 use lib.ListN.{length}
 use lib.IntN.{ℤ, natAbs}
@@ -13,7 +13,7 @@ use Rattle.ieee.proofs.SizesAddUp.{at-most-finite}
 use Rattle.limits.specs.Numbers.{rowIn}
 use Rattle.walk.specs.Events.{Timing}
 use Rattle.walk.specs.declared.State.{State}
-use Rattle.timing_tests.specs.CursorNumbers.{freshMark, placesIn, rowsIn, endIn, cursorNumber}
+use Rattle.timing_tests.specs.CursorNumbers.{freshMark, placesIn, rowsIn, cursorNumber}
 use Rattle.sound_walks.proofs.WarpEnds.{end-in}
 use Rattle.sound_walks.proofs.EachEventKeeps.{Fine}
 

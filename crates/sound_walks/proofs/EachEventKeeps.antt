@@ -1,13 +1,13 @@
 -- Every walk from a state that is fine, over lists that are taken, stays fine: its places, its last row, its time and its warp's end stay within bounds. Assumes nothing.
-use Prim.Native.Nat.{ℕ, zero, suc, _+_, _-_, _*_, _^_, _≤_, _<_}
+use Prim.Native.Nat.{ℕ, _+_, _-_, _*_, _^_, _≤_, _<_}
 use mathlib.Core.List.{List}
 use mathlib.Core.Bool.{Bool, true, false}
 use mathlib.Core.Logic.{_⊎_, inl, inr}
-use mathlib.Core.Path.{_≡_, refl, sym, ap, subst}
-use native.Mathlib.Nat.{le-trans, lt-of-le-of-lt, mul-le-mul-right}
+use mathlib.Core.Path.{_≡_, refl, sym}
+use native.Mathlib.Nat.{lt-of-le-of-lt, mul-le-mul-right}
 use native.Mathlib.Omega.{arith}
 use borrow.Author.Tests.{ltb-false}
-use lib.Dec.{T, lit<, lit≤}
+use lib.Dec.{lit<, lit≤}
 use lib.ListN.{length, getD}
 use lib.IntN.{ℤ, pos, negsuc, natAbs}
 use lib.Signed.{ltZ}
@@ -24,7 +24,7 @@ use Rattle.limits.proofs.Every.{every-at}
 use Rattle.limits.proofs.ListTaken.{Taken}
 use Rattle.limits.proofs.TakenWithin.{taken-within}
 use Rattle.walk.specs.Events.{Timing, next}
-use Rattle.walk.specs.Passing.{earlyTempo, inForce, timeTo, arrived, passed, step, afterWarpEnd, afterTempo, afterDelay, afterStop, afterWarp}
+use Rattle.walk.specs.Passing.{earlyTempo, timeTo, arrived, passed, step, afterWarpEnd, afterTempo, afterDelay, afterStop, afterWarp}
 use Rattle.walk.specs.Walk.{isEvent, isNothing, due, left, timeAt, walkOn, walk}
 use Rattle.walk.specs.declared.State.{State}
 use Rattle.walk.specs.declared.Next.{Next}
@@ -63,7 +63,7 @@ pub record Fine (t : Timing) (s : State) (n : ℕ) : Type 0 where
   pub end : EndFine (s .end)
   pub few : n + left t s ≤ mostEvents
 
-spans-of-format : (k : ℕ) → k ≤ 2 ^ 20 → OfFormat binary64 (spans k)
+pub spans-of-format : (k : ℕ) → k ≤ 2 ^ 20 → OfFormat binary64 (spans k)
 spans-of-format k h = record { digits = k; power = 50; few = omega arith; is = refl; below = lt-of-le-of-lt (mul-le-mul-right (2 ^ 50) h) (lit< tt) }
 
 one-more : (k : ℕ) → k ≤ 2 ^ 20 → (x y : Float) → AtMost (spans k) x → AtMost (2 ^ 50) y → k + 1 ≤ 2 ^ 20 → AtMost (spans (k + 1)) (add binary64 x y)

@@ -1,5 +1,5 @@
 -- The tempo in force is one that is taken, wherever a walk over taken tempos has come. Assumes nothing.
-use Prim.Native.Nat.{ℕ, zero, suc, _+_, _-_, _≤_, _<_}
+use Prim.Native.Nat.{ℕ, zero, suc, _-_, _≤_, _<_}
 use mathlib.Core.List.{List, [], _∷_}
 use mathlib.Core.Bool.{Bool, true, false}
 use mathlib.Core.Path.{_≡_, refl}
@@ -7,7 +7,6 @@ use native.Mathlib.Omega.{arith}
 use borrow.Author.Tests.{eqb-false}
 use lib.Dec.{eqb}
 use lib.ListN.{length, getD}
-use lib.IntN.{ℤ}
 use lib.Ieee.{Float, nan, binary64, le, lt, eq}
 use Rattle.picks.specs.Pick.{pick}
 use Rattle.rows.specs.Rows.{beatOf}

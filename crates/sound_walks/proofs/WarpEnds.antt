@@ -1,11 +1,11 @@
 -- The end of a warp lies from 0 to 2 ^ 31, since it began at 0 and only grows, to no more than a beat and a length. Assumes nothing.
 use Prim.Native.Nat.{ℕ, _+_, _*_, _^_, _≤_, _<_}
 use mathlib.Core.Bool.{Bool, true, false}
-use mathlib.Core.Path.{_≡_, refl, sym, ap, subst}
-use native.Mathlib.Nat.{le-trans, le-of-eq, mul-le-mul-right, mul-one, one-mul, zero-lt-suc}
+use mathlib.Core.Path.{_≡_, refl, sym}
+use native.Mathlib.Nat.{le-trans, le-of-eq, mul-one, zero-lt-suc}
 use native.Mathlib.Omega.{arith}
-use lib.Dec.{T, lit<, lit≤}
-use lib.IntN.{ℤ, pos}
+use lib.Dec.{lit<, lit≤}
+use lib.IntN.{pos}
 use lib.Ieee.{Float, nan, inf, fin, binary64, add, lt, le}
 use lib.Ieee.Bits.{is-true}
 use lib.Ieee.Exact.{HasValue}

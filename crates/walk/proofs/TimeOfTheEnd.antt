@@ -8,7 +8,6 @@ use Rattle.walk.specs.Events.{Timing, next}
 use Rattle.walk.specs.Passing.{step}
 use Rattle.walk.specs.Walk.{due, left, timeAt, walkWithin, walkOn}
 use Rattle.walk.specs.declared.State.{State}
-use Rattle.walk.specs.declared.Walked.{Walked}
 
 module _ (early : Float) (t : Timing) (r : ℤ) where
   abbrev timeNext : State → Float
