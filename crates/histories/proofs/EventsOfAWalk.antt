@@ -5,12 +5,15 @@ use mathlib.Core.List.{[], _∷_}
 use mathlib.Core.Path.{_≡_, refl}
 use native.Mathlib.Omega.{arith}
 use lib.IntN.{ℤ, pos}
-use lib.Ieee.{Float, fin, add, sub, neg, mul, div, ofInt, lt, le, sum}
+use lib.Ieee.{Float, fin, add, sub, neg, mul, div, ofInt, lt, le, eq, sum}
 use Rattle.ieee.specs.Rounding.{rint, hold}
 use Rattle.walk.specs.Events.{Timing, timing, sooner, offered, endOffered, nextEvent}
 use Rattle.walk.specs.Passing.{noTime, sixty, lastUpTo, tempoAt, earlyTempo, inForce, timeTo, afterWarpEnd, afterTempo, afterDelay, afterStop, larger, afterWarp, passed}
 use Rattle.walk.specs.Walk.{timeAt, walkWithin, walkOn, walk}
 use Rattle.walk.proofs.EventsSpent.{spent}
+use Rattle.limits.specs.Numbers.{inRange, every}
+use Rattle.limits.specs.Refusals.{lower, listNumber}
+use Rattle.timing_tests.specs.TimingNumbers.{risesFrom, rises, startsAtZero, listsNumber, offsetNumber, offsetsNumber, orderNumber, timingNumber}
 use Rattle.clock.specs.Question.{filled, temposOf, freshState}
 use Rattle.histories.specs.History.{events}
 use Rattle.histories.proofs.WithATempo.{all-left}
@@ -28,3 +31,8 @@ small = timing (noTime ∷ []) (sixty ∷ []) (one ∷ []) (one ∷ []) (one ∷
 pub events-all-passed : walk (filled small) (pos 192) (freshState noTime noTime) .passed ≡ events small
 unfolding filled temposOf freshState walk walkOn walkWithin timeAt earlyTempo tempoAt lastUpTo inForce timeTo passed afterWarpEnd afterTempo afterDelay afterStop afterWarp larger nextEvent sooner offered endOffered rint hold add sub neg mul div ofInt lt le sum
 events-all-passed = refl
+
+-- a timing that is taken
+pub small-taken : timingNumber small noTime noTime ≡ 0
+unfolding timingNumber listsNumber offsetsNumber offsetNumber orderNumber listNumber lower inRange every rises risesFrom startsAtZero rint hold mul ofInt neg lt le eq
+small-taken = refl

@@ -6,14 +6,14 @@ use mathlib.Core.Path.{_≡_, refl, _∙_}
 use native.Mathlib.Nat.{zero-lt-suc}
 use native.Mathlib.Omega.{arith}
 use borrow.Author.Tests.{le-leb}
-use lib.Dec.{lit<, lit≤}
+use lib.Dec.{lit≤}
 use lib.ListN.{length, getD}
 use lib.IntN.{ℤ, pos, natAbs}
 use lib.Signed.{leZ}
 use lib.Ieee.{Float, nan, binary64, neg, lt, le, eq}
 use Rattle.picks.specs.Pick.{pick}
 use Rattle.ieee.proofs.Magnitude.{AtMost, Sized, sized}
-use Rattle.ieee.proofs.SizesAddUp.{at-most-wider, at-most-neg, sub-at-most}
+use Rattle.ieee.proofs.SizesAddUp.{power-of-format, at-most-wider, at-most-neg, sub-at-most}
 use Rattle.rows.specs.Rows.{row, mostRow}
 use Rattle.rows.proofs.RowOfZero.{row-of-zero}
 use Rattle.limits.specs.Numbers.{rangeOf, inRange, every, rowIn}
@@ -30,7 +30,6 @@ use Rattle.timing_tests.specs.CursorNumbers.{freshMark}
 use Rattle.timing_tests.proofs.RowByRow.{first-starts}
 use Rattle.timing_tests.proofs.TimingTaken.{TimingTaken, timing-taken}
 use Rattle.clock.specs.Question.{filled, freshState, freshCursor, cursorRefusal}
-use Rattle.sound_walks.proofs.TimeBetweenRows.{power-of-format}
 use Rattle.sound_walks.proofs.WarpEnds.{end-begins}
 use Rattle.sound_walks.proofs.EachEventKeeps.{ListsTaken, Fine, spans, walk-fine, walk-time}
 use Rattle.sound_walks.proofs.CursorTestPasses.{fine-passes}
@@ -83,7 +82,7 @@ module _ (t : Timing) (offset global : Float) (taken : TimingTaken t offset glob
         near = omega arith;
         time =
             at-most-wider (lit≤ tt)
-            (sub-at-most binary64 (power-of-format 21 (lit< tt)) (neg offset) global (at-most-neg offset (offset-sized offset (taken .offsetIn))) (offset-sized global (taken .globalIn)) (lit≤ tt));
+            (sub-at-most binary64 (power-of-format binary64 21 (lit≤ tt)) (neg offset) global (at-most-neg offset (offset-sized offset (taken .offsetIn))) (offset-sized global (taken .globalIn)) (lit≤ tt));
         end = end-begins;
         few = omega (arith, left-le (filled t) (freshState offset global), lists .tempos .few, lists .stops .few, lists .delays .few, lists .warps .few);
       }

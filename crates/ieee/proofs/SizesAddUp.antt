@@ -1,14 +1,15 @@
 -- How large a rounded sum, difference, product or quotient is at most, and how small a quotient at least, over the format, by how large and how small the two floats are. Assumes nothing.
-use mathlib.Core.Path.{_≡_, sym, ap, _∙_, subst}
+use mathlib.Core.Path.{_≡_, refl, sym, ap, _∙_, subst}
 use mathlib.Core.Logic.{inl, inr}
 use mathlib.Core.Bool.{Bool, true, false, not, _&&_, Bool·beq, cond}
 use Prim.Native.Nat.{ℕ, zero, suc, _+_, _-_, _*_, _^_, _≤_, _<_}
-use native.Mathlib.Nat.{le-trans, le-of-eq, lt-of-lt-of-le, mul-le-mul, mul-le-mul-right, mul-le-mul-left, mul-pos, mul-comm, mul-assoc, mul-mul-mul-comm, mul-right-comm, add-mul, add-le-add}
+use native.Mathlib.Nat.{one-mul, mul-one, le-trans, le-of-eq, lt-of-lt-of-le, mul-le-mul, mul-le-mul-right, mul-le-mul-left, mul-pos, mul-comm, mul-assoc, mul-mul-mul-comm, mul-right-comm, add-mul, add-le-add}
 use native.Mathlib.Omega.{arith}
-use lib.Dec.{T, ltb}
-use lib.Pow.{pow-add, pow-pos}
+use lib.Dec.{T, ltb, lit<, lit≤}
+use lib.Pow.{pow-add, pow-pos, pow-lt, pow-mono, shl-lt}
 use lib.Ieee.{Float, nan, inf, fin, Format, prec, emax, low, unlike, round, sum, neg, add, sub, mul, div}
 use lib.Ieee.Exact.{HasValue}
+use lib.Ieee.Fits.{two, reach}
 use lib.Ieee.Scale.{grid, overflow, finite}
 use Rattle.ieee.proofs.Closest.{lt-or-ge}
 use Rattle.ieee.proofs.Values.{finite-of, rescaled}
@@ -61,6 +62,16 @@ pub record OfFormat (f : Format) (bound : ℕ) : Type 0 where
   pub few : digits < 2 ^ prec f
   pub is : bound ≡ digits * 2 ^ power
   pub below : bound < 2 ^ suc (emax f)
+
+-- the powers of two, the whole numbers that it counts to, and so many digits times a power
+pub power-of-format : (f : Format) (k : ℕ) → k ≤ emax f → OfFormat f (2 ^ k)
+power-of-format f k h = record { digits = 1; power = k; few = lt-of-lt-of-le (lit< tt) (pow-mono {i = 1} (le-trans (lit≤ tt) (two f))); is = sym (one-mul (2 ^ k)); below = pow-lt (omega arith) }
+
+pub whole-of-format : (f : Format) (n : ℕ) → n < 2 ^ prec f → OfFormat f n
+whole-of-format f n h = record { digits = n; power = 0; few = h; is = sym (mul-one n); below = lt-of-lt-of-le h (pow-mono (reach f)) }
+
+pub digits-of-format : (f : Format) (n k : ℕ) → n < 2 ^ prec f → prec f + k ≤ suc (emax f) → OfFormat f (n * 2 ^ k)
+digits-of-format f n k h l = record { digits = n; power = k; few = h; is = refl; below = lt-of-lt-of-le (shl-lt (prec f) k h) (pow-mono l) }
 
 pub not-zero : {k : ℕ} {x : Float} (z : AtLeast k x) → 0 < z .num
 not-zero {k} z = some (z .num) (lt-of-lt-of-le (z .den-pos) (z .large))

@@ -4,17 +4,16 @@ use mathlib.Core.List.{List}
 use mathlib.Core.Bool.{Bool, true, false}
 use mathlib.Core.Logic.{_⊎_, inl, inr}
 use mathlib.Core.Path.{_≡_, refl, sym}
-use native.Mathlib.Nat.{lt-of-le-of-lt, mul-le-mul-right}
 use native.Mathlib.Omega.{arith}
 use borrow.Author.Tests.{ltb-false}
-use lib.Dec.{lit<, lit≤}
+use lib.Dec.{lit≤}
 use lib.ListN.{length, getD}
 use lib.IntN.{ℤ, pos, negsuc, natAbs}
 use lib.Signed.{ltZ}
 use lib.Ieee.{Float, nan, binary64, add}
 use Rattle.picks.specs.Pick.{pick}
 use Rattle.ieee.proofs.Magnitude.{AtMost, Sized, sized}
-use Rattle.ieee.proofs.SizesAddUp.{OfFormat, add-at-most, at-most-wider}
+use Rattle.ieee.proofs.SizesAddUp.{OfFormat, digits-of-format, add-at-most, at-most-wider}
 use Rattle.rows.specs.Rows.{row, mostRow}
 use Rattle.rows.proofs.RowWithin.{row-within}
 use Rattle.rows.proofs.RowNotNegative.{row-not-negative}
@@ -64,7 +63,7 @@ pub record Fine (t : Timing) (s : State) (n : ℕ) : Type 0 where
   pub few : n + left t s ≤ mostEvents
 
 pub spans-of-format : (k : ℕ) → k ≤ 2 ^ 20 → OfFormat binary64 (spans k)
-spans-of-format k h = record { digits = k; power = 50; few = omega arith; is = refl; below = lt-of-le-of-lt (mul-le-mul-right (2 ^ 50) h) (lit< tt) }
+spans-of-format k h = digits-of-format binary64 k 50 (omega arith) (lit≤ tt)
 
 one-more : (k : ℕ) → k ≤ 2 ^ 20 → (x y : Float) → AtMost (spans k) x → AtMost (2 ^ 50) y → k + 1 ≤ 2 ^ 20 → AtMost (spans (k + 1)) (add binary64 x y)
 one-more k h x y v w l = add-at-most binary64 (spans-of-format (k + 1) l) x y v w (omega arith)

@@ -1,18 +1,18 @@
 -- From one row within the limit to another at most 2 ^ 43 seconds pass, at a tempo that is taken. Assumes nothing.
-use Prim.Native.Nat.{ℕ, zero, suc, _+_, _-_, _^_, _≤_, _<_}
+use Prim.Native.Nat.{ℕ, zero, suc, _+_, _-_, _^_, _≤_}
 use mathlib.Core.List.{List}
 use mathlib.Core.Bool.{Bool, true, false, cond}
 use mathlib.Core.Path.{_≡_, refl, sym, subst}
 use native.Mathlib.Nat.{zero-lt-suc}
 use native.Mathlib.Omega.{arith}
 use borrow.Author.Tests.{ltb-true}
-use lib.Dec.{ltb, lit<, lit≤}
+use lib.Dec.{ltb, lit≤}
 use lib.IntN.{ℤ, pos, negsuc, natAbs, subℕ, _-ℤ_}
 use lib.Ieee.{Float, binary64, div}
 use Rattle.picks.specs.Pick.{pick}
 use Rattle.ieee.proofs.SignedSizes.{negative}
 use Rattle.ieee.proofs.Magnitude.{AtMost}
-use Rattle.ieee.proofs.SizesAddUp.{AtLeast, OfFormat, at-most-finite, round-at-most, div-at-most, div-at-least}
+use Rattle.ieee.proofs.SizesAddUp.{AtLeast, power-of-format, at-most-finite, round-at-most, div-at-most, div-at-least}
 use Rattle.rows.specs.Rows.{beatOf, mostRow}
 use Rattle.rows.proofs.RowValue.{beat-rounded}
 use Rattle.limits.proofs.TempoSizes.{tempo-at-most, tempo-at-least}
@@ -36,15 +36,11 @@ apart (negsuc a) (pos zero) = let l = sub-size 0 (suc a) in omega arith
 apart (negsuc a) (pos (suc b)) = omega arith
 apart (negsuc a) (negsuc b) = let l = sub-size (suc b) (suc a) in omega arith
 
--- ---- powers of two are of the format
-pub power-of-format : (k : ℕ) → 2 ^ k < 2 ^ 1024 → OfFormat binary64 (2 ^ k)
-power-of-format k l = record { digits = 1; power = k; few = lit< tt; is = omega arith; below = l }
-
 -- ---- the beats between two rows
 pub beats-between : (d : ℤ) → natAbs d ≤ mostRow + mostRow → AtMost (2 ^ 17) (beatOf binary64 d)
 beats-between d h =
     subst (AtMost (2 ^ 17)) (sym (beat-rounded binary64 d (omega arith)))
-    (round-at-most binary64 (power-of-format 17 (lit< tt)) (negative d) (natAbs d) 48 (zero-lt-suc 47) (omega arith))
+    (round-at-most binary64 (power-of-format binary64 17 (lit≤ tt)) (negative d) (natAbs d) 48 (zero-lt-suc 47) (omega arith))
 
 -- ---- beats a second
 sixty-at-most : AtMost 60 sixty
@@ -56,7 +52,7 @@ sixty-at-least = record { negative = false; num = 60; den = 1; den-pos = zero-lt
 pub pace-at-least : (tempo : Float) → IsTempo tempo → AtLeast 26 (div binary64 tempo sixty)
 unfolding sixty-at-most
 pace-at-least tempo h =
-    let finite = at-most-finite (div-at-most binary64 (power-of-format 30 (lit< tt)) tempo sixty (tempo-at-most false tempo h) sixty-at-least (lit≤ tt)) in
+    let finite = at-most-finite (div-at-most binary64 (power-of-format binary64 30 (lit≤ tt)) tempo sixty (tempo-at-most false tempo h) sixty-at-least (lit≤ tt)) in
     div-at-least binary64 26 (lit≤ tt) (lit≤ tt) tempo sixty (tempo-at-least tempo h) sixty-at-most (zero-lt-suc 59) finite
 
 none-at-most : {bound : ℕ} → AtMost bound noTime
@@ -70,7 +66,7 @@ time-between early values s at near there tempo = go (s .warping)
     go : (b : Bool) → AtMost (2 ^ 43) (pick b noTime (div binary64 (beatOf binary64 (at -ℤ s .row)) (div binary64 (inForce early values (s .tempos)) sixty)))
     go true = none-at-most
     go false =
-        div-at-most binary64 (power-of-format 43 (lit< tt)) (beatOf binary64 (at -ℤ s .row)) (div binary64 (inForce early values (s .tempos)) sixty)
+        div-at-most binary64 (power-of-format binary64 43 (lit≤ tt)) (beatOf binary64 (at -ℤ s .row)) (div binary64 (inForce early values (s .tempos)) sixty)
         (beats-between (at -ℤ s .row) (omega (arith, apart at (s .row))))
         (pace-at-least (inForce early values (s .tempos)) tempo)
         (lit≤ tt)

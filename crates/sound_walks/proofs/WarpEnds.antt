@@ -12,7 +12,7 @@ use lib.Ieee.Exact.{HasValue}
 use Rattle.picks.specs.Pick.{pick}
 use Rattle.ieee.proofs.FloatOrder.{sizes-le}
 use Rattle.ieee.proofs.Magnitude.{AtMost, Sized}
-use Rattle.ieee.proofs.SizesAddUp.{OfFormat, add-at-most, at-most-wider}
+use Rattle.ieee.proofs.SizesAddUp.{OfFormat, whole-of-format, add-at-most, at-most-wider}
 use Rattle.walk.specs.Passing.{noTime, larger}
 use Rattle.walk.proofs.RowOrder.{no}
 use Rattle.timing_tests.specs.CursorNumbers.{endIn}
@@ -58,7 +58,7 @@ larger-fine old new o n = go (lt old new) refl
 
 -- a beat and a length
 sum-of-format : OfFormat binary64 (2 ^ 16 + 2 ^ 30)
-sum-of-format = record { digits = 1 + 2 ^ 14; power = 16; few = lit< tt; is = refl; below = lit< tt }
+sum-of-format = whole-of-format binary64 (2 ^ 16 + 2 ^ 30) (lit< tt)
 
 pub end-grows : (old beat length : Float) → EndFine old → Sized 16 beat → Sized 30 length → EndFine (larger old (add binary64 beat length))
 end-grows old beat length o b l = larger-fine old (add binary64 beat length) o (at-most-wider (lit≤ tt) (add-at-most binary64 sum-of-format beat length b l (lit≤ tt)))
