@@ -1,5 +1,5 @@
 -- Over a timing that is taken, every time that is given is finite, whatever was asked before, and the last row of every cursor is within the limit. Assumes nothing.
-use Prim.Native.Nat.{_+_, _*_, _≤_}
+use Prim.Native.Nat.{_+_, _≤_}
 use mathlib.Core.List.{List}
 use mathlib.Core.Path.{_≡_, refl}
 use native.Mathlib.Omega.{arith}
@@ -17,7 +17,7 @@ use Rattle.timing_tests.specs.TimingNumbers.{timingNumber}
 use Rattle.timing_tests.proofs.TimingTaken.{timing-taken}
 use Rattle.clock.specs.Question.{filled, freshState, freshCursor, reply, question}
 use Rattle.clock.specs.declared.Cursor.{Cursor}
-use Rattle.sound_walks.proofs.EachEventKeeps.{spans-of-format}
+use Rattle.sound_walks.proofs.EachEventKeeps.{spansAfter, spans-of-format}
 use Rattle.histories.specs.Demand.{used}
 use Rattle.histories.proofs.WhereAFreshOneEnds.{new, walked, ends-then}
 use Rattle.histories.proofs.KeptWhereSound.{Comes, comes, took, row-near, accepted-is}
@@ -37,7 +37,7 @@ module _ (t : Timing) (offset global : Float) (taken : timingNumber t offset glo
       let fine = walked-fine t offset global (timing-taken taken) r near in
       let few = fine .few in
       at-most-finite
-      (sub-at-most binary64 (spans-of-format (2 * p + 1 + 1 + 1) (omega arith)) (walk (filled t) r (freshState offset global) .time) global (walked-time t offset global (timing-taken taken) r near)
+      (sub-at-most binary64 (spans-of-format (spansAfter p + 1 + 1) (omega arith)) (walk (filled t) r (freshState offset global) .time) global (walked-time t offset global (timing-taken taken) r near)
       (sized 20 global (taken-within 20 global (timing-taken taken .globalIn))) (omega arith))
 
   -- a question that is not refused gives a finite time; no beats before it are a fresh cursor

@@ -1,5 +1,5 @@
 -- Over a timing that is taken, the cursor test refuses nothing of a fresh cursor, nor of what a walk from one leaves behind. Assumes nothing.
-use Prim.Native.Nat.{ℕ, zero, suc, _+_, _*_, _≤_, _<_}
+use Prim.Native.Nat.{ℕ, zero, suc, _+_, _≤_, _<_}
 use mathlib.Core.List.{[], _∷_}
 use mathlib.Core.Bool.{true}
 use mathlib.Core.Path.{_≡_, refl, _∙_}
@@ -31,7 +31,7 @@ use Rattle.timing_tests.proofs.RowByRow.{first-starts}
 use Rattle.timing_tests.proofs.TimingTaken.{TimingTaken, timing-taken}
 use Rattle.clock.specs.Question.{filled, freshState, freshCursor, cursorRefusal}
 use Rattle.sound_walks.proofs.WarpEnds.{end-begins}
-use Rattle.sound_walks.proofs.EachEventKeeps.{ListsTaken, Fine, spans, walk-fine, walk-time}
+use Rattle.sound_walks.proofs.EachEventKeeps.{ListsTaken, Fine, spans, spansAfter, walk-fine, walk-time}
 use Rattle.sound_walks.proofs.CursorTestPasses.{fine-passes}
 use Rattle.histories.proofs.WithATempo.{given, of-filled, tempos-filled, stops-filled, delays-filled, warps-filled}
 use Rattle.histories.proofs.KeptWhereSound.{Sound}
@@ -96,7 +96,7 @@ module _ (t : Timing) (offset global : Float) (taken : TimingTaken t offset glob
     pub walked-fine : Fine (filled t) (walk (filled t) r (freshState offset global) .state) (walk (filled t) r (freshState offset global) .passed)
     walked-fine = walk-fine (filled t) (lists-taken t offset global taken) r near (freshState offset global) none-passed fresh-fine
 
-    pub walked-time : AtMost (spans (2 * walk (filled t) r (freshState offset global) .passed + 1 + 1)) (walk (filled t) r (freshState offset global) .time)
+    pub walked-time : AtMost (spans (spansAfter (walk (filled t) r (freshState offset global) .passed) + 1)) (walk (filled t) r (freshState offset global) .time)
     walked-time = walk-time (filled t) (lists-taken t offset global taken) r near (freshState offset global) none-passed fresh-fine
 
   -- ---- the cursor test

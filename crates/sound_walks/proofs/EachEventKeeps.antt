@@ -50,15 +50,22 @@ pub record ListsTaken (t : Timing) : Type 0 where
 abbrev pub spans : ℕ → ℕ
 spans k = k * 2 ^ 50
 
+-- how many there are at most after n events: one to begin with, and two for each
+abbrev pub spansAfter : ℕ → ℕ
+spansAfter n = 2 * n + 1
+
+two-each : (n : ℕ) → spans (spansAfter n + 1 + 1) ≤ spans (spansAfter (n + 1))
+two-each n = omega arith
+
 -- as many events as there are in four full lists, and the end of a warp that was begun before
 abbrev pub mostEvents : ℕ
 mostEvents = 5121
 
--- after n events: each one adds two spans at most
+-- after n events
 pub record Fine (t : Timing) (s : State) (n : ℕ) : Type 0 where
   pub places : PlacesWithin t s
   pub near : natAbs (s .row) ≤ mostRow
-  pub time : AtMost (spans (2 * n + 1)) (s .time)
+  pub time : AtMost (spans (spansAfter n)) (s .time)
   pub end : EndFine (s .end)
   pub few : n + left t s ≤ mostEvents
 
@@ -128,12 +135,12 @@ module _ (t : Timing) (lists : ListsTaken t) (r : ℤ) (asked : natAbs r ≤ mos
 
   module _ (early : Float) (tempo : IsTempo early) where
     -- the time at the next event
-    pub time-there : (s : State) (n : ℕ) → Fine t s n → AtMost (spans (2 * n + 1 + 1)) (add binary64 (s .time) (timeTo early (t .tempoValues) s (next t r s .row)))
+    pub time-there : (s : State) (n : ℕ) → Fine t s n → AtMost (spans (spansAfter n + 1)) (add binary64 (s .time) (timeTo early (t .tempoValues) s (next t r s .row)))
     time-there s n f =
         let there = next t r s .row in
         let force = force-taken early (t .tempoValues) (s .tempos) tempo (lists .tempos .valuesIn) (rw (lists .tempos .even) at (f .places .tempos)) in
         let few = f .few in
-        one-more (2 * n + 1) (omega arith) (s .time) (timeTo early (t .tempoValues) s there) (f .time)
+        one-more (spansAfter n) (omega arith) (s .time) (timeTo early (t .tempoValues) s there) (f .time)
         (at-most-wider (lit≤ tt) (time-between early (t .tempoValues) s there (f .near) (next-near s (f .end)) force)) (omega arith)
 
     fine-step : (s : State) (n : ℕ) → due t r s ≡ true → Fine t s n → Fine t (step early t r s) (n + 1)
@@ -146,7 +153,7 @@ module _ (t : Timing) (lists : ListsTaken t) (r : ℤ) (asked : natAbs r ≤ mos
         record {
           places = places-step early t r s (f .places);
           near = rw (step-row early t r s d) (next-near s (f .end));
-          time = at-most-wider (omega arith) (time-after s (next t r s .row) time (2 * n + 1 + 1) k (omega arith) d (placed t r s) (time-there s n f));
+          time = at-most-wider (two-each n) (time-after s (next t r s .row) time (spansAfter n + 1) k (omega arith) d (placed t r s) (time-there s n f));
           end = end-after s (next t r s .row) time k (placed t r s) (f .end);
           few = omega arith;
         }
@@ -155,11 +162,11 @@ module _ (t : Timing) (lists : ListsTaken t) (r : ℤ) (asked : natAbs r ≤ mos
     fine-walk s n f = walk-keeps early t r (Fine t) fine-step s n f
 
     -- where nothing is next, the last time
-    there : (s : State) (n : ℕ) → Fine t s n → AtMost (spans (2 * n + 1 + 1)) (timeAt early (t .tempoValues) s (next t r s))
+    there : (s : State) (n : ℕ) → Fine t s n → AtMost (spans (spansAfter n + 1)) (timeAt early (t .tempoValues) s (next t r s))
     unfolding timeAt
     there s n f = go (isNothing (next t r s .kind))
       where
-        go : (b : Bool) → AtMost (spans (2 * n + 1 + 1)) (pick b (s .time) (add binary64 (s .time) (timeTo early (t .tempoValues) s (next t r s .row))))
+        go : (b : Bool) → AtMost (spans (spansAfter n + 1)) (pick b (s .time) (add binary64 (s .time) (timeTo early (t .tempoValues) s (next t r s .row))))
         go true = at-most-wider (omega arith) (f .time)
         go false = time-there s n f
 
@@ -173,7 +180,7 @@ module _ (t : Timing) (lists : ListsTaken t) (r : ℤ) (asked : natAbs r ≤ mos
     walk-fine = fine-walk (earlyTempo (t .tempoBeats) (t .tempoValues) s) tempo s 0 fine
 
     -- and its time
-    pub walk-time : AtMost (spans (2 * walk t r s .passed + 1 + 1)) (walk t r s .time)
+    pub walk-time : AtMost (spans (spansAfter (walk t r s .passed) + 1)) (walk t r s .time)
     unfolding walk
     walk-time =
         let early = earlyTempo (t .tempoBeats) (t .tempoValues) s in

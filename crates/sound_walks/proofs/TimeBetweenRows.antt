@@ -53,7 +53,7 @@ pub pace-at-least : (tempo : Float) → IsTempo tempo → AtLeast 26 (div binary
 unfolding sixty-at-most
 pace-at-least tempo h =
     let finite = at-most-finite (div-at-most binary64 (power-of-format binary64 30 (lit≤ tt)) tempo sixty (tempo-at-most false tempo h) sixty-at-least (lit≤ tt)) in
-    div-at-least binary64 26 (lit≤ tt) (lit≤ tt) tempo sixty (tempo-at-least tempo h) sixty-at-most (zero-lt-suc 59) finite
+    div-at-least binary64 _ (lit≤ tt) (lit≤ tt) tempo sixty (tempo-at-least tempo h) sixty-at-most (zero-lt-suc 59) finite
 
 none-at-most : {bound : ℕ} → AtMost bound noTime
 none-at-most = record { negative = false; num = 0; den = 1; den-pos = zero-lt-suc 0; value = (refl, refl); small = omega arith }

@@ -17,13 +17,16 @@ use Rattle.walk.specs.Passing.{noTime, larger}
 use Rattle.walk.proofs.RowOrder.{no}
 use Rattle.timing_tests.specs.CursorNumbers.{endIn}
 
--- x is num / den, the sign clear, and at most 2 ^ 31
+abbrev pub mostEnd : ℕ
+mostEnd = 2 ^ 31
+
+-- x is num / den, the sign clear, and at most so large
 pub record EndFine (x : Float) : Type 0 where
   pub num : ℕ
   pub den : ℕ
   pub den-pos : 0 < den
   pub value : HasValue x false num den
-  pub small : num ≤ 2 ^ 31 * den
+  pub small : num ≤ mostEnd * den
 
 pub end-begins : EndFine noTime
 end-begins = record { num = 0; den = 1; den-pos = zero-lt-suc 0; value = (refl, refl); small = lit≤ tt }
@@ -39,7 +42,7 @@ above-clear (fin false m e) (fin false n g) a c b d v h s w = (refl, w .1)
 above-clear (fin false m e) (fin true n g) a c b d v h s w = no h
 above-clear (fin true m e) (fin z n g) a c b d v h s w = no (sym (v .0))
 
-grown : (old new : Float) → EndFine old → AtMost (2 ^ 31) new → lt old new ≡ true → EndFine new
+grown : (old new : Float) → EndFine old → AtMost (mostEnd) new → lt old new ≡ true → EndFine new
 grown old new o n h = record {
   num = n .num;
   den = n .den;
@@ -48,7 +51,7 @@ grown old new o n h = record {
   small = n .small;
 }
 
-larger-fine : (old new : Float) → EndFine old → AtMost (2 ^ 31) new → EndFine (larger old new)
+larger-fine : (old new : Float) → EndFine old → AtMost (mostEnd) new → EndFine (larger old new)
 unfolding larger
 larger-fine old new o n = go (lt old new) refl
   where
@@ -71,5 +74,5 @@ end-in x e =
     let c = e .den in
     rw (
       is-true (le (fin false 0 (pos 0)) x) (sizes-le (fin false 0 (pos 0)) x false false 0 1 a c (zero-lt-suc 0) (e .den-pos) (refl, refl) (e .value) (omega arith)),
-      is-true (le x (fin false 1 (pos 31))) (sizes-le x (fin false 1 (pos 31)) false false a c (2 ^ 31) 1 (e .den-pos) (zero-lt-suc 0) (e .value) (refl, refl) (le-trans (le-of-eq (mul-one a)) (e .small))),
+      is-true (le x (fin false 1 (pos 31))) (sizes-le x (fin false 1 (pos 31)) false false a c mostEnd 1 (e .den-pos) (zero-lt-suc 0) (e .value) (refl, refl) (le-trans (le-of-eq (mul-one a)) (e .small))),
     ) refl
