@@ -24,7 +24,7 @@ module _ (f : Format) where
   self-difference true a c C = rw (le-ltb a a (le-refl a)) (round-zero f false (a - a) c C (omega arith))
   self-difference false a c C = rw (le-ltb a a (le-refl a)) (round-zero f false (a - a) c C (omega arith))
 
-  finite-test : (x : Float) → eq (sub f x x) zeroFloat ≡ finite x
+  pub finite-test : (x : Float) → eq (sub f x x) zeroFloat ≡ finite x
   unfolding sub add neg eq
   finite-test nan = refl
   finite-test (inf true) = refl

@@ -26,6 +26,7 @@ pub mod WholeBySum
 pub mod KeepsOrder
 pub mod Narrow
 pub mod SumByValue
+pub mod SizesAddUp
 pub mod Signs
 pub mod StepPower
 pub mod AnchorPattern

@@ -13,14 +13,18 @@ use Rattle.ieee.specs.Magnitude.{withinPower}
 use Rattle.ieee.proofs.SignedSizes.{Ordered}
 use Rattle.ieee.proofs.FloatOrder.{le-sizes, sizes-le}
 
--- x is num / den, negative or not, and no further from 0 than 2 ^ k
-pub record Sized (k : ℕ) (x : Float) : Type 0 where
+-- x is num / den, negative or not, and no further from 0 than a whole number
+pub record AtMost (bound : ℕ) (x : Float) : Type 0 where
   pub negative : Bool
   pub num : ℕ
   pub den : ℕ
   pub den-pos : 0 < den
   pub value : HasValue x negative num den
-  pub small : num ≤ 2 ^ k * den
+  pub small : num ≤ bound * den
+
+-- no further than 2 ^ k
+abbrev pub Sized : ℕ → Float → Type 0
+Sized k x = AtMost (2 ^ k) x
 
 -- between two numbers of one size
 between : (s : Bool) (a b : ℕ) → Ordered true b s a → Ordered s a false b → a ≤ b

@@ -3,7 +3,7 @@ use mathlib.Core.Path.{_≡_, sym, ap, _∙_}
 use mathlib.Core.Logic.{inl, inr}
 use mathlib.Core.Bool.{false}
 use Prim.Native.Nat.{ℕ, suc, _+_, _-_, _*_, _/_, _^_, _≤_, _<_}
-use native.Mathlib.Nat.{le-trans, le-of-eq, lt-of-le-of-lt, lt-of-lt-of-le, mul-one, mul-comm, mul-assoc, mul-right-comm, mul-le-mul-right, mul-le-mul-left, mul-lt-mul-of-pos-right, mul-pos, le-of-mul-le-mul-right, add-mul, add-le-add, eq-zero-or-pos, le-div-iff-mul-le, div-lt-iff-lt-mul}
+use native.Mathlib.Nat.{zero-add, le-trans, le-of-eq, lt-of-le-of-lt, lt-of-lt-of-le, mul-one, mul-comm, mul-assoc, mul-right-comm, mul-le-mul-right, mul-le-mul-left, mul-lt-mul-of-pos-right, mul-pos, le-of-mul-le-mul-right, add-mul, add-le-add, eq-zero-or-pos, le-div-iff-mul-le, div-lt-iff-lt-mul}
 use native.Mathlib.Omega.{arith}
 use lib.Pow.{pow-add, pow-pos, pow-mono}
 use lib.Ieee.{Format, prec, emax, low, round}
@@ -18,33 +18,49 @@ use Rattle.ieee.proofs.Units.{round-units}
 use Rattle.ieee.proofs.FloatOrder.{le-sizes}
 use Rattle.ieee.proofs.NearestWhole.{closest-err}
 
--- ---- at most a whole number that the format counts to, where the fraction is
-module _ (f : Format) (a b k : ℕ) (B : 0 < b) (K : k < 2 ^ prec f) (h : a ≤ k * b) where
-  scaled : a * 2 ^ low f ≤ k * 2 ^ low f * b
-  scaled = le-trans (mul-le-mul-right (2 ^ low f) h) (le-of-eq (mul-right-comm k b (2 ^ low f)))
+-- ---- at most k * 2 ^ j, where the fraction is, and where the format has the digits of k
+module _ (f : Format) (a b k j : ℕ) (B : 0 < b) (K : k < 2 ^ prec f) (h : a ≤ k * 2 ^ j * b) where
+  scaled : a * 2 ^ low f ≤ k * 2 ^ (j + low f) * b
+  scaled =
+      le-trans (mul-le-mul-right (2 ^ low f) h)
+      (le-of-eq (mul-right-comm (k * 2 ^ j) b (2 ^ low f) ∙ ap (λ (x : ℕ). x * b) (mul-assoc k (2 ^ j) (2 ^ low f) ∙ ap (λ (x : ℕ). k * x) (sym (pow-add 2 j (low f))))))
 
-  few-dropped : dropped f a b ≤ low f
+  few-dropped : dropped f a b ≤ j + low f
   few-dropped =
-      let z = size-le (a * 2 ^ low f / b) (prec f + low f)
-      (div-lt-iff-lt-mul B .1 (lt-of-le-of-lt scaled (mul-lt-mul-of-pos-right (lt-of-lt-of-le (mul-lt-mul-of-pos-right K (pow-pos (low f))) (le-of-eq (sym (pow-add 2 (prec f) (low f))))) B))) in
+      let t = j + low f in
+      let z = size-le (a * 2 ^ low f / b) (prec f + t)
+      (div-lt-iff-lt-mul B .1 (lt-of-le-of-lt scaled (mul-lt-mul-of-pos-right (lt-of-lt-of-le (mul-lt-mul-of-pos-right K (pow-pos t)) (le-of-eq (sym (pow-add 2 (prec f) t)))) B))) in
       omega arith
 
-  pub grid-le : grid f a b ≤ k * 2 ^ low f
-  grid-le =
+  pub grid-up-to : grid f a b ≤ k * 2 ^ (j + low f)
+  grid-up-to =
+      let t = j + low f in
       let d = dropped f a b in
-      let j = low f - d in
+      let i = t - d in
       let l = few-dropped in
-      let whole : 2 ^ low f ≡ 2 ^ j * 2 ^ d = ap (λ (x : ℕ). 2 ^ x) (omega arith) ∙ pow-add 2 j d in
-      let in-units : k * 2 ^ low f ≡ k * 2 ^ j * 2 ^ d = ap (λ (x : ℕ). k * x) whole ∙ sym (mul-assoc k (2 ^ j) (2 ^ d)) in
-      le-trans (mul-le-mul-right (2 ^ d) (closest-le (k * 2 ^ j) (a * 2 ^ low f) (b * 2 ^ d) (mul-pos B (pow-pos d))
-      (le-trans scaled (le-of-eq (ap (λ (x : ℕ). x * b) in-units ∙ mul-assoc (k * 2 ^ j) (2 ^ d) b ∙ ap (λ (x : ℕ). k * 2 ^ j * x) (mul-comm (2 ^ d) b))))))
+      let whole : 2 ^ t ≡ 2 ^ i * 2 ^ d = ap (λ (x : ℕ). 2 ^ x) (omega arith) ∙ pow-add 2 i d in
+      let in-units : k * 2 ^ t ≡ k * 2 ^ i * 2 ^ d = ap (λ (x : ℕ). k * x) whole ∙ sym (mul-assoc k (2 ^ i) (2 ^ d)) in
+      le-trans (mul-le-mul-right (2 ^ d) (closest-le (k * 2 ^ i) (a * 2 ^ low f) (b * 2 ^ d) (mul-pos B (pow-pos d))
+      (le-trans scaled (le-of-eq (ap (λ (x : ℕ). x * b) in-units ∙ mul-assoc (k * 2 ^ i) (2 ^ d) b ∙ ap (λ (x : ℕ). k * 2 ^ i * x) (mul-comm (2 ^ d) b))))))
       (le-of-eq (sym in-units))
 
+  -- and below an infinity, where k * 2 ^ j is
+  pub grid-under : k * 2 ^ j < 2 ^ suc (emax f) → grid f a b < overflow f
+  grid-under l =
+      lt-of-le-of-lt grid-up-to
+      (lt-of-le-of-lt (le-of-eq (ap (λ (x : ℕ). k * x) (pow-add 2 j (low f)) ∙ sym (mul-assoc k (2 ^ j) (2 ^ low f))))
+      (lt-of-lt-of-le (mul-lt-mul-of-pos-right l (pow-pos (low f))) (le-of-eq (mul-comm (2 ^ suc (emax f)) (2 ^ low f) ∙ sym (pow-add 2 (low f) (suc (emax f)))))))
+
+-- so at most a whole number that the format counts to
+module _ (f : Format) (a b k : ℕ) (B : 0 < b) (K : k < 2 ^ prec f) (h : a ≤ k * b) where
+  plain : a ≤ k * 2 ^ 0 * b
+  plain = le-trans h (le-of-eq (sym (ap (λ (x : ℕ). x * b) (mul-one k))))
+
+  pub grid-le : grid f a b ≤ k * 2 ^ low f
+  grid-le = le-trans (grid-up-to f a b k 0 B K plain) (le-of-eq (ap (λ (x : ℕ). k * 2 ^ x) (zero-add (low f))))
+
   pub grid-fine : grid f a b < overflow f
-  grid-fine =
-      lt-of-le-of-lt grid-le
-      (lt-of-lt-of-le (mul-lt-mul-of-pos-right K (pow-pos (low f)))
-      (le-trans (mul-le-mul-right (2 ^ low f) (pow-mono (reach f))) (le-of-eq (mul-comm (2 ^ suc (emax f)) (2 ^ low f) ∙ sym (pow-add 2 (low f) (suc (emax f)))))))
+  grid-fine = grid-under f a b k 0 B K plain (lt-of-le-of-lt (le-of-eq (mul-one k)) (lt-of-lt-of-le K (pow-mono (reach f))))
 
 -- ---- at least a power of two, where the fraction is
 pub grid-ge : (f : Format) (a b j : ℕ) → 0 < b → 2 ^ j * b ≤ a * 2 ^ low f → 2 ^ j ≤ grid f a b

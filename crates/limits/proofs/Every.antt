@@ -65,3 +65,9 @@ every-rest test x list h = go (test x) refl h
     go : (t : Bool) → test x ≡ t → pick t (every test list) false ≡ true → (test x ≡ true) × (every test list ≡ true)
     go true e k = (e, k)
     go false e k = let z : _≡_ {A = ℕ} 0 1 = cc in absurd (omega arith)
+
+-- and at each place
+pub every-at : {A : Type 0} (test : A → Bool) (list : List A) (i : ℕ) (other : A) → every test list ≡ true → i < length list → test (getD list i other) ≡ true
+every-at test [] i other h l = absurd (omega arith)
+every-at test (x ∷ list) zero other h l = every-rest test x list h .0
+every-at test (x ∷ list) (suc i) other h l = every-at test list i other (every-rest test x list h .1) (omega arith)

@@ -2,3 +2,4 @@ pub mod Every
 pub mod ListTaken
 pub mod NoRefusal
 pub mod TakenWithin
+pub mod TempoSizes

@@ -1,6 +1,6 @@
--- Where the lower of two numbers is no refusal, neither is one. Assumes nothing.
+-- Where the lower of two numbers is no refusal, neither is one; and beside no refusal the lower one is the other. Assumes nothing.
 use Prim.Native.Nat.{ℕ}
-use mathlib.Core.Path.{_≡_, refl}
+use mathlib.Core.Path.{_≡_, refl, sym}
 use mathlib.Core.Bool.{Bool, true, false}
 use lib.Dec.{leb, eqb}
 use borrow.Author.Tests.{eqb-true, eqb-false}
@@ -17,3 +17,15 @@ lower-none one other h = go (eqb one 0) (eqb other 0) (leb one other) (eqb-true 
     go false true c p q r s h = absurd (r refl h)
     go false false true p q r s h = absurd (r refl h)
     go false false false p q r s h = absurd (s refl h)
+
+pub none-lower : (other : ℕ) → lower 0 other ≡ other
+unfolding lower
+none-lower other = refl
+
+pub lower-than-none : (one : ℕ) → lower one 0 ≡ one
+unfolding lower
+lower-than-none one = go (eqb one 0) (eqb-true one 0)
+  where
+    go : (a : Bool) → (a ≡ true → one ≡ 0) → pick a 0 one ≡ one
+    go true h = sym (h refl)
+    go false h = refl

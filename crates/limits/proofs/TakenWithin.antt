@@ -43,14 +43,23 @@ module _ (k : ℕ) where
       go true true q h = up-to m e h
       go true false q h = omega (arith, ltb-false 0 (m * up e * 1 + 0 * 1 * down e) q)
 
-  pub taken-within : (x : Float) → inRange (upTo k) x ≡ true → T (withinPower k x)
+  -- by any range up to 2 ^ k from which nothing is dropped
+  pub taken-sized : (least : Float) (zeros : Bool) (x : Float) → inRange (record { least = least; most = power (pos k); zeros = zeros; dropped = false }) x ≡ true → Sized k x
   unfolding inRange le lt eq neg
-  taken-within nan h = absurd (subst T (sym h) tt)
-  taken-within (inf true) h = absurd (subst T (sym h) tt)
-  taken-within (inf false) h = absurd (subst T (sym h) tt)
-  taken-within (fin s m e) h =
-      sized-within k (fin s m e)
-      (record { negative = s; num = m * up e; den = down e; den-pos = down-pos e; value = (refl, refl); small = small s m e (first-test (le (sizeOf (fin s m e)) (power (pos k))) _ (lt (sizeOf (fin s m e)) (inf false)) h) })
+  taken-sized least zeros nan h = absurd (subst T (sym h) tt)
+  taken-sized least zeros (inf true) h = absurd (subst T (sym h) tt)
+  taken-sized least zeros (inf false) h = absurd (subst T (sym h) tt)
+  taken-sized least zeros (fin s m e) h = record {
+    negative = s;
+    num = m * up e;
+    den = down e;
+    den-pos = down-pos e;
+    value = (refl, refl);
+    small = small s m e (first-test (le (sizeOf (fin s m e)) (power (pos k))) _ (lt (sizeOf (fin s m e)) (inf false)) h);
+  }
+
+  pub taken-within : (x : Float) → inRange (upTo k) x ≡ true → T (withinPower k x)
+  taken-within x h = sized-within k x (taken-sized nothing true x h)
 
   -- ---- and back
   record Taken (size : Float) : Type 0 where

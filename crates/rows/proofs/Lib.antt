@@ -1,6 +1,8 @@
 pub mod RowValue
+pub mod RowOfZero
 pub mod RowOfBeat
 pub mod RowWithin
+pub mod RowNotNegative
 pub mod RowsKeepOrder
 pub mod BeatsRise
 pub mod FortyEighths

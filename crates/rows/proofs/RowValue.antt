@@ -31,7 +31,7 @@ pub tiny : (f : Format) → 2 ^ (prec f - 1) * 48 ≤ 2 ^ low f
 tiny binary32 = lit≤ tt
 tiny binary64 = lit≤ tt
 
-like-48 : (f : Format) → HasValue (ofInt f (pos 48)) false 48 1
+pub like-48 : (f : Format) → HasValue (ofInt f (pos 48)) false 48 1
 like-48 f = whole-value f (pos 48) (omega (arith, room f))
 
 pub unlike-positive : (s : Bool) → unlike s false ≡ s

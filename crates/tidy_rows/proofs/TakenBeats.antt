@@ -1,16 +1,15 @@
 -- A beat that is taken is an allowed beat, and so is each beat of a list that passes the tests. Assumes nothing.
-use Prim.Native.Nat.{ℕ, zero, suc, _<_}
+use Prim.Native.Nat.{ℕ, _<_}
 use mathlib.Core.Path.{_≡_}
 use mathlib.Core.Bool.{true}
 use mathlib.Core.List.{List, [], _∷_}
-use native.Mathlib.Omega.{arith}
 use lib.Dec.{T}
 use lib.ListN.{length, getD}
 use lib.Ieee.{Float, nan}
 use Rattle.rows.specs.Rows.{allowedBeat}
 use Rattle.limits.specs.declared.Kind.the-variants.{Beat}
 use Rattle.limits.specs.Numbers.{inRange, rangeOf, allIn}
-use Rattle.limits.proofs.Every.{every-rest}
+use Rattle.limits.proofs.Every.{every-rest, every-at}
 use Rattle.limits.proofs.TakenWithin.{taken-within}
 use Rattle.order.specs.Entries.{entries}
 use Rattle.order.proofs.OrderedList.{Each}
@@ -21,9 +20,7 @@ taken-allowed x = taken-within 16 x
 
 -- ---- all beats of a list
 pub allowed-at : (beats : List Float) (i : ℕ) → allIn (rangeOf Beat) beats ≡ true → i < length beats → T (allowedBeat (getD beats i nan))
-allowed-at [] i h l = absurd (omega arith)
-allowed-at (beat ∷ beats) zero h l = taken-allowed beat (every-rest (inRange (rangeOf Beat)) beat beats h .0)
-allowed-at (beat ∷ beats) (suc i) h l = allowed-at beats i (every-rest (inRange (rangeOf Beat)) beat beats h .1) (omega arith)
+allowed-at beats i h l = taken-allowed (getD beats i nan) (every-at (inRange (rangeOf Beat)) beats i nan h l)
 
 pub beats-allowed : (beats values : List Float) → allIn (rangeOf Beat) beats ≡ true → Each rowKeyOf (λ (e : Float × Float). T (allowedBeat (e .0))) (entries beats values)
 unfolding entries

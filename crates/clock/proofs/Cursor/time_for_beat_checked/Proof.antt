@@ -1,0 +1,43 @@
+-- `clock::Cursor::time_for_beat_checked` is `playerQuestion`. Assumes nothing.
+use borrow.Author.Tests.{eq-eqb, ne-eqb}
+use Rattle.clock.specs.Question.{cursorRefusal, playerNumber, temposOf, playerQuestion}
+use borrow.Author.Needs.{needs}
+use Rattle.clock.proofs.Cursor.time_for_beat_checked.Statement.{statement}
+use Rattle.clock.proofs.Cursor.time_for_beat_checked.Tie as tie
+
+beat-number-requires : tie.Need-beat-number-requires
+beat-number-requires c κs = search needs
+
+refusal-requires : tie.Need-refusal-requires
+refusal-requires c κs = search needs
+
+lower-of-requires : tie.Need-lower-of-requires
+lower-of-requires c κs = search needs
+
+reply-requires : tie.Need-reply-requires
+reply-requires c κs = search needs
+
+returns : tie.Need-returns
+unfolding playerQuestion playerNumber cursorRefusal temposOf
+returns c =
+    rw (← c .before .before .before .before .beat-number .ensures, ← c .before .before .before .refusal .ensures, ← c .before .before .lower-of .ensures, eq-eqb _ _ (c .before .if1 .taken)) (c .reply .ensures)
+
+refused-requires : tie.Need-refused-requires
+refused-requires c κs = search needs
+
+returns-2 : tie.Need-returns-2
+unfolding playerQuestion playerNumber cursorRefusal temposOf
+returns-2 c =
+    rw (← c .before .before .before .before .beat-number .ensures, ← c .before .before .before .refusal .ensures, ← c .before .before .lower-of .ensures, ne-eqb _ _ (c .before .if1 .left)) (c .refused .ensures)
+
+pub time-for-beat-checked-spec : {M : Type 1} → statement M
+time-for-beat-checked-spec =
+    tie.close
+    (tie.spec
+    beat-number-requires
+    refusal-requires
+    lower-of-requires
+    reply-requires
+    returns
+    refused-requires
+    returns-2)

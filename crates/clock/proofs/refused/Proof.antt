@@ -1,0 +1,14 @@
+-- `clock::refused` is `refusedWith`. Assumes nothing.
+use mathlib.Core.Path.{refl}
+use lib.Ieee.{ofBits}
+use borrow.Author.Needs.{needs}
+use Rattle.clock.proofs.refused.Statement.{statement}
+use Rattle.clock.proofs.refused.Tie as tie
+
+returns : tie.Need-returns
+unfolding ofBits
+returns c =
+    refl
+
+pub refused-spec : {M : Type 1} → statement M
+refused-spec = tie.close (tie.spec returns)

@@ -1,0 +1,383 @@
+// The clock: at what time is this beat? A cursor goes along a timing and is handed back with each answer.
+use walk::State;
+ghost use mathlib.Core.Path.{_≡_};
+ghost use lib.ListN.{length};
+ghost use lib.Dec.{eqb};
+ghost use Rattle.picks.specs.Pick.{pick};
+ghost use Rattle.timing_tests.specs.CursorNumbers.{cursorNumber};
+ghost use lib.Ieee.{binary64};
+ghost use Rattle.rows.specs.Rows.{row};
+ghost use Rattle.walk.specs.Events.{timing};
+ghost use Rattle.walk.specs.Walk.{walk};
+ghost use Rattle.clock.specs.Question.{temposOf, freshState, freshCursor, made, beginning, answered, refusedWith, reply, asking, cursorRefusal, playerNumber, playerQuestion, questionNumber, question};
+
+// How far the questions so far have come, and the row asked last.
+#[repr(C)]
+pub struct Cursor {
+    pub state: State,
+    pub asked: i32,
+}
+
+// A question's number, its time, the events passed and one, and the cursor for the next question.
+#[repr(C)]
+pub struct Answer {
+    pub number: u32,
+    pub time: f64,
+    pub count: usize,
+    pub cursor: Cursor,
+}
+
+// A new cursor, and the number that its offsets answer.
+#[repr(C)]
+pub struct Made {
+    pub number: u32,
+    pub cursor: Cursor,
+}
+
+fn fresh_state(offset: f64, global: f64) -> State
+    ensures { λ r. ⌜ r ≡ freshState offset global ⌝ }
+{
+    State {
+        tempos: 0,
+        stops: 0,
+        delays: 0,
+        warps: 0,
+        row: 0,
+        time: -offset - global,
+        end: 0.0,
+        warping: false,
+    }
+}
+
+fn fresh_cursor(offset: f64, global: f64) -> Cursor
+    ensures { λ r. ⌜ r ≡ freshCursor offset global ⌝ }
+{
+    let state = fresh_state(offset, global);
+    Cursor {
+        state: state,
+        asked: timing_tests::FRESH_MARK,
+    }
+}
+
+fn refused(number: u32, cursor: Cursor) -> Answer
+    ensures { λ r. ⌜ r ≡ refusedWith number cursor ⌝ }
+{
+    Answer {
+        number: number,
+        time: 0.0,
+        count: 0,
+        cursor: cursor,
+    }
+}
+
+// The tempos of a timing; where it has none, the one of 60 counts.
+fn tempos_of(given: usize) -> usize
+    ensures { λ r. ⌜ r ≡ pick (eqb given 0) 1 given ⌝ }
+{
+    if given == 0 {
+        return 1;
+    }
+    given
+}
+
+impl Cursor {
+    // A cursor that was not asked yet. The offset is the song's and the beat-0 offset together; one beyond the limit is refused with 4.
+    pub fn new(offset: f64, global: f64) -> Made
+        ensures { λ r. ⌜ r ≡ made offset global ⌝ }
+    {
+        let number = timing_tests::offsets_number(offset, global);
+        if number == 0 {
+            let cursor = fresh_cursor(offset, global);
+            return Made {
+                number: 0,
+                cursor: cursor,
+            };
+        }
+        let cursor = fresh_cursor(0.0, 0.0);
+        Made {
+            number: number,
+            cursor: cursor,
+        }
+    }
+
+    // Where the walk to a row begins: here, or anew where the row fell.
+    fn begin(self, row: i32, offset: f64, global: f64) -> State
+        ensures { λ r. ⌜ r ≡ beginning self row offset global ⌝ }
+    {
+        let last = self.asked;
+        if row < last {
+            return fresh_state(offset, global);
+        }
+        self.state
+    }
+
+    // The walk to the beat, on lists that have a tempo.
+    fn walk_on(
+        mut self,
+        tempo_beats: &[f32],
+        tempo_values: &[f32],
+        stop_beats: &[f32],
+        stop_values: &[f32],
+        delay_beats: &[f32],
+        delay_values: &[f32],
+        warp_beats: &[f32],
+        warp_lengths: &[f32],
+        offset: f64,
+        global: f64,
+        beat: f64,
+    ) -> Answer
+        ensures { λ r. ⌜ r ≡ answered global (row binary64 beat) (walk (timing (now («tempo_beats» .entry)) (now («tempo_values» .entry)) (now («stop_beats» .entry)) (now («stop_values» .entry)) (now («delay_beats» .entry)) (now («delay_values» .entry)) (now («warp_beats» .entry)) (now («warp_lengths» .entry))) (row binary64 beat) (beginning self (row binary64 beat) offset global)) ⌝ }
+    {
+        let row = rows::beat_to_note_row(beat);
+        let begin = self.begin(row, offset, global);
+        let walked = walk::walk_to(
+            begin,
+            row,
+            tempo_beats,
+            tempo_values,
+            stop_beats,
+            stop_values,
+            delay_beats,
+            delay_values,
+            warp_beats,
+            warp_lengths,
+        );
+        let state = walked.state;
+        self.state = state;
+        self.asked = row;
+        Answer {
+            number: 0,
+            time: walked.time - global,
+            count: walked.passed + 1,
+            cursor: self,
+        }
+    }
+
+    fn reply(
+        self,
+        tempo_beats: &[f32],
+        tempo_values: &[f32],
+        stop_beats: &[f32],
+        stop_values: &[f32],
+        delay_beats: &[f32],
+        delay_values: &[f32],
+        warp_beats: &[f32],
+        warp_lengths: &[f32],
+        offset: f64,
+        global: f64,
+        beat: f64,
+    ) -> Answer
+        ensures { λ r. ⌜ r ≡ reply (timing (now («tempo_beats» .entry)) (now («tempo_values» .entry)) (now («stop_beats» .entry)) (now («stop_values» .entry)) (now («delay_beats» .entry)) (now («delay_values» .entry)) (now («warp_beats» .entry)) (now («warp_lengths» .entry))) self offset global beat ⌝ }
+    {
+        if tempo_beats.len() == 0 {
+            let beats = [0.0f32];
+            let tempos = [60.0f32];
+            return self.walk_on(
+                &beats,
+                &tempos,
+                stop_beats,
+                stop_values,
+                delay_beats,
+                delay_values,
+                warp_beats,
+                warp_lengths,
+                offset,
+                global,
+                beat,
+            );
+        }
+        self.walk_on(
+            tempo_beats,
+            tempo_values,
+            stop_beats,
+            stop_values,
+            delay_beats,
+            delay_values,
+            warp_beats,
+            warp_lengths,
+            offset,
+            global,
+            beat,
+        )
+    }
+
+    // A question of a run, whose timing and cursor were tested where it began: only the beat is tested.
+    pub fn ask(
+        mut self,
+        tempo_beats: &[f32],
+        tempo_values: &[f32],
+        stop_beats: &[f32],
+        stop_values: &[f32],
+        delay_beats: &[f32],
+        delay_values: &[f32],
+        warp_beats: &[f32],
+        warp_lengths: &[f32],
+        offset: f64,
+        global: f64,
+        beat: f64,
+    ) -> Answer
+        ensures { λ r. ⌜ r ≡ asking (timing (now («tempo_beats» .entry)) (now («tempo_values» .entry)) (now («stop_beats» .entry)) (now («stop_values» .entry)) (now («delay_beats» .entry)) (now («delay_values» .entry)) (now («warp_beats» .entry)) (now («warp_lengths» .entry))) self offset global beat ⌝ }
+    {
+        let number = timing_tests::beat_number(beat);
+        if number == 0 {
+            return self.reply(
+                tempo_beats,
+                tempo_values,
+                stop_beats,
+                stop_values,
+                delay_beats,
+                delay_values,
+                warp_beats,
+                warp_lengths,
+                offset,
+                global,
+                beat,
+            );
+        }
+        refused(number, self)
+    }
+
+    // 9 for a cursor that no question over these lists left behind.
+    pub fn refusal(
+        self,
+        tempo_beats: &[f32],
+        stop_beats: &[f32],
+        delay_beats: &[f32],
+        warp_beats: &[f32],
+    ) -> u32
+        ensures { λ r. ⌜ r ≡ cursorNumber (pick (eqb (length (now («tempo_beats» .entry))) 0) 1 (length (now («tempo_beats» .entry)))) (length (now («stop_beats» .entry))) (length (now («delay_beats» .entry))) (length (now («warp_beats» .entry))) (self .state) (self .asked) ⌝ }
+    {
+        let tempos = tempos_of(tempo_beats.len());
+        let state = self.state;
+        timing_tests::cursor_number(
+            tempos,
+            stop_beats.len(),
+            delay_beats.len(),
+            warp_beats.len(),
+            state,
+            self.asked,
+        )
+    }
+
+    // The player's question, for a timing that `timing_tests::check_timing` took and that has not changed since: the beat and the cursor are tested, in a time
+    // that does not grow with the lists. Over a timing that would be refused it answers what the walk's definition says.
+    pub fn time_for_beat_checked(
+        mut self,
+        tempo_beats: &[f32],
+        tempo_values: &[f32],
+        stop_beats: &[f32],
+        stop_values: &[f32],
+        delay_beats: &[f32],
+        delay_values: &[f32],
+        warp_beats: &[f32],
+        warp_lengths: &[f32],
+        offset: f64,
+        global: f64,
+        beat: f64,
+    ) -> Answer
+        ensures { λ r. ⌜ r ≡ playerQuestion (timing (now («tempo_beats» .entry)) (now («tempo_values» .entry)) (now («stop_beats» .entry)) (now («stop_values» .entry)) (now («delay_beats» .entry)) (now («delay_values» .entry)) (now («warp_beats» .entry)) (now («warp_lengths» .entry))) self offset global beat ⌝ }
+    {
+        let asked = timing_tests::beat_number(beat);
+        let lent = self.refusal(tempo_beats, stop_beats, delay_beats, warp_beats);
+        let number = limits::lower_of(asked, lent);
+        if number == 0 {
+            return self.reply(
+                tempo_beats,
+                tempo_values,
+                stop_beats,
+                stop_values,
+                delay_beats,
+                delay_values,
+                warp_beats,
+                warp_lengths,
+                offset,
+                global,
+                beat,
+            );
+        }
+        refused(number, self)
+    }
+
+    // At what time is this beat? Everything is tested: the timing, its offsets, the beat, the cursor.
+    pub fn time_for_beat(
+        mut self,
+        tempo_beats: &[f32],
+        tempo_values: &[f32],
+        stop_beats: &[f32],
+        stop_values: &[f32],
+        delay_beats: &[f32],
+        delay_values: &[f32],
+        warp_beats: &[f32],
+        warp_lengths: &[f32],
+        offset: f64,
+        global: f64,
+        beat: f64,
+    ) -> Answer
+        ensures { λ r. ⌜ r ≡ question (timing (now («tempo_beats» .entry)) (now («tempo_values» .entry)) (now («stop_beats» .entry)) (now («stop_values» .entry)) (now («delay_beats» .entry)) (now («delay_values» .entry)) (now («warp_beats» .entry)) (now («warp_lengths» .entry))) self offset global beat ⌝ }
+    {
+        let timing = timing_tests::check_timing(
+            tempo_beats,
+            tempo_values,
+            stop_beats,
+            stop_values,
+            delay_beats,
+            delay_values,
+            warp_beats,
+            warp_lengths,
+            offset,
+            global,
+        );
+        let asked = timing_tests::beat_number(beat);
+        let lent = self.refusal(tempo_beats, stop_beats, delay_beats, warp_beats);
+        let player = limits::lower_of(asked, lent);
+        let number = limits::lower_of(timing, player);
+        if number == 0 {
+            return self.reply(
+                tempo_beats,
+                tempo_values,
+                stop_beats,
+                stop_values,
+                delay_beats,
+                delay_values,
+                warp_beats,
+                warp_lengths,
+                offset,
+                global,
+                beat,
+            );
+        }
+        refused(number, self)
+    }
+}
+
+// The time of a beat from a fresh cursor.
+pub fn get_time_for_beat(
+    tempo_beats: &[f32],
+    tempo_values: &[f32],
+    stop_beats: &[f32],
+    stop_values: &[f32],
+    delay_beats: &[f32],
+    delay_values: &[f32],
+    warp_beats: &[f32],
+    warp_lengths: &[f32],
+    offset: f64,
+    global: f64,
+    beat: f64,
+) -> Answer
+    ensures { λ r. ⌜ r ≡ question (timing (now («tempo_beats» .entry)) (now («tempo_values» .entry)) (now («stop_beats» .entry)) (now («stop_values» .entry)) (now («delay_beats» .entry)) (now («delay_values» .entry)) (now («warp_beats» .entry)) (now («warp_lengths» .entry))) (freshCursor offset global) offset global beat ⌝ }
+{
+    let cursor = fresh_cursor(offset, global);
+    cursor.time_for_beat(
+        tempo_beats,
+        tempo_values,
+        stop_beats,
+        stop_values,
+        delay_beats,
+        delay_values,
+        warp_beats,
+        warp_lengths,
+        offset,
+        global,
+        beat,
+    )
+}

@@ -1,0 +1,9 @@
+pub mod FirstTempoInForce
+pub mod WithATempo
+pub mod WhereAFreshOneEnds
+pub mod KeptWhereSound
+pub mod WalksAreSound
+pub mod DemandThree
+pub mod TimesAndRows
+pub mod EventsOfAWalk
+pub mod MixedQuestions

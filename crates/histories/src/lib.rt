@@ -1,0 +1,1 @@
+// What any list of questions to one cursor comes to: no code, laws only.

@@ -1,0 +1,5 @@
+pub mod TempoInForce
+pub mod TimeBetweenRows
+pub mod WarpEnds
+pub mod EachEventKeeps
+pub mod CursorTestPasses

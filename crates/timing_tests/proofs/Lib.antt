@@ -1,0 +1,2 @@
+pub mod RowByRow
+pub mod TimingTaken

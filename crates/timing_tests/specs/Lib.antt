@@ -1,0 +1,2 @@
+pub mod TimingNumbers
+pub mod CursorNumbers

@@ -1,0 +1,65 @@
+-- A signed number that was put into bits and read back is itself; so is a test of two, and the difference of two i32 taken in i64. Assumes nothing.
+use Prim.Native.Nat.{ℕ, zero, suc, _+_, _-_, _^_, _<_, _≤_}
+use native.Mathlib.Omega.{arith}
+use mathlib.Core.Path.{_≡_, refl, sym, ap, _∙_, subst}
+use mathlib.Core.Bool.{Bool, true, false, cond}
+use lib.Dec.{T, ltb, le→leb, lt→ltb}
+use lib.IntN.{ℤ, pos, negsuc, subℕ, _-ℤ_}
+use lib.Signed.{ltZ, mag}
+use lib.Ieee.{binary64, inFloat}
+use mir.Syntax.{w32, w64}
+use mir.Val.{SFits, toZ, ofZ}
+use mir.ValLaws.{toZ-ofZ}
+
+pub back : (z : ℤ) → SFits w32 z → toZ w32 (ofZ w32 z) ≡ z
+back z f = toZ-ofZ w32 z f
+
+pub tested : (a b : ℤ) → SFits w32 a → SFits w32 b → (t : Bool) → ltZ (toZ w32 (ofZ w32 a)) (toZ w32 (ofZ w32 b)) ≡ t → ltZ a b ≡ t
+tested a b f g t h = rw (toZ-ofZ w32 a f, toZ-ofZ w32 b g) at h
+
+-- ---- two rows are less than 2 ^ 33 apart
+sub-size : (m n : ℕ) → mag (subℕ m n) ≤ m + n
+sub-size m n = go (ltb m n) refl
+  where
+    go : (b : Bool) → ltb m n ≡ b → mag (cond b (negsuc (n - suc m)) (pos (m - n))) ≤ m + n
+    go true e = omega arith
+    go false e = omega arith
+
+apart : (a b : ℤ) → mag a < 2 ^ 31 → mag b < 2 ^ 31 → mag (a -ℤ b) < 2 ^ 33
+apart (pos a) (pos zero) p q = omega arith
+apart (pos a) (pos (suc b)) p q = let l = sub-size a (suc b) in omega arith
+apart (pos a) (negsuc b) p q = omega arith
+apart (negsuc a) (pos zero) p q = let l = sub-size 0 (suc a) in omega arith
+apart (negsuc a) (pos (suc b)) p q = omega arith
+apart (negsuc a) (negsuc b) p q = let l = sub-size (suc b) (suc a) in omega arith
+
+in-float : (z : ℤ) → mag z < 2 ^ 33 → T (inFloat binary64 z)
+unfolding inFloat
+in-float (pos n) h = le→leb n (2 ^ 53) (omega arith)
+in-float (negsuc n) h = lt→ltb n (2 ^ 53) (omega arith)
+
+module _ (a b : ℤ) (f : SFits w32 a) (g : SFits w32 b) where
+  wide : (z : ℤ) → SFits w32 z → SFits w64 z
+  wide z h = let l = h .sfits in record { sfits = omega arith }
+
+  pub cast-fits : SFits w64 (toZ w32 (ofZ w32 a))
+  cast-fits = wide (toZ w32 (ofZ w32 a)) (subst (SFits w32) (sym (back a f)) f)
+
+  widened : toZ w64 (ofZ w64 (toZ w32 (ofZ w32 a))) ≡ a
+  widened = ap (λ (z : ℤ). toZ w64 (ofZ w64 z)) (back a f) ∙ toZ-ofZ w64 a (wide a f)
+
+module _ (a b : ℤ) (f : SFits w32 a) (g : SFits w32 b) where
+  plain : toZ w64 (ofZ w64 (toZ w32 (ofZ w32 a))) -ℤ toZ w64 (ofZ w64 (toZ w32 (ofZ w32 b))) ≡ a -ℤ b
+  plain = rw (widened a b f g, widened b a g f)
+
+  far : SFits w64 (a -ℤ b)
+  far = let l = apart a b (f .sfits) (g .sfits) in record { sfits = omega arith }
+
+  pub difference-fits : SFits w64 (toZ w64 (ofZ w64 (toZ w32 (ofZ w32 a))) -ℤ toZ w64 (ofZ w64 (toZ w32 (ofZ w32 b))))
+  difference-fits = subst (SFits w64) (sym plain) far
+
+  pub difference : toZ w64 (ofZ w64 (toZ w64 (ofZ w64 (toZ w32 (ofZ w32 a))) -ℤ toZ w64 (ofZ w64 (toZ w32 (ofZ w32 b))))) ≡ a -ℤ b
+  difference = ap (λ (z : ℤ). toZ w64 (ofZ w64 z)) plain ∙ toZ-ofZ w64 (a -ℤ b) far
+
+  pub difference-casts : T (inFloat binary64 (toZ w64 (ofZ w64 (toZ w64 (ofZ w64 (toZ w32 (ofZ w32 a))) -ℤ toZ w64 (ofZ w64 (toZ w32 (ofZ w32 b)))))))
+  difference-casts = subst (λ (z : ℤ). T (inFloat binary64 z)) (sym difference) (in-float (a -ℤ b) (apart a b (f .sfits) (g .sfits)))

@@ -1,0 +1,12 @@
+pub mod BackFromBits
+pub mod EachCandidate
+pub mod EventByEvent
+pub mod LastUpTo
+pub mod EventsSpent
+pub mod RowOrder
+pub mod WalkedOn
+pub mod CountApart
+pub mod EarlyTempoApart
+pub mod BeforeAnyTempo
+pub mod StaysWithin
+pub mod TimeOfTheEnd

@@ -1,0 +1,389 @@
+// The walk through the events of a timing, up to an asked row.
+ghost use mathlib.Core.Path.{_≡_};
+ghost use mathlib.Core.Bool.{true};
+ghost use Prim.Native.Nat.{_<_, _^_};
+ghost use lib.IntN.{_-ℤ_};
+ghost use lib.ListN.{length, getD};
+ghost use lib.Ieee.{nan, binary64};
+ghost use Rattle.rows.specs.Rows.{beatOf};
+ghost use Rattle.walk.specs.Events.{timing, sooner, offered, endOffered, nextEvent};
+ghost use Rattle.walk.specs.Passing.{tempoAt, earlyTempo, inForce, timeTo, larger, afterWarpEnd, afterTempo, afterDelay, afterStop, afterWarp, CanMove, passed as Passing·passed, firstOr, lastUpTo, sixty};
+ghost use Rattle.walk.specs.Walk.{isEvent, isNothing, timeAt, walk};
+
+// How far a walk has come: a place in each list, the row and the time of the last event passed, the warp's end and whether it is warping.
+#[repr(C)]
+pub struct State {
+    pub tempos: usize,
+    pub stops: usize,
+    pub delays: usize,
+    pub warps: usize,
+    pub row: i32,
+    pub time: f64,
+    pub end: f64,
+    pub warping: bool,
+}
+
+// What can be next, in the order in which events of one row come.
+pub enum Event {
+    WarpEnd,
+    Tempo,
+    Delay,
+    // The asked beat, which ends the walk.
+    Asked,
+    Stop,
+    Warp,
+    NotFound,
+}
+
+pub struct Next {
+    pub row: i32,
+    pub kind: Event,
+}
+
+// ---- the next event
+
+// Only an earlier row takes the place of what was found so far.
+fn earlier(best: Next, row: i32, kind: Event) -> Next
+    ensures { λ r. ⌜ r ≡ sooner best row kind ⌝ }
+{
+    let found = best.row;
+    if row < found {
+        return Next { row, kind };
+    }
+    best
+}
+
+fn offer(best: Next, beats: &[f32], place: usize, kind: Event) -> Next
+    ensures { λ r. ⌜ r ≡ offered best (now (beats .entry)) place kind ⌝ }
+{
+    if place < beats.len() {
+        let row = rows::beat_to_note_row(std::num::f32_to_f64_with_nan(beats[place]));
+        return earlier(best, row, kind);
+    }
+    best
+}
+
+fn offer_end(best: Next, warping: bool, end: f64) -> Next
+    ensures { λ r. ⌜ r ≡ endOffered best warping end ⌝ }
+{
+    if warping {
+        return earlier(best, rows::beat_to_note_row(end), Event::WarpEnd);
+    }
+    best
+}
+
+fn find_next_event(
+    state: State,
+    tempo_beats: &[f32],
+    stop_beats: &[f32],
+    delay_beats: &[f32],
+    warp_beats: &[f32],
+    asked: i32,
+) -> Next
+    ensures { λ r. ⌜ r ≡ nextEvent (now («tempo_beats» .entry)) (now («stop_beats» .entry)) (now («delay_beats» .entry)) (now («warp_beats» .entry)) state asked ⌝ }
+{
+    let nothing = Next {
+        row: 2147483647,
+        kind: Event::NotFound,
+    };
+    let end = offer_end(nothing, state.warping, state.end);
+    let tempo = offer(end, tempo_beats, state.tempos, Event::Tempo);
+    let delay = offer(tempo, delay_beats, state.delays, Event::Delay);
+    let marker = earlier(delay, asked, Event::Asked);
+    let stop = offer(marker, stop_beats, state.stops, Event::Stop);
+    offer(stop, warp_beats, state.warps, Event::Warp)
+}
+
+// ---- time
+
+// A number of a list, and a NaN beyond its end.
+fn read_at(values: &[f32], place: usize) -> f64
+    ensures { λ r. ⌜ r ≡ getD (now (values .entry)) place nan ⌝ }
+{
+    if place < values.len() {
+        return std::num::f32_to_f64_with_nan(values[place]);
+    }
+    0.0 / 0.0
+}
+
+// The beats from one row to another. Two i32 may be further apart than an i32.
+fn beats_between(from: i32, to: i32) -> f64
+    ensures { λ r. ⌜ r ≡ beatOf binary64 (to -ℤ from) ⌝ }
+{
+    let rows = (to as i64) - (from as i64);
+    (rows as f64) / (rows::ROWS_PER_BEAT as f64)
+}
+
+// The first tempo, 60 where there is none.
+fn first_tempo(tempo_values: &[f32]) -> f64
+    ensures { λ r. ⌜ r ≡ firstOr sixty (now («tempo_values» .entry)) ⌝ }
+{
+    if tempo_values.len() == 0 {
+        return 60.0;
+    }
+    std::num::f32_to_f64_with_nan(tempo_values[0])
+}
+
+// The tempo at a beat: of the leading entries at or before it the last, else another.
+fn last_up_to(beat: f64, other: f64, tempo_beats: &[f32], tempo_values: &[f32]) -> f64
+    ensures { λ r. ⌜ r ≡ lastUpTo beat other (now («tempo_beats» .entry)) (now («tempo_values» .entry)) ⌝ }
+{
+    let mut tempo = other;
+    let mut i = 0;
+    while i < tempo_beats.len() {
+        if i >= tempo_values.len() {
+            return tempo;
+        }
+        let at = std::num::f32_to_f64_with_nan(tempo_beats[i]);
+        if at <= beat {
+            tempo = std::num::f32_to_f64_with_nan(tempo_values[i]);
+            i += 1;
+            continue;
+        }
+        return tempo;
+    }
+    tempo
+}
+
+fn get_bpm_for_row(row: i32, tempo_beats: &[f32], tempo_values: &[f32]) -> f64
+    ensures { λ r. ⌜ r ≡ tempoAt (now («tempo_beats» .entry)) (now («tempo_values» .entry)) row ⌝ }
+{
+    let beat = rows::note_row_to_beat(row);
+    let first = first_tempo(tempo_values);
+    last_up_to(beat, first, tempo_beats, tempo_values)
+}
+
+// The tempo that a walk begins with where none is passed yet.
+fn early_tempo(state: State, tempo_beats: &[f32], tempo_values: &[f32]) -> f64
+    ensures { λ r. ⌜ r ≡ earlyTempo (now («tempo_beats» .entry)) (now («tempo_values» .entry)) state ⌝ }
+{
+    let place = state.tempos;
+    if place == 0 {
+        return get_bpm_for_row(state.row, tempo_beats, tempo_values);
+    }
+    0.0
+}
+
+// The last tempo passed, before any the early one.
+fn tempo_in_force(early: f64, tempo_values: &[f32], place: usize) -> f64
+    ensures { λ r. ⌜ r ≡ inForce early (now («tempo_values» .entry)) place ⌝ }
+{
+    if place == 0 {
+        return early;
+    }
+    read_at(tempo_values, place - 1)
+}
+
+fn time_to(state: State, early: f64, tempo_values: &[f32], row: i32) -> f64
+    ensures { λ r. ⌜ r ≡ timeTo early (now («tempo_values» .entry)) state row ⌝ }
+{
+    let warping = state.warping;
+    if warping {
+        return 0.0;
+    }
+    let beats = beats_between(state.row, row);
+    let tempo = tempo_in_force(early, tempo_values, state.tempos);
+    beats / (tempo / 60.0)
+}
+
+// ---- passing an event
+
+fn larger_of(old: f64, new: f64) -> f64
+    ensures { λ r. ⌜ r ≡ larger old new ⌝ }
+{
+    if old < new {
+        return new;
+    }
+    old
+}
+
+fn pass_warp_end(mut state: State, row: i32, time: f64) -> State
+    ensures { λ r. ⌜ r ≡ afterWarpEnd state row time ⌝ }
+{
+    state.row = row;
+    state.time = time;
+    state.warping = false;
+    state
+}
+
+fn pass_tempo(mut state: State, row: i32, time: f64) -> State
+    requires { ⌜ state .tempos < 2 ^ 63 ⌝ }
+    ensures { λ r. ⌜ r ≡ afterTempo state row time ⌝ }
+{
+    state.row = row;
+    state.time = time;
+    state.tempos = state.tempos + 1;
+    state
+}
+
+fn pass_delay(mut state: State, row: i32, time: f64, delay_values: &[f32]) -> State
+    requires { ⌜ state .delays < 2 ^ 63 ⌝ }
+    ensures { λ r. ⌜ r ≡ afterDelay state row time (now («delay_values» .entry)) ⌝ }
+{
+    let later = time + read_at(delay_values, state.delays);
+    state.row = row;
+    state.time = later;
+    state.delays = state.delays + 1;
+    state
+}
+
+fn pass_stop(mut state: State, row: i32, time: f64, stop_values: &[f32]) -> State
+    requires { ⌜ state .stops < 2 ^ 63 ⌝ }
+    ensures { λ r. ⌜ r ≡ afterStop state row time (now («stop_values» .entry)) ⌝ }
+{
+    let later = time + read_at(stop_values, state.stops);
+    state.row = row;
+    state.time = later;
+    state.stops = state.stops + 1;
+    state
+}
+
+// The end is the larger of the old one and the warp's own; it is not held at the warp's start.
+fn pass_warp(
+    mut state: State,
+    row: i32,
+    time: f64,
+    warp_beats: &[f32],
+    warp_lengths: &[f32],
+) -> State
+    requires { ⌜ state .warps < 2 ^ 63 ⌝ }
+    ensures { λ r. ⌜ r ≡ afterWarp state row time (now («warp_beats» .entry)) (now («warp_lengths» .entry)) ⌝ }
+{
+    let end = larger_of(
+        state.end,
+        read_at(warp_beats, state.warps) + read_at(warp_lengths, state.warps),
+    );
+    state.row = row;
+    state.time = time;
+    state.end = end;
+    state.warps = state.warps + 1;
+    state.warping = true;
+    state
+}
+
+// Passes one event. Nothing else does.
+fn pass_event(
+    state: State,
+    next: Next,
+    early: f64,
+    tempo_values: &[f32],
+    stop_values: &[f32],
+    delay_values: &[f32],
+    warp_beats: &[f32],
+    warp_lengths: &[f32],
+) -> State
+    requires { ⌜ CanMove state (next .kind) ⌝ }
+    ensures { λ r. ⌜ r ≡ Passing·passed early (now («tempo_values» .entry)) (now («stop_values» .entry)) (now («delay_values» .entry)) (now («warp_beats» .entry)) (now («warp_lengths» .entry)) state next ⌝ }
+{
+    let row = next.row;
+    let time = state.time + time_to(state, early, tempo_values, row);
+    let kind = next.kind;
+    match kind {
+        Event::WarpEnd => pass_warp_end(state, row, time),
+        Event::Tempo => pass_tempo(state, row, time),
+        Event::Delay => pass_delay(state, row, time, delay_values),
+        Event::Stop => pass_stop(state, row, time, stop_values),
+        Event::Warp => pass_warp(state, row, time, warp_beats, warp_lengths),
+        Event::Asked => state,
+        Event::NotFound => state,
+    }
+}
+
+// ---- the walk
+
+// The state after the last event passed, how many were passed, and the time of the asked beat.
+pub struct Walked {
+    pub state: State,
+    pub passed: usize,
+    pub time: f64,
+}
+
+fn is_event(next: Next) -> bool
+    ensures { λ r. ⌜ r ≡ isEvent (next .kind) ⌝ }
+{
+    let kind = next.kind;
+    match kind {
+        Event::WarpEnd => true,
+        Event::Tempo => true,
+        Event::Delay => true,
+        Event::Stop => true,
+        Event::Warp => true,
+        Event::Asked => false,
+        Event::NotFound => false,
+    }
+}
+
+fn is_nothing(next: Next) -> bool
+    ensures { λ r. ⌜ r ≡ isNothing (next .kind) ⌝ }
+{
+    let kind = next.kind;
+    match kind {
+        Event::WarpEnd => false,
+        Event::Tempo => false,
+        Event::Delay => false,
+        Event::Stop => false,
+        Event::Warp => false,
+        Event::Asked => false,
+        Event::NotFound => true,
+    }
+}
+
+// The time of what ends the walk.
+fn time_at(state: State, next: Next, early: f64, tempo_values: &[f32]) -> f64
+    ensures { λ r. ⌜ r ≡ timeAt early (now («tempo_values» .entry)) state next ⌝ }
+{
+    if is_nothing(next) {
+        return state.time;
+    }
+    state.time + time_to(state, early, tempo_values, next.row)
+}
+
+// From a state on, every event before the asked beat.
+pub fn walk_to(
+    start: State,
+    asked: i32,
+    tempo_beats: &[f32],
+    tempo_values: &[f32],
+    stop_beats: &[f32],
+    stop_values: &[f32],
+    delay_beats: &[f32],
+    delay_values: &[f32],
+    warp_beats: &[f32],
+    warp_lengths: &[f32],
+) -> Walked
+    ensures { λ r. ⌜ r ≡ walk (timing (now («tempo_beats» .entry)) (now («tempo_values» .entry)) (now («stop_beats» .entry)) (now («stop_values» .entry)) (now («delay_beats» .entry)) (now («delay_values» .entry)) (now («warp_beats» .entry)) (now («warp_lengths» .entry))) asked start ⌝ }
+{
+    let early = early_tempo(start, tempo_beats, tempo_values);
+    let mut state = start;
+    let mut passed: usize = 0;
+    loop {
+        let next = find_next_event(
+            state,
+            tempo_beats,
+            stop_beats,
+            delay_beats,
+            warp_beats,
+            asked,
+        );
+        let more = is_event(next);
+        if !more {
+            let time = time_at(state, next, early, tempo_values);
+            return Walked {
+                state,
+                passed,
+                time,
+            };
+        }
+        state = pass_event(
+            state,
+            next,
+            early,
+            tempo_values,
+            stop_values,
+            delay_values,
+            warp_beats,
+            warp_lengths,
+        );
+        passed = passed + 1;
+    }
+}
