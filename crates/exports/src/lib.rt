@@ -1,5 +1,8 @@
 // The calls of `ieee` and `rows` under C names, for native programs to link: each by itself, and in a loop over lent columns.
 // After them the calls that tidy lists.
+use clock::Answer;
+use clock::Cursor;
+use clock::Made;
 use columns::Outcome;
 use limits::Kind;
 ghost use mathlib.Core.Path.{_≡_};
@@ -12,6 +15,9 @@ ghost use Rattle.columns.specs.Each.{laidEach};
 ghost use Rattle.columns.specs.Laying.{LaidPair};
 ghost use Rattle.limits.specs.Numbers.{rangeOf};
 ghost use Rattle.limits.specs.Refusals.{listNumber};
+ghost use Rattle.walk.specs.Events.{timing};
+ghost use Rattle.timing_tests.specs.TimingNumbers.{timingNumber};
+ghost use Rattle.clock.specs.Question.{freshCursor, made, playerQuestion, question};
 ghost use Rattle.tidy_rows.specs.RowTidying.{RowsTidied};
 ghost use Rattle.tidy_tempos.specs.TempoTidying.{tidyTempos};
 
@@ -216,4 +222,137 @@ pub extern "C" fn marrighentu_tidy_bpms(
     ensures { λ r. ⌜ LaidPair (listNumber (rangeOf Kind.Beat) (rangeOf Kind.TidyTempo) (now (beats .entry)) (now (tempos .entry))) (tidyTempos (now (beats .entry)) (now (tempos .entry))) r (now («out_beats» .entry)) (now («out_beats» .exit)) (now («out_tempos» .entry)) (now («out_tempos» .exit)) ⌝ }
 {
     tidy_tempos::tidy_bpms(beats, tempos, out_beats, out_tempos)
+}
+
+// ---- the clock
+
+#[no_mangle]
+pub extern "C" fn marrighentu_cursor_new(offset: f64, global: f64) -> Made
+    ensures { λ r. ⌜ r ≡ made offset global ⌝ }
+{
+    Cursor::new(offset, global)
+}
+
+#[no_mangle]
+pub extern "C" fn marrighentu_check_timing(
+    tempo_beats: &[f32],
+    tempo_values: &[f32],
+    stop_beats: &[f32],
+    stop_values: &[f32],
+    delay_beats: &[f32],
+    delay_values: &[f32],
+    warp_beats: &[f32],
+    warp_lengths: &[f32],
+    offset: f64,
+    global: f64,
+) -> u32
+    ensures { λ r. ⌜ r ≡ timingNumber (timing (now («tempo_beats» .entry)) (now («tempo_values» .entry)) (now («stop_beats» .entry)) (now («stop_values» .entry)) (now («delay_beats» .entry)) (now («delay_values» .entry)) (now («warp_beats» .entry)) (now («warp_lengths» .entry))) offset global ⌝ }
+{
+    timing_tests::check_timing(
+        tempo_beats,
+        tempo_values,
+        stop_beats,
+        stop_values,
+        delay_beats,
+        delay_values,
+        warp_beats,
+        warp_lengths,
+        offset,
+        global,
+    )
+}
+
+#[no_mangle]
+pub extern "C" fn marrighentu_time_for_beat(
+    cursor: Cursor,
+    tempo_beats: &[f32],
+    tempo_values: &[f32],
+    stop_beats: &[f32],
+    stop_values: &[f32],
+    delay_beats: &[f32],
+    delay_values: &[f32],
+    warp_beats: &[f32],
+    warp_lengths: &[f32],
+    offset: f64,
+    global: f64,
+    beat: f64,
+) -> Answer
+    ensures { λ r. ⌜ r ≡ question (timing (now («tempo_beats» .entry)) (now («tempo_values» .entry)) (now («stop_beats» .entry)) (now («stop_values» .entry)) (now («delay_beats» .entry)) (now («delay_values» .entry)) (now («warp_beats» .entry)) (now («warp_lengths» .entry))) cursor offset global beat ⌝ }
+{
+    cursor.time_for_beat(
+        tempo_beats,
+        tempo_values,
+        stop_beats,
+        stop_values,
+        delay_beats,
+        delay_values,
+        warp_beats,
+        warp_lengths,
+        offset,
+        global,
+        beat,
+    )
+}
+
+#[no_mangle]
+pub extern "C" fn marrighentu_time_for_beat_checked(
+    cursor: Cursor,
+    tempo_beats: &[f32],
+    tempo_values: &[f32],
+    stop_beats: &[f32],
+    stop_values: &[f32],
+    delay_beats: &[f32],
+    delay_values: &[f32],
+    warp_beats: &[f32],
+    warp_lengths: &[f32],
+    offset: f64,
+    global: f64,
+    beat: f64,
+) -> Answer
+    ensures { λ r. ⌜ r ≡ playerQuestion (timing (now («tempo_beats» .entry)) (now («tempo_values» .entry)) (now («stop_beats» .entry)) (now («stop_values» .entry)) (now («delay_beats» .entry)) (now («delay_values» .entry)) (now («warp_beats» .entry)) (now («warp_lengths» .entry))) cursor offset global beat ⌝ }
+{
+    cursor.time_for_beat_checked(
+        tempo_beats,
+        tempo_values,
+        stop_beats,
+        stop_values,
+        delay_beats,
+        delay_values,
+        warp_beats,
+        warp_lengths,
+        offset,
+        global,
+        beat,
+    )
+}
+
+#[no_mangle]
+pub extern "C" fn marrighentu_get_time_for_beat(
+    tempo_beats: &[f32],
+    tempo_values: &[f32],
+    stop_beats: &[f32],
+    stop_values: &[f32],
+    delay_beats: &[f32],
+    delay_values: &[f32],
+    warp_beats: &[f32],
+    warp_lengths: &[f32],
+    offset: f64,
+    global: f64,
+    beat: f64,
+) -> Answer
+    ensures { λ r. ⌜ r ≡ question (timing (now («tempo_beats» .entry)) (now («tempo_values» .entry)) (now («stop_beats» .entry)) (now («stop_values» .entry)) (now («delay_beats» .entry)) (now («delay_values» .entry)) (now («warp_beats» .entry)) (now («warp_lengths» .entry))) (freshCursor offset global) offset global beat ⌝ }
+{
+    clock::get_time_for_beat(
+        tempo_beats,
+        tempo_values,
+        stop_beats,
+        stop_values,
+        delay_beats,
+        delay_values,
+        warp_beats,
+        warp_lengths,
+        offset,
+        global,
+        beat,
+    )
 }
