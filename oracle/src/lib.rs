@@ -18,6 +18,9 @@ use missing::{nps, parse, resolve_difficulty_label, stats, supported_stepstype_l
 
 pub mod calls;
 pub mod cases;
+pub mod charts;
+#[cfg(feature = "port")]
+pub mod clock;
 pub mod lists;
 pub mod numbers;
 pub mod random;
