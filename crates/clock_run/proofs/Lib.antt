@@ -1,0 +1,2 @@
+pub mod BeatByBeat
+pub mod PlacesInColumns
