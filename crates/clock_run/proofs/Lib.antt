@@ -1,2 +1,4 @@
 pub mod BeatByBeat
 pub mod PlacesInColumns
+pub mod RunOutcome
+pub mod OneOutcome
