@@ -74,6 +74,40 @@ port! {
     fn time_for_beat(cursor: Cursor; beat: f64) -> Answer = "marrighentu_time_for_beat";
     fn time_for_beat_checked(cursor: Cursor; beat: f64) -> Answer = "marrighentu_time_for_beat_checked";
     fn fresh_time_for_beat(; beat: f64) -> Answer = "marrighentu_get_time_for_beat";
+    fn run_over(cursor: Cursor; beats: *const f64, beats_len: usize, numbers: *mut u32, numbers_len: usize, times: *mut f64, times_len: usize, counts: *mut usize, counts_len: usize) -> Numbered = "marrighentu_run";
+}
+
+/// The three columns of a run.
+#[derive(Clone, Debug)]
+pub struct Columns {
+    pub numbers: Vec<u32>,
+    pub times: Vec<f64>,
+    pub counts: Vec<usize>,
+}
+
+/// A run over the front of each column, as long as its room.
+#[inline(always)]
+pub fn run(
+    cursor: Cursor,
+    chart: &Chart,
+    beats: &[f64],
+    columns: &mut Columns,
+    [numbers, times, counts]: [usize; 3],
+) -> Numbered {
+    let (numbers, times, counts) =
+        (&mut columns.numbers[..numbers], &mut columns.times[..times], &mut columns.counts[..counts]);
+    run_over(
+        cursor,
+        chart,
+        beats.as_ptr(),
+        beats.len(),
+        numbers.as_mut_ptr(),
+        numbers.len(),
+        times.as_mut_ptr(),
+        times.len(),
+        counts.as_mut_ptr(),
+        counts.len(),
+    )
 }
 
 pub fn cursor_new(offset: f64, global: f64) -> Numbered {
@@ -262,6 +296,25 @@ fn lowest(numbers: impl IntoIterator<Item = u32>) -> u32 {
     numbers.into_iter().filter(|number| *number != 0).min().unwrap_or(0)
 }
 
+impl Columns {
+    /// Numbers of every kind, with some places past the rooms.
+    fn by_chance([numbers, times, counts]: [usize; 3], random: &mut Random) -> Self {
+        let mut column = |room: usize| (0..room + PAST).map(|_| random.bits()).collect::<Vec<_>>();
+        Self {
+            numbers: column(numbers).into_iter().map(|bits| bits as u32).collect(),
+            times: column(times).into_iter().map(f64::from_bits).collect(),
+            counts: column(counts).into_iter().map(|bits| bits as usize).collect(),
+        }
+    }
+
+    fn same(&self, other: &Self) -> bool {
+        let times = || self.times.iter().zip(&other.times).all(|(one, other)| one.answer() == other.answer());
+        self.numbers == other.numbers && self.counts == other.counts && self.times.len() == other.times.len() && times()
+    }
+}
+
+const PAST: usize = 4;
+
 // ---- the comparison
 
 #[derive(Default)]
@@ -302,10 +355,17 @@ impl Asked {
     }
 
     fn answer(&self, cursor: Cursor, beat: f64) -> Answer {
-        let asked = if beat_allowed(beat) { 0 } else { 3 };
-        match (lowest([self.number, asked, cursor.number(self.chart.lengths())]), &self.timing) {
-            (0, Some(timing)) => expected(&self.chart, timing, cursor, beat),
-            (number, _) => Answer::refused(number, cursor),
+        match lowest([self.number, cursor.number(self.chart.lengths())]) {
+            number if number == 0 || number > 3 && !beat_allowed(beat) => self.asked(cursor, beat),
+            number => Answer::refused(number, cursor),
+        }
+    }
+
+    /// The beat's own number decides.
+    fn asked(&self, cursor: Cursor, beat: f64) -> Answer {
+        match &self.timing {
+            Some(timing) if beat_allowed(beat) => expected(&self.chart, timing, cursor, beat),
+            _ => Answer::refused(3, cursor),
         }
     }
 
@@ -324,6 +384,30 @@ impl Asked {
         wanted.cursor
     }
 
+    /// A run: its number, its cursor, and the three columns to their last place and some places past it.
+    fn run(&self, cursor: Cursor, beats: &[f64], rooms: [usize; 3], random: &mut Random, found: &mut Found) {
+        let chart = &self.chart;
+        let mut wanted = Columns::by_chance(rooms, random);
+        let mut got = wanted.clone();
+        let room = if rooms.iter().any(|room| *room < beats.len()) { 7 } else { 0 };
+        let mut ran = Numbered { number: lowest([self.number, room, cursor.number(chart.lengths())]), cursor };
+        if ran.number == 0 {
+            for (place, beat) in beats.iter().enumerate() {
+                let answer = self.asked(ran.cursor, *beat);
+                (wanted.numbers[place], wanted.times[place], wanted.counts[place]) =
+                    (answer.number, answer.time, answer.count);
+                ran.cursor = answer.cursor;
+            }
+        }
+        let answer = run(cursor, chart, beats, &mut got, rooms);
+        let same = answer.number == ran.number && answer.cursor.same(ran.cursor) && got.same(&wanted);
+        found.check(same, || {
+            format!(
+                "{chart:?}, {cursor:?}, beats {beats:?}, rooms {rooms:?}: {ran:?} {wanted:?}, port {answer:?} {got:?}"
+            )
+        });
+    }
+
     fn fresh(&self, beat: f64, found: &mut Found) {
         let chart = &self.chart;
         let wanted = match (lowest([self.number, if beat_allowed(beat) { 0 } else { 3 }]), &self.timing) {
@@ -340,7 +424,7 @@ impl Asked {
 
 pub fn compare_all(work: Work, total: &mut Total) {
     let mut random = Random::new(work.seed, "clock");
-    let [mut timings, mut questions, mut fresh, mut made_up] = [(); 4].map(|()| Found::default());
+    let [mut timings, mut questions, mut fresh, mut made_up, mut runs] = [(); 5].map(|()| Found::default());
     for turn in 0..work.lists() / 4 {
         let asked = Asked::new(Chart::by_chance(turn, &mut random));
         let chart = &asked.chart;
@@ -362,9 +446,27 @@ pub fn compare_all(work: Work, total: &mut Total) {
         for beat in chart.asked(12, &mut random) {
             asked.question(Cursor::made_up(chart.lengths(), &mut random), beat, &mut made_up);
         }
+        for _ in 0..3 {
+            let count = random.below(60) as usize;
+            let beats = chart.asked(count, &mut random);
+            let from = match random.below(3) {
+                0 => cursor,
+                1 => Cursor::made_up(chart.lengths(), &mut random),
+                _ => Cursor::fresh(wanted.1[0], wanted.1[1]),
+            };
+            let rooms = match random.below(8) {
+                0 => [count.saturating_sub(1), count, count + 1],
+                1 => [count + 3, count.saturating_sub(1), count],
+                2 => [count, count, count.saturating_sub(1)],
+                3 => [count, 0, 70],
+                _ => [0, 1, 2].map(|_| count + random.below(5) as usize),
+            };
+            asked.run(from, &beats, rooms, &mut random, &mut runs);
+        }
     }
     timings.add("check_timing and Cursor::new", total);
     questions.add("time_for_beat, both forms", total);
     fresh.add("get_time_for_beat", total);
     made_up.add("time_for_beat of made-up cursors", total);
+    runs.add("runs", total);
 }

@@ -1,8 +1,9 @@
 // The calls of `ieee` and `rows` under C names, for native programs to link: each by itself, and in a loop over lent columns.
-// After them the calls that tidy lists.
+// After them the calls that tidy lists, and the clock.
 use clock::Answer;
 use clock::Cursor;
 use clock::Made;
+use clock_run::Ran;
 use columns::Outcome;
 use limits::Kind;
 ghost use mathlib.Core.Path.{_≡_};
@@ -18,6 +19,7 @@ ghost use Rattle.limits.specs.Refusals.{listNumber};
 ghost use Rattle.walk.specs.Events.{timing};
 ghost use Rattle.timing_tests.specs.TimingNumbers.{timingNumber};
 ghost use Rattle.clock.specs.Question.{freshCursor, made, playerQuestion, question};
+ghost use Rattle.clock_run.specs.Run.{RunLaid};
 ghost use Rattle.tidy_rows.specs.RowTidying.{RowsTidied};
 ghost use Rattle.tidy_tempos.specs.TempoTidying.{tidyTempos};
 
@@ -354,5 +356,44 @@ pub extern "C" fn marrighentu_get_time_for_beat(
         offset,
         global,
         beat,
+    )
+}
+
+#[no_mangle]
+pub extern "C" fn marrighentu_run(
+    cursor: Cursor,
+    tempo_beats: &[f32],
+    tempo_values: &[f32],
+    stop_beats: &[f32],
+    stop_values: &[f32],
+    delay_beats: &[f32],
+    delay_values: &[f32],
+    warp_beats: &[f32],
+    warp_lengths: &[f32],
+    offset: f64,
+    global: f64,
+    beats: &[f64],
+    numbers: &mut [u32],
+    times: &mut [f64],
+    counts: &mut [usize],
+) -> Ran
+    ensures { λ r. ⌜ RunLaid (timing (now («tempo_beats» .entry)) (now («tempo_values» .entry)) (now («stop_beats» .entry)) (now («stop_values» .entry)) (now («delay_beats» .entry)) (now («delay_values» .entry)) (now («warp_beats» .entry)) (now («warp_lengths» .entry))) offset global cursor (now (beats .entry)) r (now (numbers .entry)) (now (numbers .exit)) (now (times .entry)) (now (times .exit)) (now (counts .entry)) (now (counts .exit)) ⌝ }
+{
+    clock_run::run(
+        cursor,
+        tempo_beats,
+        tempo_values,
+        stop_beats,
+        stop_values,
+        delay_beats,
+        delay_values,
+        warp_beats,
+        warp_lengths,
+        offset,
+        global,
+        beats,
+        numbers,
+        times,
+        counts,
     )
 }
