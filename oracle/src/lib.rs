@@ -22,6 +22,8 @@ pub mod charts;
 #[cfg(feature = "port")]
 pub mod clock;
 pub mod lists;
+#[cfg(feature = "port")]
+pub mod lookups;
 pub mod numbers;
 pub mod random;
 #[cfg(feature = "port")]

@@ -1,11 +1,13 @@
 // The calls of `ieee` and `rows` under C names, for native programs to link: each by itself, and in a loop over lent columns.
-// After them the calls that tidy lists, and the clock.
+// After them the calls that tidy lists, the row store and the lookups, and the clock.
 use clock::Answer;
 use clock::Cursor;
 use clock::Made;
 use clock_run::Ran;
 use columns::Outcome;
 use limits::Kind;
+use lookup::Looked;
+use row_store::Stored;
 ghost use mathlib.Core.Path.{_≡_};
 ghost use Prim.Native.Nat.{min};
 ghost use lib.Ieee.{Float, binary32, binary64};
@@ -14,7 +16,9 @@ ghost use Rattle.ieee.specs.Narrowing.{narrow};
 ghost use Rattle.rows.specs.Rows.{row, beatOf, quantized, quantized32};
 ghost use Rattle.columns.specs.Each.{laidEach};
 ghost use Rattle.columns.specs.Laying.{LaidPair};
-ghost use Rattle.limits.specs.Numbers.{rangeOf};
+ghost use Rattle.limits.specs.Numbers.{rangeOf, inRange, every, rowIn};
+ghost use Rattle.row_store.specs.RowStore.{RowsStored};
+ghost use Rattle.lookup.specs.Lookups.{isWarped, isFake, isJudgable, askedRow, warpNumber, fakeNumber, judgableNumber, looked, Judged};
 ghost use Rattle.limits.specs.Refusals.{listNumber};
 ghost use Rattle.walk.specs.Events.{timing};
 ghost use Rattle.timing_tests.specs.TimingNumbers.{timingNumber};
@@ -224,6 +228,186 @@ pub extern "C" fn marrighentu_tidy_bpms(
     ensures { λ r. ⌜ LaidPair (listNumber (rangeOf Kind.Beat) (rangeOf Kind.TidyTempo) (now (beats .entry)) (now (tempos .entry))) (tidyTempos (now (beats .entry)) (now (tempos .entry))) r (now («out_beats» .entry)) (now («out_beats» .exit)) (now («out_tempos» .entry)) (now («out_tempos» .exit)) ⌝ }
 {
     tidy_tempos::tidy_bpms(beats, tempos, out_beats, out_tempos)
+}
+
+// ---- the row store and the lookups
+
+#[no_mangle]
+pub extern "C" fn marrighentu_build_segment_row_storage(
+    stop_beats: &[f32],
+    stop_values: &[f32],
+    delay_beats: &[f32],
+    delay_values: &[f32],
+    warp_beats: &[f32],
+    warp_lengths: &[f32],
+    fake_beats: &[f32],
+    fake_lengths: &[f32],
+    rows: &mut [i32],
+) -> Stored
+    ensures { λ r. ⌜ RowsStored (now («stop_beats» .entry)) (now («stop_values» .entry)) (now («delay_beats» .entry)) (now («delay_values» .entry)) (now («warp_beats» .entry)) (now («warp_lengths» .entry)) (now («fake_beats» .entry)) (now («fake_lengths» .entry)) r (now (rows .entry)) (now (rows .exit)) ⌝ }
+{
+    row_store::build_segment_row_storage(
+        stop_beats,
+        stop_values,
+        delay_beats,
+        delay_values,
+        warp_beats,
+        warp_lengths,
+        fake_beats,
+        fake_lengths,
+        rows,
+    )
+}
+
+#[no_mangle]
+pub extern "C" fn marrighentu_is_warp_at_row(
+    stop_beats: &[f32],
+    stop_values: &[f32],
+    delay_beats: &[f32],
+    delay_values: &[f32],
+    warp_beats: &[f32],
+    warp_lengths: &[f32],
+    row: i32,
+) -> Looked
+    ensures { λ r. ⌜ r ≡ looked (warpNumber (now («stop_beats» .entry)) (now («stop_values» .entry)) (now («delay_beats» .entry)) (now («delay_values» .entry)) (now («warp_beats» .entry)) (now («warp_lengths» .entry)) (rowIn row)) (isWarped (now («stop_beats» .entry)) (now («stop_values» .entry)) (now («delay_beats» .entry)) (now («delay_values» .entry)) (now («warp_beats» .entry)) (now («warp_lengths» .entry)) row) ⌝ }
+{
+    lookup::is_warp_at_row(
+        stop_beats,
+        stop_values,
+        delay_beats,
+        delay_values,
+        warp_beats,
+        warp_lengths,
+        row,
+    )
+}
+
+#[no_mangle]
+pub extern "C" fn marrighentu_is_warp_at_beat(
+    stop_beats: &[f32],
+    stop_values: &[f32],
+    delay_beats: &[f32],
+    delay_values: &[f32],
+    warp_beats: &[f32],
+    warp_lengths: &[f32],
+    beat: f64,
+) -> Looked
+    ensures { λ r. ⌜ r ≡ looked (warpNumber (now («stop_beats» .entry)) (now («stop_values» .entry)) (now («delay_beats» .entry)) (now («delay_values» .entry)) (now («warp_beats» .entry)) (now («warp_lengths» .entry)) (inRange (rangeOf Kind.Beat) beat)) (isWarped (now («stop_beats» .entry)) (now («stop_values» .entry)) (now («delay_beats» .entry)) (now («delay_values» .entry)) (now («warp_beats» .entry)) (now («warp_lengths» .entry)) (askedRow beat)) ⌝ }
+{
+    lookup::is_warp_at_beat(
+        stop_beats,
+        stop_values,
+        delay_beats,
+        delay_values,
+        warp_beats,
+        warp_lengths,
+        beat,
+    )
+}
+
+#[no_mangle]
+pub extern "C" fn marrighentu_is_fake_at_row(
+    fake_beats: &[f32],
+    fake_lengths: &[f32],
+    row: i32,
+) -> Looked
+    ensures { λ r. ⌜ r ≡ looked (fakeNumber (now («fake_beats» .entry)) (now («fake_lengths» .entry)) (rowIn row)) (isFake (now («fake_beats» .entry)) (now («fake_lengths» .entry)) row) ⌝ }
+{
+    lookup::is_fake_at_row(fake_beats, fake_lengths, row)
+}
+
+#[no_mangle]
+pub extern "C" fn marrighentu_is_fake_at_beat(
+    fake_beats: &[f32],
+    fake_lengths: &[f32],
+    beat: f64,
+) -> Looked
+    ensures { λ r. ⌜ r ≡ looked (fakeNumber (now («fake_beats» .entry)) (now («fake_lengths» .entry)) (inRange (rangeOf Kind.Beat) beat)) (isFake (now («fake_beats» .entry)) (now («fake_lengths» .entry)) (askedRow beat)) ⌝ }
+{
+    lookup::is_fake_at_beat(fake_beats, fake_lengths, beat)
+}
+
+#[no_mangle]
+pub extern "C" fn marrighentu_is_judgable_at_row(
+    stop_beats: &[f32],
+    stop_values: &[f32],
+    delay_beats: &[f32],
+    delay_values: &[f32],
+    warp_beats: &[f32],
+    warp_lengths: &[f32],
+    fake_beats: &[f32],
+    fake_lengths: &[f32],
+    row: i32,
+) -> Looked
+    ensures { λ r. ⌜ r ≡ looked (judgableNumber (now («stop_beats» .entry)) (now («stop_values» .entry)) (now («delay_beats» .entry)) (now («delay_values» .entry)) (now («warp_beats» .entry)) (now («warp_lengths» .entry)) (now («fake_beats» .entry)) (now («fake_lengths» .entry)) (rowIn row)) (isJudgable (now («stop_beats» .entry)) (now («stop_values» .entry)) (now («delay_beats» .entry)) (now («delay_values» .entry)) (now («warp_beats» .entry)) (now («warp_lengths» .entry)) (now («fake_beats» .entry)) (now («fake_lengths» .entry)) row) ⌝ }
+{
+    lookup::is_judgable_at_row(
+        stop_beats,
+        stop_values,
+        delay_beats,
+        delay_values,
+        warp_beats,
+        warp_lengths,
+        fake_beats,
+        fake_lengths,
+        row,
+    )
+}
+
+#[no_mangle]
+pub extern "C" fn marrighentu_is_judgable_at_beat(
+    stop_beats: &[f32],
+    stop_values: &[f32],
+    delay_beats: &[f32],
+    delay_values: &[f32],
+    warp_beats: &[f32],
+    warp_lengths: &[f32],
+    fake_beats: &[f32],
+    fake_lengths: &[f32],
+    beat: f64,
+) -> Looked
+    ensures { λ r. ⌜ r ≡ looked (judgableNumber (now («stop_beats» .entry)) (now («stop_values» .entry)) (now («delay_beats» .entry)) (now («delay_values» .entry)) (now («warp_beats» .entry)) (now («warp_lengths» .entry)) (now («fake_beats» .entry)) (now («fake_lengths» .entry)) (inRange (rangeOf Kind.Beat) beat)) (isJudgable (now («stop_beats» .entry)) (now («stop_values» .entry)) (now («delay_beats» .entry)) (now («delay_values» .entry)) (now («warp_beats» .entry)) (now («warp_lengths» .entry)) (now («fake_beats» .entry)) (now («fake_lengths» .entry)) (askedRow beat)) ⌝ }
+{
+    lookup::is_judgable_at_beat(
+        stop_beats,
+        stop_values,
+        delay_beats,
+        delay_values,
+        warp_beats,
+        warp_lengths,
+        fake_beats,
+        fake_lengths,
+        beat,
+    )
+}
+
+#[no_mangle]
+pub extern "C" fn marrighentu_judgable_rows(
+    stop_beats: &[f32],
+    stop_values: &[f32],
+    delay_beats: &[f32],
+    delay_values: &[f32],
+    warp_beats: &[f32],
+    warp_lengths: &[f32],
+    fake_beats: &[f32],
+    fake_lengths: &[f32],
+    rows: &[i32],
+    out: &mut [u8],
+) -> Outcome
+    ensures { λ r. ⌜ Judged (judgableNumber (now («stop_beats» .entry)) (now («stop_values» .entry)) (now («delay_beats» .entry)) (now («delay_values» .entry)) (now («warp_beats» .entry)) (now («warp_lengths» .entry)) (now («fake_beats» .entry)) (now («fake_lengths» .entry)) (every rowIn (now (rows .entry)))) (isJudgable (now («stop_beats» .entry)) (now («stop_values» .entry)) (now («delay_beats» .entry)) (now («delay_values» .entry)) (now («warp_beats» .entry)) (now («warp_lengths» .entry)) (now («fake_beats» .entry)) (now («fake_lengths» .entry))) (now (rows .entry)) r (now (out .entry)) (now (out .exit)) ⌝ }
+{
+    lookup::judgable_rows(
+        stop_beats,
+        stop_values,
+        delay_beats,
+        delay_values,
+        warp_beats,
+        warp_lengths,
+        fake_beats,
+        fake_lengths,
+        rows,
+        out,
+    )
 }
 
 // ---- the clock

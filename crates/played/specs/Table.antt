@@ -1,11 +1,13 @@
 -- The played examples that are proved, a line each: what the definitions give is what it is to be.
 use mathlib.Core.Path.{_≡_}
+use mathlib.Core.Bool.{false}
 use mathlib.Core.List.{[], _∷_, map}
 use lib.IntN.{pos}
 use lib.Ieee.{binary32, binary64, neg}
 use Rattle.rows.specs.Rows.{row}
 use Rattle.tidy_rows.specs.RowTidying.{tidyRows}
 use Rattle.tidy_tempos.specs.TempoTidying.{tidyTempos}
+use Rattle.lookup.specs.Lookups.{isWarped, askedRow}
 use Rattle.played.specs.Numbers.{decimal, whole, minus}
 
 pub record Examples : Type 0 where
@@ -17,3 +19,5 @@ pub record Examples : Type 0 where
   -- tempos, tidied: of equal beats the last, moved to 0; and an equal tempo left out
   pub tempos-of-one-beat : tidyTempos (whole 1 ∷ whole 1 ∷ []) (whole 150 ∷ whole 160 ∷ []) ≡ (whole 0, whole 160) ∷ []
   pub tempos-that-change : tidyTempos (whole 0 ∷ whole 4 ∷ whole 8 ∷ []) (whole 120 ∷ whole 120 ∷ whole 60 ∷ []) ≡ (whole 0, whole 120) ∷ (whole 8, whole 60) ∷ []
+  -- lookups: of two warps only the later is tested, though the earlier covers the beat
+  pub later-warp-tested : isWarped [] [] [] [] (whole 0 ∷ whole 4 ∷ []) (whole 8 ∷ whole 1 ∷ []) (askedRow (whole 6)) ≡ false

@@ -2,8 +2,10 @@
 
 use oracle::calls::{self, Call, Visit};
 use oracle::cases::Cases;
+use oracle::lookups::{self, Lists};
 use oracle::random::Random;
 use oracle::tidying::{self, Rows, Tempos, Tidying};
+use oracle::timing::probe;
 use std::hint::black_box;
 use std::time::{Duration, Instant};
 
@@ -25,6 +27,9 @@ fn main() {
     }
     for entries in [16, 256] {
         ORDERS[..2].iter().for_each(|order| bench.tidying::<Tempos>(entries, *order));
+    }
+    for entries in [16, 256] {
+        bench.lookups(entries);
     }
     println!("worst ratio {:.2} ({})", bench.worst.0, bench.worst.1);
 }
@@ -65,6 +70,49 @@ impl Bench {
                 black_box(T::port(black_box(&beats), black_box(&values), &mut out_beats, &mut out_values));
             },
             || drop(black_box(T::original(black_box(&list).clone()))),
+        );
+    }
+
+    /// Four lists of entries a beat apart, 2,000 rows that rise through them, and one row.
+    fn lookups(&mut self, entries: usize) {
+        let mut lists = Lists::default();
+        for (list, (beats, values)) in lists.columns.iter_mut().enumerate() {
+            *beats = (0..entries).map(|place| place as f32 + list as f32 / 4.0).collect();
+            *values = vec![0.4; entries];
+        }
+        let (segments, timing) = (lists.segments(), lists.timing());
+        let mut room = vec![0; 4 * entries];
+        self.line(
+            &format!("build_segment_row_storage of 4 x {entries}"),
+            1,
+            || {
+                black_box(lookups::store(black_box(&lists), &mut room));
+            },
+            || {
+                let [stops, delays, warps, fakes] = black_box(&segments);
+                drop(black_box(probe::build_segment_row_storage(stops, delays, warps, fakes)));
+            },
+        );
+        let rows: Vec<i32> = (0..2_000).map(|place| (place * entries / 2_000 * 48 + place % 48) as i32).collect();
+        let (mut port, mut original) = (vec![0; rows.len()], vec![0; rows.len()]);
+        self.line(
+            &format!("judgable_rows of 2,000 rows over 4 x {entries}"),
+            1,
+            || {
+                black_box(lookups::judge(black_box(&lists), black_box(&rows), &mut port));
+            },
+            || probe::judgable_rows(black_box(&timing), black_box(&rows), black_box(&mut original)),
+        );
+        let row = entries as i32 * 24 + 5;
+        self.line(
+            &format!("is_judgable_at_row over 4 x {entries}, tests of the lists and all"),
+            1,
+            || {
+                black_box(lookups::judgable_at_row(black_box(&lists), black_box(row)));
+            },
+            || {
+                black_box(probe::is_judgable_at_row(black_box(&timing), black_box(row)));
+            },
         );
     }
 }

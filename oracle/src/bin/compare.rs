@@ -3,6 +3,7 @@
 use oracle::calls::{self, Call, Visit, called};
 use oracle::cases::{Cases, LAST_ROW, Work};
 use oracle::clock;
+use oracle::lookups;
 use oracle::numbers::Number;
 use oracle::random::Random;
 use oracle::tally::{Tally, Total};
@@ -19,6 +20,7 @@ fn main() -> ExitCode {
     there_and_back::<called::note_row_to_beat, called::beat_to_note_row>(&mut total);
     there_and_back::<called::note_row_to_beat_f32, called::beat_to_note_row_f32>(&mut total);
     tidying::compare_all(work, &mut total);
+    lookups::compare_all(work, &mut total);
     clock::compare_all(work, &mut total);
     if total.end() { ExitCode::SUCCESS } else { ExitCode::FAILURE }
 }

@@ -1,0 +1,62 @@
+-- Many rows: a cursor goes on or restarts, every row is tested, and the outcome. Assumes nothing.
+use Prim.Native.Nat.{ℕ, suc, _+_, _≤_, _<_}
+use mathlib.Core.Path.{_≡_, refl, sym, ap, _∙_}
+use mathlib.Core.Bool.{Bool, true, false}
+use mathlib.Core.List.{List, [], _∷_, map}
+use mathlib.Core.Logic.{⊎-elim}
+use native.Mathlib.Omega.{arith}
+use native.Mathlib.Numerals.{add-one}
+use borrow.Author.Tests.{lt-ltb, le-ltb, eq-eqb, ne-eqb, le-leb, lt-leb}
+use lib.Dec.{ltb}
+use lib.IntN.{ℤ}
+use lib.ListN.{length, drop, getD, drop-of-length-le}
+use lib.Seq.{drop-cons}
+use lib.Ieee.{Float}
+use Rattle.picks.specs.Pick.{pick}
+use Rattle.limits.specs.Numbers.{every}
+use Rattle.order.specs.Order.{laid}
+use Rattle.order.proofs.Compare.{below?}
+use Rattle.columns.specs.Laying.{roomNumber, refusedBy, given}
+use Rattle.columns.specs.Each.{laidEach}
+use Rattle.columns.proofs.EachOverFront.{each-over-front}
+use Rattle.lookup.specs.Lookups.{byte, Judged}
+use Rattle.lookup.specs.Finding.{Passed}
+
+-- what a cursor passed for an earlier row, it has passed for a later one; and nothing where it restarts
+pub resumed : (key last n : ℕ) (beats : List Float) (from : ℕ) → Passed last beats n → from ≡ pick (ltb key last) 0 n → Passed key beats from
+resumed key last n beats from p e =
+    ⊎-elim
+    (λ t. let none : from ≡ 0 = rw (lt-ltb key last t) at e in (omega arith, λ place h. absurd (omega arith)))
+    (λ t. let same : from ≡ n = rw (le-ltb key last t) at e in (omega (arith, p .0), λ place h. omega (arith, p .1 place (omega arith))))
+    (below? key last)
+
+module _ {A : Type 0} (test : A → Bool) (list : List A) (i : ℕ) where
+  pub every-turn : (other : A) (t : Bool) → i < length list → test (getD list i other) ≡ t → every test (drop i list) ≡ pick t (every test (drop (i + 1) list)) false
+  unfolding every
+  every-turn other t h e = rw (add-one i, drop-cons list i other h, e)
+
+  pub every-end : length list ≤ i → every test (drop i list) ≡ true
+  unfolding every
+  every-end h = rw (drop-of-length-le list h)
+
+-- ---- the outcome
+module _ (tests : ℕ) (judge : ℤ → Bool) (rows : List ℤ) (old : List ℕ) where
+  nothing-given : (n : ℕ) → (n ≡ 0 → ⊥) → given n rows ≡ []
+  unfolding given
+  nothing-given n h = rw (ne-eqb n 0 h)
+
+  left-alone : (n : ℕ) → (n ≡ 0 → ⊥) → n ≡ roomNumber tests (length rows) (length old) → Judged tests judge rows (refusedBy n) old old
+  unfolding laid
+  left-alone n h e = record { number = e; count = rw (nothing-given n h); answers = rw (nothing-given n h) }
+
+  pub refused-by-tests : (n : ℕ) → n ≡ tests → (n ≡ 0 → ⊥) → Judged tests judge rows (refusedBy n) old old
+  unfolding roomNumber
+  refused-by-tests n e h = left-alone n h (rw (← e, ne-eqb n 0 h))
+
+  pub refused-for-room : tests ≡ 0 → length old < length rows → Judged tests judge rows (refusedBy 7) old old
+  unfolding roomNumber
+  refused-for-room e l = left-alone 7 (λ z. omega arith) (rw (e, lt-leb (length rows) (length old) l))
+
+  pub all-judged : (new : List ℕ) → tests ≡ 0 → length rows ≤ length old → new ≡ laidEach (λ (asked : ℤ). byte (judge asked)) rows old → Judged tests judge rows (record { number = 0; count = length rows }) old new
+  unfolding roomNumber given
+  all-judged new e l is = record { number = rw (e, le-leb (length rows) (length old) l); count = refl; answers = is ∙ each-over-front (λ (asked : ℤ). byte (judge asked)) rows old l }

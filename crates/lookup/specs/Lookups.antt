@@ -1,0 +1,114 @@
+-- Lookups: whether a row is warped, fake or judgable. Rows are compared by their keys, which have the order of the rows. Definitions only.
+use Prim.Native.Nat.{ℕ}
+use mathlib.Core.Bool.{Bool, true, false, not}
+use mathlib.Core.List.{List, [], _∷_, map}
+use mathlib.Core.Path.{_≡_}
+use lib.Dec.{ltb, leb, eqb}
+use lib.IntN.{ℤ}
+use lib.ListN.{length}
+use lib.Ieee.{Float, Format, binary32, binary64, lt, le, add}
+use Rattle.picks.specs.Pick.{pick}
+use Rattle.ieee.specs.Narrowing.{narrow}
+use Rattle.rows.specs.Rows.{row, beatOf}
+use Rattle.limits.specs.declared.Kind.the-variants.{Beat, Pause, Value}
+use Rattle.limits.specs.declared.Range.{Range}
+use Rattle.limits.specs.Numbers.{rangeOf, inRange, nothing, every, rowIn}
+use Rattle.limits.specs.Refusals.{lower, listNumber}
+use Rattle.order.specs.Order.{laid}
+use Rattle.order.specs.RowKey.{rowKey}
+use Rattle.columns.specs.declared.Outcome.{Outcome}
+use Rattle.columns.specs.Laying.{roomNumber, given}
+use Rattle.lookup.specs.declared.Looked.{Looked}
+
+-- a beat's f32 row, as a key
+abbrev pub keyOf : Float → ℕ
+keyOf beat = rowKey (row binary32 beat)
+
+-- ---- entries found by their rows
+
+-- what a test says of the last entry that is at or before a row; `none` where there is no such entry
+unfoldable pub lastPasses : (Float → Float → Bool) → ℕ → Bool → List Float → List Float → Bool
+lastPasses test key none [] values = none
+lastPasses test key none (beat ∷ beats) [] = none
+lastPasses test key none (beat ∷ beats) (value ∷ values) = lastPasses test key (pick (leb (keyOf beat) key) (test beat value) none) beats values
+
+-- whether an entry above 0 is on a row
+unfoldable pub isPaused : ℕ → List Float → List Float → Bool
+isPaused key [] values = false
+isPaused key (beat ∷ beats) [] = false
+isPaused key (beat ∷ beats) (value ∷ values) = pick (eqb (keyOf beat) key) (pick (lt nothing value) true (isPaused key beats values)) (isPaused key beats values)
+
+-- ---- the three questions
+
+-- from its beat on and before its end: a warp, of a length above 0, sums in f32
+abbrev pub warpCovers : Float → Float → Float → Bool
+warpCovers at beat length = pick (lt nothing length) (pick (le beat at) (lt at (add binary32 beat length)) false) false
+
+-- a fake sums in f64, and then narrows
+abbrev pub fakeCovers : Float → Float → Float → Bool
+fakeCovers at beat length = pick (le beat at) (lt at (narrow (add binary64 beat length))) false
+
+module _ (stopBeats stopValues delayBeats delayValues warpBeats warpLengths : List Float) (asked : ℤ) where
+  abbrev pub inWarp : Bool
+  inWarp = lastPasses (warpCovers (beatOf binary32 asked)) (rowKey asked) false warpBeats warpLengths
+
+  -- in the last warp, and no stop or delay above 0 on the row
+  unfoldable pub isWarped : Bool
+  isWarped = pick inWarp (pick (isPaused (rowKey asked) stopBeats stopValues) false (not (isPaused (rowKey asked) delayBeats delayValues))) false
+
+unfoldable pub isFake : List Float → List Float → ℤ → Bool
+isFake fakeBeats fakeLengths asked = lastPasses (fakeCovers (beatOf binary32 asked)) (rowKey asked) false fakeBeats fakeLengths
+
+unfoldable pub isJudgable : List Float → List Float → List Float → List Float → List Float → List Float → List Float → List Float → ℤ → Bool
+isJudgable stopBeats stopValues delayBeats delayValues warpBeats warpLengths fakeBeats fakeLengths asked =
+    pick (isWarped stopBeats stopValues delayBeats delayValues warpBeats warpLengths asked) false (not (isFake fakeBeats fakeLengths asked))
+
+-- the row of an asked beat
+abbrev pub askedRow : Float → ℤ
+askedRow beat = row binary32 (narrow beat)
+
+-- ---- refusals
+
+-- each row is above the one before it
+unfoldable pub isBelow : Float → List Float → Bool
+isBelow beat [] = true
+isBelow beat (next ∷ beats) = ltb (keyOf beat) (keyOf next)
+
+unfoldable pub rowsRise : List Float → Bool
+rowsRise [] = true
+rowsRise (beat ∷ beats) = pick (isBelow beat beats) (rowsRise beats) false
+
+-- a list by itself: 1 to 4, and 5 where its rows do not rise
+unfoldable pub risingNumber : Range → List Float → List Float → ℕ
+risingNumber value beats values = pick (eqb (listNumber (rangeOf Beat) value beats values) 0) (pick (rowsRise beats) 0 5) (listNumber (rangeOf Beat) value beats values)
+
+abbrev pub askedNumber : Bool → ℕ
+askedNumber allowed = pick allowed 0 3
+
+-- the lowest over the lists that a question takes, and what is asked
+abbrev pub warpNumber : List Float → List Float → List Float → List Float → List Float → List Float → Bool → ℕ
+warpNumber stopBeats stopValues delayBeats delayValues warpBeats warpLengths allowed =
+    lower (lower (risingNumber (rangeOf Pause) stopBeats stopValues) (risingNumber (rangeOf Pause) delayBeats delayValues)) (lower (risingNumber (rangeOf Value) warpBeats warpLengths) (askedNumber allowed))
+
+abbrev pub fakeNumber : List Float → List Float → Bool → ℕ
+fakeNumber fakeBeats fakeLengths allowed = lower (risingNumber (rangeOf Value) fakeBeats fakeLengths) (askedNumber allowed)
+
+abbrev pub judgableNumber : List Float → List Float → List Float → List Float → List Float → List Float → List Float → List Float → Bool → ℕ
+judgableNumber stopBeats stopValues delayBeats delayValues warpBeats warpLengths fakeBeats fakeLengths allowed =
+    lower (warpNumber stopBeats stopValues delayBeats delayValues warpBeats warpLengths allowed) (fakeNumber fakeBeats fakeLengths allowed)
+
+-- a lookup's answer: no after a refusal
+unfoldable pub looked : ℕ → Bool → Looked
+looked number answer = record { number = number; yes = pick (eqb number 0) answer false }
+
+-- ---- many rows
+
+-- 1 for yes
+abbrev pub byte : Bool → ℕ
+byte answer = pick answer 1 0
+
+-- the one outcome: the number, the count, and the room to its last place
+pub record Judged (tests : ℕ) (judge : ℤ → Bool) (rows : List ℤ) (outcome : Outcome) (old new : List ℕ) : Type 0 where
+  pub number : outcome .number ≡ roomNumber tests (length rows) (length old)
+  pub count : outcome .count ≡ length (given (outcome .number) rows)
+  pub answers : new ≡ laid (map (λ (asked : ℤ). byte (judge asked)) (given (outcome .number) rows)) old

@@ -1,0 +1,743 @@
+// Lookups: whether a row or a beat is warped, fake or judgable; one question at a time, or many rows after one test of the lists.
+use columns::Outcome;
+use limits::Kind;
+ghost use mathlib.Core.Path.{_≡_};
+ghost use mathlib.Core.Bool.{true, false, not};
+ghost use Prim.Native.Nat.{ℕ, _+_, _-_, _≤_, _<_};
+ghost use lib.Ieee.{binary32, nan};
+ghost use lib.Dec.{ltb};
+ghost use lib.IntN.{ℤ};
+ghost use Rattle.columns.specs.Each.{laidEach};
+ghost use lib.ListN.{length, getD};
+ghost use Rattle.picks.specs.Pick.{pick};
+ghost use Rattle.rows.specs.Rows.{beatOf};
+ghost use Rattle.limits.specs.Numbers.{rangeOf, inRange, every, rowIn};
+ghost use Rattle.order.specs.RowKey.{rowKey};
+ghost use Rattle.lookup.specs.Lookups.{keyOf, lastPasses, isPaused, warpCovers, fakeCovers, isWarped, isFake, isJudgable, askedRow, rowsRise, risingNumber, askedNumber, warpNumber, fakeNumber, judgableNumber, looked, byte, Judged};
+ghost use Rattle.lookup.specs.Finding.{Usable, Passed, Split, Between, ofLast, Stands};
+
+// ---- rows that rise
+
+// The f32 row of a beat, as a key.
+fn row_key(beat: f32) -> u32
+    ensures { λ r. ⌜ r ≡ keyOf beat ⌝ }
+{
+    order::key_of_row(rows::beat_to_note_row_f32(beat))
+}
+
+fn rows_rise(beats: &[f32]) -> bool
+    ensures { λ r. ⌜ r ≡ rowsRise (now (beats .entry)) ⌝ }
+{
+    let mut i = 0;
+    while i + 1 < beats.len() {
+        if row_key(beats[i + 1]) <= row_key(beats[i]) {
+            return false;
+        }
+        i += 1;
+    }
+    true
+}
+
+// ---- where the entries at or before a row end
+
+struct Bounds {
+    low: usize,
+    high: usize,
+}
+
+fn halve(beats: &[f32], key: u32, low: usize, high: usize) -> Bounds
+    requires { ⌜ rowsRise (now beats) ≡ true ⌝ }
+    requires { ⌜ (low < high) × (high ≤ length (now beats)) × Between key (now beats) low high ⌝ }
+    ensures { λ r. ⌜ Between key (now (beats .entry)) (r .low) (r .high) × (r .high ≤ high) × (r .high - r .low < high - low) ⌝ }
+{
+    let middle = low + (high - low) / 2;
+    if row_key(beats[middle]) <= key {
+        return Bounds {
+            low: middle + 1,
+            high: high,
+        };
+    }
+    Bounds {
+        low: low,
+        high: middle,
+    }
+}
+
+// How many entries are at or before a row.
+fn count_at(beats: &[f32], key: u32) -> usize
+    requires { ⌜ rowsRise (now beats) ≡ true ⌝ }
+    ensures { λ r. ⌜ Split key (now (beats .entry)) r ⌝ }
+{
+    let mut low: usize = 0;
+    let mut high = beats.len();
+    while low < high {
+        let bounds = halve(beats, key, low, high);
+        low = bounds.low;
+        high = bounds.high;
+    }
+    low
+}
+
+// The same, from a place before which all are.
+fn count_on(beats: &[f32], key: u32, from: usize) -> usize
+    requires { ⌜ rowsRise (now beats) ≡ true ⌝ }
+    requires { ⌜ Passed key (now beats) from ⌝ }
+    ensures { λ r. ⌜ Split key (now (beats .entry)) r ⌝ }
+{
+    let mut n = from;
+    while n < beats.len() {
+        if row_key(beats[n]) > key {
+            return n;
+        }
+        n += 1;
+    }
+    n
+}
+
+// ---- an entry's test
+
+// Whether a warp covers a beat.
+fn warp_covers(at: f32, beat: f32, length: f32) -> bool
+    ensures { λ r. ⌜ r ≡ warpCovers at beat length ⌝ }
+{
+    if length > 0.0 {
+        if beat <= at {
+            return at < beat + length;
+        }
+        return false;
+    }
+    false
+}
+
+// Whether a fake covers a beat.
+fn fake_covers(at: f32, beat: f32, length: f32) -> bool
+    ensures { λ r. ⌜ r ≡ fakeCovers at beat length ⌝ }
+{
+    if beat <= at {
+        return at
+            < ieee::narrow_f64(
+                std::num::f32_to_f64_with_nan(beat) + std::num::f32_to_f64_with_nan(length),
+            );
+    }
+    false
+}
+
+// Whether the last of the first n warps covers the beat.
+fn last_warp_covers(warp_beats: &[f32], warp_lengths: &[f32], n: usize, at: f32) -> bool
+    requires { ⌜ (length (now «warp_beats») ≡ length (now «warp_lengths»)) × (n ≤ length (now «warp_beats»)) ⌝ }
+    ensures { λ r. ⌜ r ≡ ofLast (warpCovers at) false (now («warp_beats» .entry)) (now («warp_lengths» .entry)) n ⌝ }
+{
+    if n == 0 {
+        return false;
+    }
+    warp_covers(at, warp_beats[n - 1], warp_lengths[n - 1])
+}
+
+fn last_fake_covers(fake_beats: &[f32], fake_lengths: &[f32], n: usize, at: f32) -> bool
+    requires { ⌜ (length (now «fake_beats») ≡ length (now «fake_lengths»)) × (n ≤ length (now «fake_beats»)) ⌝ }
+    ensures { λ r. ⌜ r ≡ ofLast (fakeCovers at) false (now («fake_beats» .entry)) (now («fake_lengths» .entry)) n ⌝ }
+{
+    if n == 0 {
+        return false;
+    }
+    fake_covers(at, fake_beats[n - 1], fake_lengths[n - 1])
+}
+
+// Whether an entry above 0 is on a row.
+fn is_paused(beats: &[f32], values: &[f32], key: u32) -> bool
+    requires { ⌜ Usable (now beats) (now values) ⌝ }
+    ensures { λ r. ⌜ r ≡ isPaused key (now (beats .entry)) (now (values .entry)) ⌝ }
+{
+    let n = count_at(beats, key);
+    if n == 0 {
+        return false;
+    }
+    if row_key(beats[n - 1]) != key {
+        return false;
+    }
+    values[n - 1] > 0.0
+}
+
+// Whether no entry above 0 of either list is on a row.
+fn is_unpaused(
+    stop_beats: &[f32],
+    stop_values: &[f32],
+    delay_beats: &[f32],
+    delay_values: &[f32],
+    key: u32,
+) -> bool
+    requires { ⌜ Usable (now «stop_beats») (now «stop_values») × Usable (now «delay_beats») (now «delay_values») ⌝ }
+    ensures { λ r. ⌜ r ≡ pick (isPaused key (now («stop_beats» .entry)) (now («stop_values» .entry))) false (not (isPaused key (now («delay_beats» .entry)) (now («delay_values» .entry)))) ⌝ }
+{
+    if is_paused(stop_beats, stop_values, key) {
+        return false;
+    }
+    !is_paused(delay_beats, delay_values, key)
+}
+
+// ---- one question, of lists that can be looked into
+
+// Whether a row is warped, where the warps at or before it are counted.
+fn warped_after(
+    stop_beats: &[f32],
+    stop_values: &[f32],
+    delay_beats: &[f32],
+    delay_values: &[f32],
+    warp_beats: &[f32],
+    warp_lengths: &[f32],
+    n: usize,
+    row: i32,
+) -> bool
+    requires { ⌜ Usable (now «stop_beats») (now «stop_values») × Usable (now «delay_beats») (now «delay_values») × Usable (now «warp_beats») (now «warp_lengths») × Split (rowKey row) (now «warp_beats») n ⌝ }
+    ensures { λ r. ⌜ r ≡ isWarped (now («stop_beats» .entry)) (now («stop_values» .entry)) (now («delay_beats» .entry)) (now («delay_values» .entry)) (now («warp_beats» .entry)) (now («warp_lengths» .entry)) row ⌝ }
+{
+    if last_warp_covers(warp_beats, warp_lengths, n, rows::note_row_to_beat_f32(row)) {
+        return is_unpaused(
+            stop_beats,
+            stop_values,
+            delay_beats,
+            delay_values,
+            order::key_of_row(row),
+        );
+    }
+    false
+}
+
+// Whether a row is fake, where the fakes at or before it are counted.
+fn fake_after(fake_beats: &[f32], fake_lengths: &[f32], n: usize, row: i32) -> bool
+    requires { ⌜ Usable (now «fake_beats») (now «fake_lengths») × Split (rowKey row) (now «fake_beats») n ⌝ }
+    ensures { λ r. ⌜ r ≡ isFake (now («fake_beats» .entry)) (now («fake_lengths» .entry)) row ⌝ }
+{
+    last_fake_covers(fake_beats, fake_lengths, n, rows::note_row_to_beat_f32(row))
+}
+
+fn judgable_after(
+    stop_beats: &[f32],
+    stop_values: &[f32],
+    delay_beats: &[f32],
+    delay_values: &[f32],
+    warp_beats: &[f32],
+    warp_lengths: &[f32],
+    fake_beats: &[f32],
+    fake_lengths: &[f32],
+    warps: usize,
+    fakes: usize,
+    row: i32,
+) -> bool
+    requires { ⌜ Usable (now «stop_beats») (now «stop_values») × Usable (now «delay_beats») (now «delay_values») × Usable (now «warp_beats») (now «warp_lengths») × Usable (now «fake_beats») (now «fake_lengths») ⌝ }
+    requires { ⌜ Split (rowKey row) (now «warp_beats») warps × Split (rowKey row) (now «fake_beats») fakes ⌝ }
+    ensures { λ r. ⌜ r ≡ isJudgable (now («stop_beats» .entry)) (now («stop_values» .entry)) (now («delay_beats» .entry)) (now («delay_values» .entry)) (now («warp_beats» .entry)) (now («warp_lengths» .entry)) (now («fake_beats» .entry)) (now («fake_lengths» .entry)) row ⌝ }
+{
+    if warped_after(
+        stop_beats,
+        stop_values,
+        delay_beats,
+        delay_values,
+        warp_beats,
+        warp_lengths,
+        warps,
+        row,
+    ) {
+        return false;
+    }
+    !fake_after(fake_beats, fake_lengths, fakes, row)
+}
+
+// ---- refusals
+
+// What a list answers by itself: 1, 2, 3 or 4, 5 where its rows do not rise, and 0 where it is taken.
+fn rising_number(value_kind: Kind, beats: &[f32], values: &[f32]) -> u32
+    ensures { λ r. ⌜ r ≡ risingNumber (rangeOf «value_kind») (now (beats .entry)) (now (values .entry)) ⌝ }
+{
+    let number = limits::list_number_f32(Kind::Beat, value_kind, beats, values);
+    if number == limits::TAKEN {
+        if rows_rise(beats) {
+            return limits::TAKEN;
+        }
+        return limits::NOT_RISING;
+    }
+    number
+}
+
+fn asked_number(allowed: bool) -> u32
+    ensures { λ r. ⌜ r ≡ askedNumber allowed ⌝ }
+{
+    if allowed {
+        limits::TAKEN
+    } else {
+        limits::BAD_BEAT
+    }
+}
+
+fn warp_number(
+    stop_beats: &[f32],
+    stop_values: &[f32],
+    delay_beats: &[f32],
+    delay_values: &[f32],
+    warp_beats: &[f32],
+    warp_lengths: &[f32],
+    allowed: bool,
+) -> u32
+    ensures { λ r. ⌜ r ≡ warpNumber (now («stop_beats» .entry)) (now («stop_values» .entry)) (now («delay_beats» .entry)) (now («delay_values» .entry)) (now («warp_beats» .entry)) (now («warp_lengths» .entry)) allowed ⌝ }
+{
+    let stops = rising_number(Kind::Pause, stop_beats, stop_values);
+    let delays = rising_number(Kind::Pause, delay_beats, delay_values);
+    let warps = rising_number(Kind::Value, warp_beats, warp_lengths);
+    limits::lower_of(
+        limits::lower_of(stops, delays),
+        limits::lower_of(warps, asked_number(allowed)),
+    )
+}
+
+fn fake_number(fake_beats: &[f32], fake_lengths: &[f32], allowed: bool) -> u32
+    ensures { λ r. ⌜ r ≡ fakeNumber (now («fake_beats» .entry)) (now («fake_lengths» .entry)) allowed ⌝ }
+{
+    limits::lower_of(
+        rising_number(Kind::Value, fake_beats, fake_lengths),
+        asked_number(allowed),
+    )
+}
+
+fn judgable_number(
+    stop_beats: &[f32],
+    stop_values: &[f32],
+    delay_beats: &[f32],
+    delay_values: &[f32],
+    warp_beats: &[f32],
+    warp_lengths: &[f32],
+    fake_beats: &[f32],
+    fake_lengths: &[f32],
+    allowed: bool,
+) -> u32
+    ensures { λ r. ⌜ r ≡ judgableNumber (now («stop_beats» .entry)) (now («stop_values» .entry)) (now («delay_beats» .entry)) (now («delay_values» .entry)) (now («warp_beats» .entry)) (now («warp_lengths» .entry)) (now («fake_beats» .entry)) (now («fake_lengths» .entry)) allowed ⌝ }
+{
+    limits::lower_of(
+        warp_number(
+            stop_beats,
+            stop_values,
+            delay_beats,
+            delay_values,
+            warp_beats,
+            warp_lengths,
+            allowed,
+        ),
+        fake_number(fake_beats, fake_lengths, allowed),
+    )
+}
+
+// ---- the calls
+
+// The refusal number, 0 where the question is taken, and the answer: no after a refusal.
+#[repr(C)]
+pub struct Looked {
+    pub number: u32,
+    pub yes: bool,
+}
+
+fn look_up_warp(
+    stop_beats: &[f32],
+    stop_values: &[f32],
+    delay_beats: &[f32],
+    delay_values: &[f32],
+    warp_beats: &[f32],
+    warp_lengths: &[f32],
+    allowed: bool,
+    row: i32,
+) -> Looked
+    ensures { λ r. ⌜ r ≡ looked (warpNumber (now («stop_beats» .entry)) (now («stop_values» .entry)) (now («delay_beats» .entry)) (now («delay_values» .entry)) (now («warp_beats» .entry)) (now («warp_lengths» .entry)) allowed) (isWarped (now («stop_beats» .entry)) (now («stop_values» .entry)) (now («delay_beats» .entry)) (now («delay_values» .entry)) (now («warp_beats» .entry)) (now («warp_lengths» .entry)) row) ⌝ }
+{
+    let number = warp_number(
+        stop_beats,
+        stop_values,
+        delay_beats,
+        delay_values,
+        warp_beats,
+        warp_lengths,
+        allowed,
+    );
+    if number != limits::TAKEN {
+        return Looked {
+            number: number,
+            yes: false,
+        };
+    }
+    let n = count_at(warp_beats, order::key_of_row(row));
+    let yes = warped_after(
+        stop_beats,
+        stop_values,
+        delay_beats,
+        delay_values,
+        warp_beats,
+        warp_lengths,
+        n,
+        row,
+    );
+    Looked {
+        number: limits::TAKEN,
+        yes: yes,
+    }
+}
+
+fn look_up_fake(fake_beats: &[f32], fake_lengths: &[f32], allowed: bool, row: i32) -> Looked
+    ensures { λ r. ⌜ r ≡ looked (fakeNumber (now («fake_beats» .entry)) (now («fake_lengths» .entry)) allowed) (isFake (now («fake_beats» .entry)) (now («fake_lengths» .entry)) row) ⌝ }
+{
+    let number = fake_number(fake_beats, fake_lengths, allowed);
+    if number != limits::TAKEN {
+        return Looked {
+            number: number,
+            yes: false,
+        };
+    }
+    let n = count_at(fake_beats, order::key_of_row(row));
+    let yes = fake_after(fake_beats, fake_lengths, n, row);
+    Looked {
+        number: limits::TAKEN,
+        yes: yes,
+    }
+}
+
+fn look_up_judgable(
+    stop_beats: &[f32],
+    stop_values: &[f32],
+    delay_beats: &[f32],
+    delay_values: &[f32],
+    warp_beats: &[f32],
+    warp_lengths: &[f32],
+    fake_beats: &[f32],
+    fake_lengths: &[f32],
+    allowed: bool,
+    row: i32,
+) -> Looked
+    ensures { λ r. ⌜ r ≡ looked (judgableNumber (now («stop_beats» .entry)) (now («stop_values» .entry)) (now («delay_beats» .entry)) (now («delay_values» .entry)) (now («warp_beats» .entry)) (now («warp_lengths» .entry)) (now («fake_beats» .entry)) (now («fake_lengths» .entry)) allowed) (isJudgable (now («stop_beats» .entry)) (now («stop_values» .entry)) (now («delay_beats» .entry)) (now («delay_values» .entry)) (now («warp_beats» .entry)) (now («warp_lengths» .entry)) (now («fake_beats» .entry)) (now («fake_lengths» .entry)) row) ⌝ }
+{
+    let number = judgable_number(
+        stop_beats,
+        stop_values,
+        delay_beats,
+        delay_values,
+        warp_beats,
+        warp_lengths,
+        fake_beats,
+        fake_lengths,
+        allowed,
+    );
+    if number != limits::TAKEN {
+        return Looked {
+            number: number,
+            yes: false,
+        };
+    }
+    let warps = count_at(warp_beats, order::key_of_row(row));
+    let fakes = count_at(fake_beats, order::key_of_row(row));
+    let yes = judgable_after(
+        stop_beats,
+        stop_values,
+        delay_beats,
+        delay_values,
+        warp_beats,
+        warp_lengths,
+        fake_beats,
+        fake_lengths,
+        warps,
+        fakes,
+        row,
+    );
+    Looked {
+        number: limits::TAKEN,
+        yes: yes,
+    }
+}
+
+// The row of an asked beat.
+fn asked_row(beat: f64) -> i32
+    ensures { λ r. ⌜ r ≡ askedRow beat ⌝ }
+{
+    rows::beat_to_note_row_f32(ieee::narrow_f64(beat))
+}
+
+// Refused with the lowest of 1 to 5 that a list answers, and with 3 for a row or beat beyond the limit.
+pub fn is_warp_at_row(
+    stop_beats: &[f32],
+    stop_values: &[f32],
+    delay_beats: &[f32],
+    delay_values: &[f32],
+    warp_beats: &[f32],
+    warp_lengths: &[f32],
+    row: i32,
+) -> Looked
+    ensures { λ r. ⌜ r ≡ looked (warpNumber (now («stop_beats» .entry)) (now («stop_values» .entry)) (now («delay_beats» .entry)) (now («delay_values» .entry)) (now («warp_beats» .entry)) (now («warp_lengths» .entry)) (rowIn row)) (isWarped (now («stop_beats» .entry)) (now («stop_values» .entry)) (now («delay_beats» .entry)) (now («delay_values» .entry)) (now («warp_beats» .entry)) (now («warp_lengths» .entry)) row) ⌝ }
+{
+    look_up_warp(
+        stop_beats,
+        stop_values,
+        delay_beats,
+        delay_values,
+        warp_beats,
+        warp_lengths,
+        limits::row_taken(row),
+        row,
+    )
+}
+
+pub fn is_warp_at_beat(
+    stop_beats: &[f32],
+    stop_values: &[f32],
+    delay_beats: &[f32],
+    delay_values: &[f32],
+    warp_beats: &[f32],
+    warp_lengths: &[f32],
+    beat: f64,
+) -> Looked
+    ensures { λ r. ⌜ r ≡ looked (warpNumber (now («stop_beats» .entry)) (now («stop_values» .entry)) (now («delay_beats» .entry)) (now («delay_values» .entry)) (now («warp_beats» .entry)) (now («warp_lengths» .entry)) (inRange (rangeOf Kind.Beat) beat)) (isWarped (now («stop_beats» .entry)) (now («stop_values» .entry)) (now («delay_beats» .entry)) (now («delay_values» .entry)) (now («warp_beats» .entry)) (now («warp_lengths» .entry)) (askedRow beat)) ⌝ }
+{
+    look_up_warp(
+        stop_beats,
+        stop_values,
+        delay_beats,
+        delay_values,
+        warp_beats,
+        warp_lengths,
+        limits::taken(Kind::Beat, beat),
+        asked_row(beat),
+    )
+}
+
+pub fn is_fake_at_row(fake_beats: &[f32], fake_lengths: &[f32], row: i32) -> Looked
+    ensures { λ r. ⌜ r ≡ looked (fakeNumber (now («fake_beats» .entry)) (now («fake_lengths» .entry)) (rowIn row)) (isFake (now («fake_beats» .entry)) (now («fake_lengths» .entry)) row) ⌝ }
+{
+    look_up_fake(fake_beats, fake_lengths, limits::row_taken(row), row)
+}
+
+pub fn is_fake_at_beat(fake_beats: &[f32], fake_lengths: &[f32], beat: f64) -> Looked
+    ensures { λ r. ⌜ r ≡ looked (fakeNumber (now («fake_beats» .entry)) (now («fake_lengths» .entry)) (inRange (rangeOf Kind.Beat) beat)) (isFake (now («fake_beats» .entry)) (now («fake_lengths» .entry)) (askedRow beat)) ⌝ }
+{
+    look_up_fake(
+        fake_beats,
+        fake_lengths,
+        limits::taken(Kind::Beat, beat),
+        asked_row(beat),
+    )
+}
+
+pub fn is_judgable_at_row(
+    stop_beats: &[f32],
+    stop_values: &[f32],
+    delay_beats: &[f32],
+    delay_values: &[f32],
+    warp_beats: &[f32],
+    warp_lengths: &[f32],
+    fake_beats: &[f32],
+    fake_lengths: &[f32],
+    row: i32,
+) -> Looked
+    ensures { λ r. ⌜ r ≡ looked (judgableNumber (now («stop_beats» .entry)) (now («stop_values» .entry)) (now («delay_beats» .entry)) (now («delay_values» .entry)) (now («warp_beats» .entry)) (now («warp_lengths» .entry)) (now («fake_beats» .entry)) (now («fake_lengths» .entry)) (rowIn row)) (isJudgable (now («stop_beats» .entry)) (now («stop_values» .entry)) (now («delay_beats» .entry)) (now («delay_values» .entry)) (now («warp_beats» .entry)) (now («warp_lengths» .entry)) (now («fake_beats» .entry)) (now («fake_lengths» .entry)) row) ⌝ }
+{
+    look_up_judgable(
+        stop_beats,
+        stop_values,
+        delay_beats,
+        delay_values,
+        warp_beats,
+        warp_lengths,
+        fake_beats,
+        fake_lengths,
+        limits::row_taken(row),
+        row,
+    )
+}
+
+pub fn is_judgable_at_beat(
+    stop_beats: &[f32],
+    stop_values: &[f32],
+    delay_beats: &[f32],
+    delay_values: &[f32],
+    warp_beats: &[f32],
+    warp_lengths: &[f32],
+    fake_beats: &[f32],
+    fake_lengths: &[f32],
+    beat: f64,
+) -> Looked
+    ensures { λ r. ⌜ r ≡ looked (judgableNumber (now («stop_beats» .entry)) (now («stop_values» .entry)) (now («delay_beats» .entry)) (now («delay_values» .entry)) (now («warp_beats» .entry)) (now («warp_lengths» .entry)) (now («fake_beats» .entry)) (now («fake_lengths» .entry)) (inRange (rangeOf Kind.Beat) beat)) (isJudgable (now («stop_beats» .entry)) (now («stop_values» .entry)) (now («delay_beats» .entry)) (now («delay_values» .entry)) (now («warp_beats» .entry)) (now («warp_lengths» .entry)) (now («fake_beats» .entry)) (now («fake_lengths» .entry)) (askedRow beat)) ⌝ }
+{
+    look_up_judgable(
+        stop_beats,
+        stop_values,
+        delay_beats,
+        delay_values,
+        warp_beats,
+        warp_lengths,
+        fake_beats,
+        fake_lengths,
+        limits::taken(Kind::Beat, beat),
+        asked_row(beat),
+    )
+}
+
+// ---- many rows
+
+// How many warps and fakes are at or before a row, that row as a key, and its answer.
+struct Cursor {
+    warps: usize,
+    fakes: usize,
+    key: u32,
+    answer: u8,
+}
+
+// Where a cursor goes on from: a row that falls restarts it.
+fn start_of(next: usize, last: u32, key: u32) -> usize
+    ensures { λ r. ⌜ r ≡ pick (ltb key last) 0 next ⌝ }
+{
+    if key < last { 0 } else { next }
+}
+
+fn byte_of(answer: bool) -> u8
+    ensures { λ r. ⌜ r ≡ byte answer ⌝ }
+{
+    if answer { 1 } else { 0 }
+}
+
+fn judge(
+    stop_beats: &[f32],
+    stop_values: &[f32],
+    delay_beats: &[f32],
+    delay_values: &[f32],
+    warp_beats: &[f32],
+    warp_lengths: &[f32],
+    fake_beats: &[f32],
+    fake_lengths: &[f32],
+    cursor: Cursor,
+    row: i32,
+) -> Cursor
+    requires { ⌜ Usable (now «stop_beats») (now «stop_values») × Usable (now «delay_beats») (now «delay_values») × Usable (now «warp_beats») (now «warp_lengths») × Usable (now «fake_beats») (now «fake_lengths») ⌝ }
+    requires { ⌜ Stands (now «warp_beats») (now «fake_beats») cursor ⌝ }
+    ensures { λ r. ⌜ Stands (now («warp_beats» .entry)) (now («fake_beats» .entry)) r × (r .answer ≡ byte (isJudgable (now («stop_beats» .entry)) (now («stop_values» .entry)) (now («delay_beats» .entry)) (now («delay_values» .entry)) (now («warp_beats» .entry)) (now («warp_lengths» .entry)) (now («fake_beats» .entry)) (now («fake_lengths» .entry)) row)) ⌝ }
+{
+    let key = order::key_of_row(row);
+    let warps = count_on(warp_beats, key, start_of(cursor.warps, cursor.key, key));
+    let fakes = count_on(fake_beats, key, start_of(cursor.fakes, cursor.key, key));
+    let yes = judgable_after(
+        stop_beats,
+        stop_values,
+        delay_beats,
+        delay_values,
+        warp_beats,
+        warp_lengths,
+        fake_beats,
+        fake_lengths,
+        warps,
+        fakes,
+        row,
+    );
+    Cursor {
+        warps: warps,
+        fakes: fakes,
+        key: key,
+        answer: byte_of(yes),
+    }
+}
+
+fn judge_rows(
+    stop_beats: &[f32],
+    stop_values: &[f32],
+    delay_beats: &[f32],
+    delay_values: &[f32],
+    warp_beats: &[f32],
+    warp_lengths: &[f32],
+    fake_beats: &[f32],
+    fake_lengths: &[f32],
+    rows: &[i32],
+    out: &mut [u8],
+)
+    requires { ⌜ Usable (now «stop_beats») (now «stop_values») × Usable (now «delay_beats») (now «delay_values») × Usable (now «warp_beats») (now «warp_lengths») × Usable (now «fake_beats») (now «fake_lengths») ⌝ }
+    requires { ⌜ length (now rows) ≤ length (now out) ⌝ }
+    ensures { λ _. ⌜ now (out .exit) ≡ laidEach (λ (asked : ℤ). byte (isJudgable (now («stop_beats» .entry)) (now («stop_values» .entry)) (now («delay_beats» .entry)) (now («delay_values» .entry)) (now («warp_beats» .entry)) (now («warp_lengths» .entry)) (now («fake_beats» .entry)) (now («fake_lengths» .entry)) asked)) (now (rows .entry)) (now (out .entry)) ⌝ }
+{
+    let mut cursor = Cursor {
+        warps: 0,
+        fakes: 0,
+        key: 0,
+        answer: 0,
+    };
+    let mut i = 0;
+    while i < rows.len() {
+        cursor = judge(
+            stop_beats,
+            stop_values,
+            delay_beats,
+            delay_values,
+            warp_beats,
+            warp_lengths,
+            fake_beats,
+            fake_lengths,
+            cursor,
+            rows[i],
+        );
+        out[i] = cursor.answer;
+        i += 1;
+    }
+}
+
+// Whether every row is within the limit.
+fn rows_taken(rows: &[i32]) -> bool
+    ensures { λ r. ⌜ r ≡ every rowIn (now (rows .entry)) ⌝ }
+{
+    let mut i = 0;
+    while i < rows.len() {
+        if !limits::row_taken(rows[i]) {
+            return false;
+        }
+        i += 1;
+    }
+    true
+}
+
+// 1 for each row that is judgable and 0 for each that is not, over the front of the room. Refused as the single question is, with 3 where
+// any row is beyond the limit, and with 7 where there are more rows than places.
+pub fn judgable_rows(
+    stop_beats: &[f32],
+    stop_values: &[f32],
+    delay_beats: &[f32],
+    delay_values: &[f32],
+    warp_beats: &[f32],
+    warp_lengths: &[f32],
+    fake_beats: &[f32],
+    fake_lengths: &[f32],
+    rows: &[i32],
+    out: &mut [u8],
+) -> Outcome
+    ensures { λ r. ⌜ Judged (judgableNumber (now («stop_beats» .entry)) (now («stop_values» .entry)) (now («delay_beats» .entry)) (now («delay_values» .entry)) (now («warp_beats» .entry)) (now («warp_lengths» .entry)) (now («fake_beats» .entry)) (now («fake_lengths» .entry)) (every rowIn (now (rows .entry)))) (isJudgable (now («stop_beats» .entry)) (now («stop_values» .entry)) (now («delay_beats» .entry)) (now («delay_values» .entry)) (now («warp_beats» .entry)) (now («warp_lengths» .entry)) (now («fake_beats» .entry)) (now («fake_lengths» .entry))) (now (rows .entry)) r (now (out .entry)) (now (out .exit)) ⌝ }
+{
+    let number = judgable_number(
+        stop_beats,
+        stop_values,
+        delay_beats,
+        delay_values,
+        warp_beats,
+        warp_lengths,
+        fake_beats,
+        fake_lengths,
+        rows_taken(rows),
+    );
+    if number != limits::TAKEN {
+        return columns::refused(number);
+    }
+    if rows.len() > out.len() {
+        return columns::refused(limits::NO_ROOM);
+    }
+    judge_rows(
+        stop_beats,
+        stop_values,
+        delay_beats,
+        delay_values,
+        warp_beats,
+        warp_lengths,
+        fake_beats,
+        fake_lengths,
+        rows,
+        out,
+    );
+    Outcome {
+        number: limits::TAKEN,
+        count: rows.len(),
+    }
+}

@@ -1,0 +1,9 @@
+pub mod PlacedLast
+pub mod GrownParts
+pub mod GivenRows
+pub mod LastRow
+pub mod StraightParts
+pub mod SortedRows
+pub mod FourLists
+pub mod PartRows
+pub mod Unique

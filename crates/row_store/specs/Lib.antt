@@ -1,0 +1,2 @@
+pub mod RowStore
+pub mod Placing
