@@ -1,6 +1,6 @@
 -- The played examples hold, each by computation. A definition that one computes with stands on the `unfolding` line. Assumes nothing.
 use mathlib.Core.Path.{refl}
-use lib.Ieee.{add, mul, div, ofInt, neg, eq, lt, le, toBits}
+use lib.Ieee.{add, sub, mul, div, ofInt, neg, eq, lt, le, toBits}
 use Rattle.ieee.specs.Rounding.{rint, hold}
 use Rattle.order.specs.Order.{run, put, tidied}
 use Rattle.order.specs.Entries.{entries}
@@ -10,11 +10,19 @@ use Rattle.tidy_rows.specs.RowTidying.{tidyRows}
 use Rattle.tidy_tempos.specs.TempoTidying.{fromZero, changesAfter, changes, tidyTempos}
 use Rattle.ieee.specs.Narrowing.{narrow}
 use Rattle.lookup.specs.Lookups.{lastPasses, isPaused, isWarped}
+use Rattle.limits.specs.Numbers.{inRange, every, rowIn}
+use Rattle.limits.specs.Refusals.{lower, listNumber}
+use Rattle.walk.specs.Events.{sooner, offered, endOffered, nextEvent}
+use Rattle.walk.specs.Passing.{lastUpTo, tempoAt, earlyTempo, inForce, timeTo, larger, afterWarpEnd, afterTempo, afterStop, afterWarp, passed}
+use Rattle.walk.specs.Walk.{timeAt, walkWithin, walkOn, walk}
+use Rattle.timing_tests.specs.TimingNumbers.{rises, risesFrom, startsAtZero, listsNumber, offsetNumber, offsetsNumber, orderNumber, timingNumber, beatNumber}
+use Rattle.timing_tests.specs.CursorNumbers.{placesIn, rowsIn, endIn, cursorNumber}
+use Rattle.clock.specs.Question.{filled, temposOf, freshState, freshCursor, beginning, reply, cursorRefusal, playerNumber, questionNumber, question}
 use Rattle.played.specs.Numbers.{decimal}
 use Rattle.played.specs.Table.{Examples}
 
 pub played : Examples
-unfolding decimal neg add mul div ofInt rint hold eq lt le toBits narrow lastPasses isPaused isWarped run put tidied entries rowKey floatKey tidyRows fromZero changesAfter changes tidyTempos
+unfolding decimal neg add sub mul div ofInt rint hold eq lt le toBits narrow lastPasses isPaused isWarped run put tidied entries rowKey floatKey tidyRows fromZero changesAfter changes tidyTempos inRange every rowIn lower listNumber sooner offered endOffered nextEvent lastUpTo tempoAt earlyTempo inForce timeTo larger afterWarpEnd afterTempo afterStop afterWarp passed timeAt walkWithin walkOn walk rises risesFrom startsAtZero listsNumber offsetNumber offsetsNumber orderNumber timingNumber beatNumber placesIn rowsIn endIn cursorNumber filled temposOf freshState freshCursor beginning reply cursorRefusal playerNumber questionNumber question
 played =
     record {
       rows-f64 = refl;
@@ -23,4 +31,8 @@ played =
       tempos-of-one-beat = refl;
       tempos-that-change = refl;
       later-warp-tested = refl;
+      beat-of-a-stop = refl;
+      beat-behind-a-stop = refl;
+      beat-within-a-warp = refl;
+      beat-behind-a-warp = refl;
     }
