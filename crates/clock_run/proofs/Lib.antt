@@ -1,6 +1,6 @@
-pub mod BeatByBeat
-pub mod PlacesInColumns
 pub mod RowOrder
 pub mod QuietRows
+pub mod BeatByBeat
+pub mod PlacesInColumns
 pub mod RunOutcome
 pub mod OneOutcome

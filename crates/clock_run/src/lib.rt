@@ -170,7 +170,7 @@ fn quiet_time(state: State, rate: f64, row: i32) -> f64
 
 // ---- the run
 
-// Asks every beat, and answers the cursor after the last.
+// Asks every beat, and answers the cursor after the last. A beat before the next event passes none, so that its count is 1, and needs no walk.
 fn ask_each(
     cursor: Cursor,
     tempo_beats: &[f32],
@@ -192,8 +192,32 @@ fn ask_each(
     ensures { λ r. ⌜ AllAsked (timing (now («tempo_beats» .entry)) (now («tempo_values» .entry)) (now («stop_beats» .entry)) (now («stop_values» .entry)) (now («delay_beats» .entry)) (now («delay_values» .entry)) (now («warp_beats» .entry)) (now («warp_lengths» .entry))) offset global cursor (now (beats .entry)) r (now (numbers .entry)) (now (numbers .exit)) (now (times .entry)) (now (times .exit)) (now (counts .entry)) (now (counts .exit)) ⌝ }
 {
     let mut at = cursor;
+    let first = cursor.state;
+    let mut ahead = look_ahead(
+        first,
+        tempo_beats,
+        tempo_values,
+        stop_beats,
+        stop_values,
+        delay_beats,
+        delay_values,
+        warp_beats,
+        warp_lengths,
+    );
     let mut i = 0;
     while i < beats.len() {
+        let beat = beats[i];
+        let row = rows::beat_to_note_row(beat);
+        if is_quiet(ahead, at.asked, beat, row) {
+            let state = at.state;
+            let time = quiet_time(state, ahead.rate, row) - global;
+            numbers[i] = limits::TAKEN;
+            times[i] = time;
+            counts[i] = 1;
+            at.asked = row;
+            i += 1;
+            continue;
+        }
         let answer = at.ask(
             tempo_beats,
             tempo_values,
@@ -205,13 +229,25 @@ fn ask_each(
             warp_lengths,
             offset,
             global,
-            beats[i],
+            beat,
         );
         numbers[i] = answer.number;
         times[i] = answer.time;
         counts[i] = answer.count;
         let next = answer.cursor;
         at = next;
+        let state = next.state;
+        ahead = look_ahead(
+            state,
+            tempo_beats,
+            tempo_values,
+            stop_beats,
+            stop_values,
+            delay_beats,
+            delay_values,
+            warp_beats,
+            warp_lengths,
+        );
         i += 1;
     }
     at
