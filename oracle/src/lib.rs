@@ -19,6 +19,8 @@ use missing::{nps, parse, resolve_difficulty_label, stats, supported_stepstype_l
 pub mod calls;
 pub mod cases;
 pub mod charts;
+#[cfg(feature = "port")]
+pub mod clock;
 pub mod lists;
 #[cfg(feature = "port")]
 pub mod lookups;
@@ -32,3 +34,4 @@ pub mod sm_stops;
 pub mod tally;
 #[cfg(feature = "port")]
 pub mod tidying;
+pub mod timings;

@@ -1,5 +1,9 @@
 // The calls of `ieee` and `rows` under C names, for native programs to link: each by itself, and in a loop over lent columns.
 // After them the calls that tidy lists.
+use clock::Answer;
+use clock::Cursor;
+use clock::Made;
+use clock_run::Ran;
 use columns::Outcome;
 use limits::Kind;
 use lookup::Looked;
@@ -24,6 +28,10 @@ ghost use Rattle.sm_stops.specs.Merging.{sources};
 ghost use Rattle.sm_stops.specs.Filling.{StopsFilled};
 ghost use Rattle.process_ssc.specs.Ssc.{SscProcessed};
 ghost use Rattle.process_sm.specs.Sm.{SmProcessed};
+ghost use Rattle.walk.specs.Events.{timing};
+ghost use Rattle.timing_tests.specs.TimingNumbers.{timingNumber};
+ghost use Rattle.clock.specs.Question.{freshCursor, made, playerQuestion, question};
+ghost use Rattle.clock_run.specs.Run.{RunLaid};
 
 #[no_mangle]
 pub extern "C" fn marrighentu_lrint_f64(x: f64) -> i32
@@ -484,5 +492,175 @@ pub extern "C" fn marrighentu_convert_warps_and_delays_to_sm_stops(
         warp_beats,
         warp_lengths,
         work,
+    )
+}
+
+#[no_mangle]
+pub extern "C" fn marrighentu_cursor_new(offset: f64, global: f64) -> Made
+    ensures { λ r. ⌜ r ≡ made offset global ⌝ }
+{
+    Cursor::new(offset, global)
+}
+
+#[no_mangle]
+pub extern "C" fn marrighentu_check_timing(
+    tempo_beats: &[f32],
+    tempo_values: &[f32],
+    stop_beats: &[f32],
+    stop_values: &[f32],
+    delay_beats: &[f32],
+    delay_values: &[f32],
+    warp_beats: &[f32],
+    warp_lengths: &[f32],
+    offset: f64,
+    global: f64,
+) -> u32
+    ensures { λ r. ⌜ r ≡ timingNumber (timing (now («tempo_beats» .entry)) (now («tempo_values» .entry)) (now («stop_beats» .entry)) (now («stop_values» .entry)) (now («delay_beats» .entry)) (now («delay_values» .entry)) (now («warp_beats» .entry)) (now («warp_lengths» .entry))) offset global ⌝ }
+{
+    timing_tests::check_timing(
+        tempo_beats,
+        tempo_values,
+        stop_beats,
+        stop_values,
+        delay_beats,
+        delay_values,
+        warp_beats,
+        warp_lengths,
+        offset,
+        global,
+    )
+}
+
+#[no_mangle]
+pub extern "C" fn marrighentu_time_for_beat(
+    cursor: Cursor,
+    tempo_beats: &[f32],
+    tempo_values: &[f32],
+    stop_beats: &[f32],
+    stop_values: &[f32],
+    delay_beats: &[f32],
+    delay_values: &[f32],
+    warp_beats: &[f32],
+    warp_lengths: &[f32],
+    offset: f64,
+    global: f64,
+    beat: f64,
+) -> Answer
+    ensures { λ r. ⌜ r ≡ question (timing (now («tempo_beats» .entry)) (now («tempo_values» .entry)) (now («stop_beats» .entry)) (now («stop_values» .entry)) (now («delay_beats» .entry)) (now («delay_values» .entry)) (now («warp_beats» .entry)) (now («warp_lengths» .entry))) cursor offset global beat ⌝ }
+{
+    cursor.time_for_beat(
+        tempo_beats,
+        tempo_values,
+        stop_beats,
+        stop_values,
+        delay_beats,
+        delay_values,
+        warp_beats,
+        warp_lengths,
+        offset,
+        global,
+        beat,
+    )
+}
+
+#[no_mangle]
+pub extern "C" fn marrighentu_time_for_beat_checked(
+    cursor: Cursor,
+    tempo_beats: &[f32],
+    tempo_values: &[f32],
+    stop_beats: &[f32],
+    stop_values: &[f32],
+    delay_beats: &[f32],
+    delay_values: &[f32],
+    warp_beats: &[f32],
+    warp_lengths: &[f32],
+    offset: f64,
+    global: f64,
+    beat: f64,
+) -> Answer
+    ensures { λ r. ⌜ r ≡ playerQuestion (timing (now («tempo_beats» .entry)) (now («tempo_values» .entry)) (now («stop_beats» .entry)) (now («stop_values» .entry)) (now («delay_beats» .entry)) (now («delay_values» .entry)) (now («warp_beats» .entry)) (now («warp_lengths» .entry))) cursor offset global beat ⌝ }
+{
+    cursor.time_for_beat_checked(
+        tempo_beats,
+        tempo_values,
+        stop_beats,
+        stop_values,
+        delay_beats,
+        delay_values,
+        warp_beats,
+        warp_lengths,
+        offset,
+        global,
+        beat,
+    )
+}
+
+#[no_mangle]
+pub extern "C" fn marrighentu_get_time_for_beat(
+    tempo_beats: &[f32],
+    tempo_values: &[f32],
+    stop_beats: &[f32],
+    stop_values: &[f32],
+    delay_beats: &[f32],
+    delay_values: &[f32],
+    warp_beats: &[f32],
+    warp_lengths: &[f32],
+    offset: f64,
+    global: f64,
+    beat: f64,
+) -> Answer
+    ensures { λ r. ⌜ r ≡ question (timing (now («tempo_beats» .entry)) (now («tempo_values» .entry)) (now («stop_beats» .entry)) (now («stop_values» .entry)) (now («delay_beats» .entry)) (now («delay_values» .entry)) (now («warp_beats» .entry)) (now («warp_lengths» .entry))) (freshCursor offset global) offset global beat ⌝ }
+{
+    clock::get_time_for_beat(
+        tempo_beats,
+        tempo_values,
+        stop_beats,
+        stop_values,
+        delay_beats,
+        delay_values,
+        warp_beats,
+        warp_lengths,
+        offset,
+        global,
+        beat,
+    )
+}
+
+#[no_mangle]
+pub extern "C" fn marrighentu_run(
+    cursor: Cursor,
+    tempo_beats: &[f32],
+    tempo_values: &[f32],
+    stop_beats: &[f32],
+    stop_values: &[f32],
+    delay_beats: &[f32],
+    delay_values: &[f32],
+    warp_beats: &[f32],
+    warp_lengths: &[f32],
+    offset: f64,
+    global: f64,
+    beats: &[f64],
+    numbers: &mut [u32],
+    times: &mut [f64],
+    counts: &mut [usize],
+) -> Ran
+    ensures { λ r. ⌜ RunLaid (timing (now («tempo_beats» .entry)) (now («tempo_values» .entry)) (now («stop_beats» .entry)) (now («stop_values» .entry)) (now («delay_beats» .entry)) (now («delay_values» .entry)) (now («warp_beats» .entry)) (now («warp_lengths» .entry))) offset global cursor (now (beats .entry)) r (now (numbers .entry)) (now (numbers .exit)) (now (times .entry)) (now (times .exit)) (now (counts .entry)) (now (counts .exit)) ⌝ }
+{
+    clock_run::run(
+        cursor,
+        tempo_beats,
+        tempo_values,
+        stop_beats,
+        stop_values,
+        delay_beats,
+        delay_values,
+        warp_beats,
+        warp_lengths,
+        offset,
+        global,
+        beats,
+        numbers,
+        times,
+        counts,
     )
 }

@@ -11,11 +11,19 @@ use Rattle.tidy_tempos.specs.TempoTidying.{fromZero, changesAfter, changes, tid
 use Rattle.ieee.specs.Narrowing.{narrow}
 use Rattle.lookup.specs.Lookups.{lastPasses, isPaused, isWarped}
 use Rattle.sm_stops.specs.Merging.{lesser, leastBeat, meets, leading, forward, turn, isOver, written, mergedWithin, merged}
+use Rattle.limits.specs.Numbers.{inRange, every, rowIn}
+use Rattle.limits.specs.Refusals.{lower, listNumber}
+use Rattle.walk.specs.Events.{sooner, offered, endOffered, nextEvent}
+use Rattle.walk.specs.Passing.{lastUpTo, tempoAt, earlyTempo, inForce, timeTo, larger, afterWarpEnd, afterTempo, afterStop, afterWarp, passed}
+use Rattle.walk.specs.Walk.{timeAt, walkWithin, walkOn, walk}
+use Rattle.timing_tests.specs.TimingNumbers.{rises, risesFrom, startsAtZero, listsNumber, offsetNumber, offsetsNumber, orderNumber, timingNumber, beatNumber}
+use Rattle.timing_tests.specs.CursorNumbers.{placesIn, rowsIn, endIn, cursorNumber}
+use Rattle.clock.specs.Question.{filled, temposOf, freshState, freshCursor, beginning, reply, cursorRefusal, playerNumber, questionNumber, question}
 use Rattle.played.specs.Numbers.{decimal}
 use Rattle.played.specs.Table.{Examples}
 
 pub played : Examples
-unfolding lesser leastBeat meets leading forward turn isOver written mergedWithin merged decimal neg add sub ne mul div ofInt rint hold eq lt le toBits narrow lastPasses isPaused isWarped run put tidied entries rowKey floatKey tidyRows fromZero changesAfter changes tidyTempos
+unfolding lesser leastBeat meets leading forward turn isOver written mergedWithin merged ne decimal neg add sub mul div ofInt rint hold eq lt le toBits narrow lastPasses isPaused isWarped run put tidied entries rowKey floatKey tidyRows fromZero changesAfter changes tidyTempos inRange every rowIn lower listNumber sooner offered endOffered nextEvent lastUpTo tempoAt earlyTempo inForce timeTo larger afterWarpEnd afterTempo afterStop afterWarp passed timeAt walkWithin walkOn walk rises risesFrom startsAtZero listsNumber offsetNumber offsetsNumber orderNumber timingNumber beatNumber placesIn rowsIn endIn cursorNumber filled temposOf freshState freshCursor beginning reply cursorRefusal playerNumber questionNumber question
 played =
     record {
       rows-f64 = refl;
@@ -25,4 +33,8 @@ played =
       tempos-that-change = refl;
       later-warp-tested = refl;
       warp-for-stop = refl;
+      beat-of-a-stop = refl;
+      beat-behind-a-stop = refl;
+      beat-within-a-warp = refl;
+      beat-behind-a-warp = refl;
     }

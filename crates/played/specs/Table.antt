@@ -9,6 +9,7 @@ use Rattle.tidy_rows.specs.RowTidying.{tidyRows}
 use Rattle.tidy_tempos.specs.TempoTidying.{tidyTempos}
 use Rattle.lookup.specs.Lookups.{isWarped, askedRow}
 use Rattle.sm_stops.specs.Merging.{sources, merged, atFirst}
+use Rattle.played.specs.Charts.{stopped, warped, asked}
 use Rattle.played.specs.Numbers.{decimal, whole, minus}
 
 pub record Examples : Type 0 where
@@ -24,3 +25,8 @@ pub record Examples : Type 0 where
   pub later-warp-tested : isWarped [] [] [] [] (whole 0 ∷ whole 4 ∷ []) (whole 8 ∷ whole 1 ∷ []) (askedRow (whole 6)) ≡ false
   -- SM stops: a warp takes away just what a stop on its beat would last
   pub warp-for-stop : merged (sources (whole 0 ∷ []) (whole 120 ∷ []) (whole 4 ∷ whole 1 ∷ []) [] [] (whole 4 ∷ []) (whole 2 ∷ [])) atFirst ≡ []
+  -- the clock: number, time and count of a beat that a stop is on, and of the next; of a beat within a warp, and of one behind it
+  pub beat-of-a-stop : asked stopped (whole 4) ≡ (0, whole 2, 2)
+  pub beat-behind-a-stop : asked stopped (whole 5) ≡ (0, decimal 35 1, 3)
+  pub beat-within-a-warp : asked warped (whole 5) ≡ (0, whole 2, 3)
+  pub beat-behind-a-warp : asked warped (whole 8) ≡ (0, whole 3, 4)

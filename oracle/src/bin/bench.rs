@@ -3,11 +3,13 @@
 use oracle::calls::{self, Call, Visit};
 use oracle::cases::Cases;
 use oracle::charts;
+use oracle::clock::{self, Columns, Cursor};
 use oracle::lookups::{self, Lists};
 use oracle::processing::{self, Format, Rooms, Sm, Ssc};
 use oracle::random::Random;
 use oracle::tidying::{self, Rows, Tempos, Tidying};
 use oracle::timing::probe;
+use oracle::timings::{Chart, DELAYS, STOPS, TEMPOS, WARPS};
 use std::hint::black_box;
 use std::time::{Duration, Instant};
 
@@ -18,7 +20,8 @@ const TIMES: usize = 400;
 const LASTS: Duration = Duration::from_micros(200);
 
 fn main() {
-    let mut bench = Bench { worst: (0.0, String::new()) };
+    let only = std::env::args().nth(1).unwrap_or_default();
+    let mut bench = Bench { worst: (0.0, String::new()), only };
     println!("nanoseconds an entry");
     calls::visit_all(&mut bench);
     println!(
@@ -37,16 +40,27 @@ fn main() {
         bench.processing::<Ssc>(tempos, stops);
         bench.processing::<Sm>(tempos, stops);
     }
+    println!(
+        "nanoseconds a question of 2,000; the port counts events and tests each beat, and a run tests the timing once"
+    );
+    for (name, chart) in [("a typical chart", chart([50, 30, 10, 10])), ("1,000 tempos", chart([1_000, 0, 0, 0]))] {
+        ASKED.iter().for_each(|order| bench.clock(name, &chart, *order));
+    }
     println!("worst ratio {:.2} ({})", bench.worst.0, bench.worst.1);
 }
 
 struct Bench {
     worst: (f64, String),
+    /// Lines are left out whose name has not this text.
+    only: String,
 }
 
 impl Bench {
     /// Times two closures that do the same work on `entries` entries, and prints their line. A call that takes lists is one such line.
     fn line(&mut self, name: &str, entries: usize, mut port: impl FnMut(), mut original: impl FnMut()) {
+        if !name.contains(&self.only) {
+            return;
+        }
         let rounds = rounds(&mut original).max(rounds(&mut port));
         let (mut port_best, mut original_best) = (Duration::MAX, Duration::MAX);
         for _ in 0..TIMES {
@@ -145,12 +159,70 @@ impl Bench {
             },
             || drop(black_box(F::original(black_box(&list), black_box(&segments)))),
         );
+/// Lists of so many tempos, stops, delays and warps over 500 beats.
+fn chart(entries: [usize; 4]) -> Chart {
+    let mut chart = Chart { offset: -0.25, global: 0.009, ..Chart::default() };
+    for list in [TEMPOS, STOPS, DELAYS, WARPS] {
+        let (count, value) = (entries[list], [140.0, 0.5, 0.25, 1.5][list]);
+        let beat = |place: usize| (place * 24_000 / count) as f32 / 48.0 + list as f32 / 3.0;
+        chart.lists[list] = ((0..count).map(beat).collect(), (0..count).map(|place| value + place as f32).collect());
+    }
+    chart.lists[WARPS].1.fill(1.5);
+    chart
+}
+
+impl Bench {
+    /// 2,000 questions a quarter of a beat apart, as one run, and one by one.
+    fn clock(&mut self, name: &str, chart: &Chart, (order, arrange): Order) {
+        let mut beats: Vec<_> = (0..2_000).map(|place| place as f64 / 4.0).collect();
+        arrange(&mut beats, &mut Random::new(1, "bench of the clock"));
+        let (timing, fresh, count) = (chart.original(), Cursor::fresh(chart.offset, chart.global), beats.len());
+        assert_eq!(clock::check_timing(chart), 0);
+        let mut columns = Columns { numbers: vec![0; count], times: vec![0.0; count], counts: vec![0; count] };
+        let mut times = vec![0.0; count];
+        let mut original = || {
+            let mut cursor = probe::BeatCursor::new(black_box(&timing));
+            for (beat, time) in black_box(&beats).iter().zip(black_box(&mut times)) {
+                *time = cursor.time_for_beat(*beat);
+            }
+        };
+        self.line(
+            &format!("run over {name}, {order}"),
+            count,
+            || {
+                black_box(clock::run(fresh, black_box(chart), black_box(&beats), &mut columns, [count; 3]));
+            },
+            &mut original,
+        );
+        type Question = fn(Cursor, &Chart, f64) -> clock::Answer;
+        let forms: [(&str, Question); 2] = [
+            ("time_for_beat_checked", |cursor, chart, beat| clock::time_for_beat_checked(cursor, chart, beat)),
+            ("time_for_beat, tests of the lists and all,", |cursor, chart, beat| {
+                clock::time_for_beat(cursor, chart, beat)
+            }),
+        ];
+        for (form, ask) in forms {
+            self.line(
+                &format!("{form} over {name}, {order}"),
+                count,
+                || {
+                    let mut cursor = fresh;
+                    for (beat, time) in black_box(&beats).iter().zip(black_box(&mut columns.times)) {
+                        let answer = ask(cursor, black_box(chart), *beat);
+                        (*time, cursor) = (answer.time, answer.cursor);
+                    }
+                },
+                &mut original,
+            );
+        }
     }
 }
 
 type Order = (&'static str, fn(&mut [f64], &mut Random));
 
 const ORDERS: [Order; 3] = [("ordered", |_, _| ()), ("shuffled", shuffle), ("reversed", |beats, _| beats.reverse())];
+
+const ASKED: [Order; 3] = [("rising", |_, _| ()), ("falling", |beats, _| beats.reverse()), ("in no order", shuffle)];
 
 fn shuffle(beats: &mut [f64], random: &mut Random) {
     for place in (1..beats.len()).rev() {

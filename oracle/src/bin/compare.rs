@@ -2,6 +2,7 @@
 
 use oracle::calls::{self, Call, Visit, called};
 use oracle::cases::{Cases, LAST_ROW, Work};
+use oracle::clock;
 use oracle::lookups;
 use oracle::numbers::Number;
 use oracle::processing;
@@ -24,6 +25,7 @@ fn main() -> ExitCode {
     lookups::compare_all(work, &mut total);
     processing::compare_all(work, &mut total);
     sm_stops::compare_all(work, &mut total);
+    clock::compare_all(work, &mut total);
     if total.end() { ExitCode::SUCCESS } else { ExitCode::FAILURE }
 }
 

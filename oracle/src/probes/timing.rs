@@ -55,3 +55,69 @@ pub fn judgable_rows(timing: &super::TimingData, rows: &[i32], out: &mut [u8]) {
         *out = u8::from(cursor.is_judgable(*row));
     }
 }
+
+/// A timing that has the lists of the clock. One without a tempo is given the tempo that the original's assembly gives it.
+pub fn clock_timing(tempos: &[super::Segment], lists: [&[super::Segment]; 3], offset: f64, global: f64) -> super::TimingData {
+    let [stops, delays, warps] = lists;
+    let mut timing = timing_of(stops, delays, warps, &[]);
+    timing.beat_to_time = tempos.iter().map(|tempo| super::BeatTimePoint { beat: tempo.beat, bpm: tempo.value }).collect();
+    if timing.beat_to_time.is_empty() {
+        timing.beat_to_time.push(super::BeatTimePoint { beat: 0.0, bpm: super::DEFAULT_BPM });
+    }
+    timing.beat0_offset_sec = offset;
+    timing.global_offset_sec = global;
+    timing
+}
+
+/// What a cursor of the original holds: the places in tempos, stops, delays and warps, the last row and time, the warp's end, whether it
+/// is warping, and the row asked last.
+#[derive(Clone, Copy, Debug)]
+pub struct Held {
+    pub places: [usize; 4],
+    pub row: i32,
+    pub time: f64,
+    pub end: f64,
+    pub warping: bool,
+    pub asked: i32,
+}
+
+/// The original's cursor.
+pub struct BeatCursor<'a>(super::BeatTimeCursor<'a>);
+
+impl<'a> BeatCursor<'a> {
+    pub fn new(timing: &'a super::TimingData) -> Self {
+        Self(super::BeatTimeCursor::new(timing))
+    }
+
+    #[inline(always)]
+    pub fn time_for_beat(&mut self, beat: f64) -> f64 {
+        self.0.time_for_beat(beat)
+    }
+
+    pub fn hold(&mut self, held: Held) {
+        let [bpm_idx, stop_idx, delay_idx, warp_idx] = held.places;
+        self.0.state = super::GetBeatState {
+            bpm_idx,
+            stop_idx,
+            delay_idx,
+            warp_idx,
+            last_row: held.row,
+            last_time: held.time,
+            warp_destination: held.end,
+            is_warping: held.warping,
+        };
+        self.0.last_target_row = held.asked;
+    }
+
+    pub fn held(&self) -> Held {
+        let state = self.0.state;
+        Held {
+            places: [state.bpm_idx, state.stop_idx, state.delay_idx, state.warp_idx],
+            row: state.last_row,
+            time: state.last_time,
+            end: state.warp_destination,
+            warping: state.is_warping,
+            asked: self.0.last_target_row,
+        }
+    }
+}

@@ -1,0 +1,92 @@
+-- The loop of a run, beat by beat: what holds where it begins, after each turn, and where it ends. Assumes nothing.
+use Prim.Native.Nat.{ℕ, _+_, _<_, _≤_}
+use mathlib.Core.Path.{_≡_, refl, sym, ap, _∙_}
+use mathlib.Core.List.{List, [], _∷_, map}
+use native.Mathlib.Numerals.{add-one}
+use native.Mathlib.Omega.{arith}
+use lib.ListN.{length, getD, drop, set, drop-of-length-le}
+use lib.Seq.{drop-cons}
+use mathlib.Core.Bool.{true}
+use lib.IntN.{ℤ}
+use lib.Ieee.{Float, nan, binary64, sub}
+use Rattle.rows.specs.Rows.{row}
+use Rattle.order.specs.Order.{laid}
+use Rattle.order.proofs.LaidOverFront.{Laying, laying-none, laying-more, laying-all}
+use Rattle.walk.specs.Events.{Timing}
+use Rattle.clock.specs.Question.{asking}
+use Rattle.clock.specs.declared.Cursor.{Cursor}
+use Rattle.clock.specs.declared.Answer.{Answer}
+use Rattle.clock_run.specs.Run.{answers, lastCursor, numberOf, timeOf, countOf}
+use Rattle.clock_run.specs.Asked.{AllAsked}
+use Rattle.clock_run.specs.Ahead.{lookAhead, isQuiet, quietTime}
+use Rattle.clock_run.specs.declared.Ahead.{Ahead}
+use Rattle.clock_run.proofs.QuietRows.{quiet-answer}
+
+module _ (t : Timing) (offset global : Float) where
+  -- with the next beat the answers have one less to come
+  next-answer : (c : Cursor) (beats : List Float) (i : ℕ) → i < length beats
+      → answers t offset global c (drop i beats)
+      ≡ asking t c offset global (getD beats i nan) ∷ answers t offset global (asking t c offset global (getD beats i nan) .cursor) (drop (i + 1) beats)
+  unfolding answers
+  next-answer c beats i h = rw (drop-cons beats i nan h, add-one i)
+
+  next-cursor : (c : Cursor) (beats : List Float) (i : ℕ) → i < length beats
+      → lastCursor t offset global c (drop i beats) ≡ lastCursor t offset global (asking t c offset global (getD beats i nan) .cursor) (drop (i + 1) beats)
+  unfolding lastCursor
+  next-cursor c beats i h = rw (drop-cons beats i nan h, add-one i)
+
+  no-answer : (c : Cursor) (beats : List Float) (i : ℕ) → length beats ≤ i → answers t offset global c (drop i beats) ≡ []
+  unfolding answers
+  no-answer c beats i h = rw (drop-of-length-le beats h)
+
+  same-cursor : (c : Cursor) (beats : List Float) (i : ℕ) → length beats ≤ i → lastCursor t offset global c (drop i beats) ≡ c
+  unfolding lastCursor
+  same-cursor c beats i h = rw (drop-of-length-le beats h)
+
+  -- i beats are asked, and the cursor that stands there asks the others
+  pub record Running (c₀ : Cursor) (beats : List Float) (numbers₀ : List ℕ) (times₀ : List Float) (counts₀ : List ℕ) (c : Cursor) (numbers : List ℕ) (times : List Float) (counts : List ℕ) (i : ℕ) : Type 0 where
+    pub last : lastCursor t offset global c (drop i beats) ≡ lastCursor t offset global c₀ beats
+    pub ofNumbers : Laying (map numberOf (answers t offset global c₀ beats)) numbers₀ numbers (map numberOf (answers t offset global c (drop i beats))) i
+    pub ofTimes : Laying (map timeOf (answers t offset global c₀ beats)) times₀ times (map timeOf (answers t offset global c (drop i beats))) i
+    pub ofCounts : Laying (map countOf (answers t offset global c₀ beats)) counts₀ counts (map countOf (answers t offset global c (drop i beats))) i
+
+  module _ (c₀ : Cursor) (beats : List Float) (numbers₀ : List ℕ) (times₀ : List Float) (counts₀ : List ℕ) where
+    pub begun : Running c₀ beats numbers₀ times₀ counts₀ c₀ numbers₀ times₀ counts₀ 0
+    begun = record {
+      last = refl;
+      ofNumbers = laying-none (map numberOf (answers t offset global c₀ beats)) numbers₀;
+      ofTimes = laying-none (map timeOf (answers t offset global c₀ beats)) times₀;
+      ofCounts = laying-none (map countOf (answers t offset global c₀ beats)) counts₀;
+    }
+
+    module _ (c : Cursor) (numbers : List ℕ) (times : List Float) (counts : List ℕ) (i : ℕ) (r : Running c₀ beats numbers₀ times₀ counts₀ c numbers times counts i) where
+      pub turned : (a : Answer) → a ≡ asking t c offset global (getD beats i nan) → i < length beats → length beats ≤ length numbers₀ → length beats ≤ length times₀ → length beats ≤ length counts₀
+          → Running c₀ beats numbers₀ times₀ counts₀ (a .cursor) (set numbers i (a .number)) (set times i (a .time)) (set counts i (a .count)) (i + 1)
+      turned a e h inNumbers inTimes inCounts =
+          let more : answers t offset global c (drop i beats) ≡ a ∷ answers t offset global (a .cursor) (drop (i + 1) beats) = rw e (next-answer c beats i h) in
+          record {
+            last = rw e (sym (next-cursor c beats i h)) ∙ r .last;
+            ofNumbers = laying-more _ _ _ _ i (r .ofNumbers) (a .number) _ (ap (map numberOf) more) (omega (arith, r .ofNumbers .size));
+            ofTimes = laying-more _ _ _ _ i (r .ofTimes) (a .time) _ (ap (map timeOf) more) (omega (arith, r .ofTimes .size));
+            ofCounts = laying-more _ _ _ _ i (r .ofCounts) (a .count) _ (ap (map countOf) more) (omega (arith, r .ofCounts .size));
+          }
+
+      -- a beat before the next event
+      pub quiet-turn : (ahead : Ahead) → ahead ≡ lookAhead t (c .state) → (r : ℤ) → r ≡ row binary64 (getD beats i nan) → isQuiet ahead (c .asked) (getD beats i nan) r ≡ true
+          → (time : Float) → time ≡ sub binary64 (quietTime (c .state) (ahead .rate) r) global
+          → i < length beats → length beats ≤ length numbers₀ → length beats ≤ length times₀ → length beats ≤ length counts₀
+          → Running c₀ beats numbers₀ times₀ counts₀ (record { state = c .state; asked = r }) (set numbers i 0) (set times i time) (set counts i 1) (i + 1)
+      quiet-turn ahead sees r isRow quiet time isTime h inNumbers inTimes inCounts =
+          turned (record { number = 0; time = time; count = 1; cursor = record { state = c .state; asked = r } })
+          (rw (isTime, isRow) (quiet-answer t offset global c (getD beats i nan) ahead sees (rw isRow at quiet)))
+          h inNumbers inTimes inCounts
+
+      pub ended : length beats ≤ i → AllAsked t offset global c₀ beats c numbers₀ numbers times₀ times counts₀ counts
+      ended h =
+          let none : answers t offset global c (drop i beats) ≡ [] = no-answer c beats i h in
+          record {
+            cursor = sym (same-cursor c beats i h) ∙ r .last;
+            numbersAre = laying-all _ _ _ _ i (r .ofNumbers) (ap (map numberOf) none);
+            timesAre = laying-all _ _ _ _ i (r .ofTimes) (ap (map timeOf) none);
+            countsAre = laying-all _ _ _ _ i (r .ofCounts) (ap (map countOf) none);
+          }

@@ -1,0 +1,6 @@
+pub mod RowOrder
+pub mod QuietRows
+pub mod BeatByBeat
+pub mod PlacesInColumns
+pub mod RunOutcome
+pub mod OneOutcome

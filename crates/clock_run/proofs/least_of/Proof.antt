@@ -1,0 +1,22 @@
+-- `clock_run::least_of` is `least`. Assumes nothing.
+use mathlib.Core.Bool.{true, false}
+use Rattle.walk.proofs.BackFromBits.{back, tested}
+use Rattle.clock_run.specs.Ahead.{least}
+use borrow.Author.Needs.{needs}
+use Rattle.clock_run.proofs.least_of.Statement.{statement}
+use Rattle.clock_run.proofs.least_of.Tie as tie
+
+returns : tie.Need-returns
+unfolding least
+returns c =
+    let s = c .before in
+    rw (back (s .args .one) (s .fits .one), tested (s .args .one) (s .args .other) (s .fits .one) (s .fits .other) true (c .if1 .taken))
+
+returns-2 : tie.Need-returns-2
+unfolding least
+returns-2 c =
+    let s = c .before in
+    rw (back (s .args .other) (s .fits .other), tested (s .args .one) (s .args .other) (s .fits .one) (s .fits .other) false (c .if1 .left))
+
+pub least-of-spec : {M : Type 1} → statement M
+least-of-spec = tie.close (tie.spec returns returns-2)

@@ -1,0 +1,320 @@
+// A run: at what times are these beats? The timing and the cursor are tested once, and each beat is asked by the cursor that the one before it left.
+use clock::Cursor;
+use walk::State;
+ghost use mathlib.Core.Path.{_≡_};
+ghost use Prim.Native.Nat.{_≤_};
+ghost use lib.ListN.{length};
+ghost use Rattle.walk.specs.Events.{timing};
+ghost use Rattle.clock_run.specs.Run.{roomNumber, RunLaid};
+ghost use Rattle.clock_run.specs.Asked.{AllAsked};
+ghost use Rattle.clock_run.specs.Ahead.{least, rowAt, endRow, quietUntil, lookAhead, isQuiet, quietTime};
+ghost use Rattle.rows.specs.Rows.{beatOf};
+ghost use lib.Ieee.{binary64};
+ghost use lib.IntN.{_-ℤ_};
+
+// The run's number, and the cursor after its last beat; after a refusal the cursor that was lent.
+#[repr(C)]
+pub struct Ran {
+    pub number: u32,
+    pub cursor: Cursor,
+}
+
+// 7 where there are more beats than the shortest column has room for.
+fn room_number(beats: usize, numbers: usize, times: usize, counts: usize) -> u32
+    ensures { λ r. ⌜ r ≡ roomNumber beats numbers times counts ⌝ }
+{
+    let room = columns::room_of(numbers, columns::room_of(times, counts));
+    if beats <= room {
+        return limits::TAKEN;
+    }
+    limits::NO_ROOM
+}
+
+// ---- looking ahead
+
+// The row of the next event and beats a second, so that a beat before that row is answered without a walk; not known before any tempo is passed.
+struct Ahead {
+    known: bool,
+    row: i32,
+    rate: f64,
+}
+
+fn least_of(one: i32, other: i32) -> i32
+    ensures { λ r. ⌜ r ≡ least one other ⌝ }
+{
+    if one < other {
+        return one;
+    }
+    other
+}
+
+// The row of an entry, and the greatest i32 behind the end of the list.
+fn row_at(beats: &[f32], place: usize) -> i32
+    ensures { λ r. ⌜ r ≡ rowAt (now (beats .entry)) place ⌝ }
+{
+    if place < beats.len() {
+        return rows::beat_to_note_row(std::num::f32_to_f64_with_nan(beats[place]));
+    }
+    2147483647
+}
+
+fn end_row(warping: bool, end: f64) -> i32
+    ensures { λ r. ⌜ r ≡ endRow warping end ⌝ }
+{
+    if warping {
+        return rows::beat_to_note_row(end);
+    }
+    2147483647
+}
+
+fn quiet_until(
+    state: State,
+    tempo_beats: &[f32],
+    stop_beats: &[f32],
+    delay_beats: &[f32],
+    warp_beats: &[f32],
+) -> i32
+    ensures { λ r. ⌜ r ≡ quietUntil (now («tempo_beats» .entry)) (now («stop_beats» .entry)) (now («delay_beats» .entry)) (now («warp_beats» .entry)) state ⌝ }
+{
+    let stop = row_at(stop_beats, state.stops);
+    let warp = row_at(warp_beats, state.warps);
+    let later = least_of(stop, warp);
+    let delay = row_at(delay_beats, state.delays);
+    let behind = least_of(delay, later);
+    let tempo = row_at(tempo_beats, state.tempos);
+    let listed = least_of(tempo, behind);
+    let end = end_row(state.warping, state.end);
+    let next = least_of(end, listed);
+    least_of(2147483647, next)
+}
+
+fn look_ahead(
+    state: State,
+    tempo_beats: &[f32],
+    tempo_values: &[f32],
+    stop_beats: &[f32],
+    stop_values: &[f32],
+    delay_beats: &[f32],
+    delay_values: &[f32],
+    warp_beats: &[f32],
+    warp_lengths: &[f32],
+) -> Ahead
+    ensures { λ r. ⌜ r ≡ lookAhead (timing (now («tempo_beats» .entry)) (now («tempo_values» .entry)) (now («stop_beats» .entry)) (now («stop_values» .entry)) (now («delay_beats» .entry)) (now («delay_values» .entry)) (now («warp_beats» .entry)) (now («warp_lengths» .entry))) state ⌝ }
+{
+    let tempos = state.tempos;
+    if tempo_beats.len() == 0 {
+        return Ahead {
+            known: false,
+            row: 0,
+            rate: 0.0,
+        };
+    }
+    if tempos == 0 {
+        return Ahead {
+            known: false,
+            row: 0,
+            rate: 0.0,
+        };
+    }
+    let place = tempos - 1;
+    if place < tempo_values.len() {
+        let rate = std::num::f32_to_f64_with_nan(tempo_values[place]) / 60.0;
+        let row = quiet_until(state, tempo_beats, stop_beats, delay_beats, warp_beats);
+        return Ahead {
+            known: true,
+            row: row,
+            rate: rate,
+        };
+    }
+    Ahead {
+        known: false,
+        row: 0,
+        rate: 0.0,
+    }
+}
+
+// Whether a beat can be answered without a walk.
+fn is_quiet(ahead: Ahead, last: i32, beat: f64, row: i32) -> bool
+    ensures { λ r. ⌜ r ≡ isQuiet ahead last beat row ⌝ }
+{
+    if timing_tests::beat_number(beat) == 0 {
+        if ahead.known {
+            if row < last {
+                return false;
+            }
+            return row < ahead.row;
+        }
+        return false;
+    }
+    false
+}
+
+// The beats from one row to another. Two i32 may be further apart than an i32.
+fn beats_between(from: i32, to: i32) -> f64
+    ensures { λ r. ⌜ r ≡ beatOf binary64 (to -ℤ from) ⌝ }
+{
+    let rows = (to as i64) - (from as i64);
+    (rows as f64) / (rows::ROWS_PER_BEAT as f64)
+}
+
+fn quiet_time(state: State, rate: f64, row: i32) -> f64
+    ensures { λ r. ⌜ r ≡ quietTime state rate row ⌝ }
+{
+    let warping = state.warping;
+    if warping {
+        return state.time + 0.0;
+    }
+    let beats = beats_between(state.row, row);
+    state.time + beats / rate
+}
+
+// ---- the run
+
+// Asks every beat, and answers the cursor after the last. A beat before the next event passes none, so that its count is 1, and needs no walk.
+fn ask_each(
+    cursor: Cursor,
+    tempo_beats: &[f32],
+    tempo_values: &[f32],
+    stop_beats: &[f32],
+    stop_values: &[f32],
+    delay_beats: &[f32],
+    delay_values: &[f32],
+    warp_beats: &[f32],
+    warp_lengths: &[f32],
+    offset: f64,
+    global: f64,
+    beats: &[f64],
+    numbers: &mut [u32],
+    times: &mut [f64],
+    counts: &mut [usize],
+) -> Cursor
+    requires { ⌜ (length (now beats) ≤ length (now numbers)) × (length (now beats) ≤ length (now times)) × (length (now beats) ≤ length (now counts)) ⌝ }
+    ensures { λ r. ⌜ AllAsked (timing (now («tempo_beats» .entry)) (now («tempo_values» .entry)) (now («stop_beats» .entry)) (now («stop_values» .entry)) (now («delay_beats» .entry)) (now («delay_values» .entry)) (now («warp_beats» .entry)) (now («warp_lengths» .entry))) offset global cursor (now (beats .entry)) r (now (numbers .entry)) (now (numbers .exit)) (now (times .entry)) (now (times .exit)) (now (counts .entry)) (now (counts .exit)) ⌝ }
+{
+    let mut at = cursor;
+    let first = cursor.state;
+    let mut ahead = look_ahead(
+        first,
+        tempo_beats,
+        tempo_values,
+        stop_beats,
+        stop_values,
+        delay_beats,
+        delay_values,
+        warp_beats,
+        warp_lengths,
+    );
+    let mut i = 0;
+    while i < beats.len() {
+        let beat = beats[i];
+        let row = rows::beat_to_note_row(beat);
+        if is_quiet(ahead, at.asked, beat, row) {
+            let state = at.state;
+            let time = quiet_time(state, ahead.rate, row) - global;
+            numbers[i] = limits::TAKEN;
+            times[i] = time;
+            counts[i] = 1;
+            at.asked = row;
+            i += 1;
+            continue;
+        }
+        let answer = at.ask(
+            tempo_beats,
+            tempo_values,
+            stop_beats,
+            stop_values,
+            delay_beats,
+            delay_values,
+            warp_beats,
+            warp_lengths,
+            offset,
+            global,
+            beat,
+        );
+        numbers[i] = answer.number;
+        times[i] = answer.time;
+        counts[i] = answer.count;
+        let next = answer.cursor;
+        at = next;
+        let state = next.state;
+        ahead = look_ahead(
+            state,
+            tempo_beats,
+            tempo_values,
+            stop_beats,
+            stop_values,
+            delay_beats,
+            delay_values,
+            warp_beats,
+            warp_lengths,
+        );
+        i += 1;
+    }
+    at
+}
+
+// For each beat its number, its time and its count, over the fronts of the three columns. A beat that is refused has 3, time 0 and count 0 there, and the
+// cursor stays; the run itself is still taken.
+pub fn run(
+    cursor: Cursor,
+    tempo_beats: &[f32],
+    tempo_values: &[f32],
+    stop_beats: &[f32],
+    stop_values: &[f32],
+    delay_beats: &[f32],
+    delay_values: &[f32],
+    warp_beats: &[f32],
+    warp_lengths: &[f32],
+    offset: f64,
+    global: f64,
+    beats: &[f64],
+    numbers: &mut [u32],
+    times: &mut [f64],
+    counts: &mut [usize],
+) -> Ran
+    ensures { λ r. ⌜ RunLaid (timing (now («tempo_beats» .entry)) (now («tempo_values» .entry)) (now («stop_beats» .entry)) (now («stop_values» .entry)) (now («delay_beats» .entry)) (now («delay_values» .entry)) (now («warp_beats» .entry)) (now («warp_lengths» .entry))) offset global cursor (now (beats .entry)) r (now (numbers .entry)) (now (numbers .exit)) (now (times .entry)) (now (times .exit)) (now (counts .entry)) (now (counts .exit)) ⌝ }
+{
+    let timing = timing_tests::check_timing(
+        tempo_beats,
+        tempo_values,
+        stop_beats,
+        stop_values,
+        delay_beats,
+        delay_values,
+        warp_beats,
+        warp_lengths,
+        offset,
+        global,
+    );
+    let room = room_number(beats.len(), numbers.len(), times.len(), counts.len());
+    let lent = cursor.refusal(tempo_beats, stop_beats, delay_beats, warp_beats);
+    let later = limits::lower_of(room, lent);
+    let number = limits::lower_of(timing, later);
+    if number == 0 {
+        let last = ask_each(
+            cursor,
+            tempo_beats,
+            tempo_values,
+            stop_beats,
+            stop_values,
+            delay_beats,
+            delay_values,
+            warp_beats,
+            warp_lengths,
+            offset,
+            global,
+            beats,
+            numbers,
+            times,
+            counts,
+        );
+        return Ran {
+            number: limits::TAKEN,
+            cursor: last,
+        };
+    }
+    Ran {
+        number: number,
+        cursor: cursor,
+    }
+}
