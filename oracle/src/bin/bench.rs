@@ -159,6 +159,9 @@ impl Bench {
             },
             || drop(black_box(F::original(black_box(&list), black_box(&segments)))),
         );
+    }
+}
+
 /// Lists of so many tempos, stops, delays and warps over 500 beats.
 fn chart(entries: [usize; 4]) -> Chart {
     let mut chart = Chart { offset: -0.25, global: 0.009, ..Chart::default() };
