@@ -1,0 +1,4 @@
+pub mod Near
+pub mod Keeping
+pub mod Passing
+pub mod Changing
