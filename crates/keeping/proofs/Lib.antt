@@ -1,1 +1,4 @@
 pub mod PartReplaced
+pub mod InOnePass
+pub mod PlacedByPlace
+pub mod OrderKept
