@@ -6,12 +6,12 @@ use mathlib.Core.List.{List, [], _∷_, _++_, reverse, reverseAux}
 use native.Mathlib.Omega.{arith}
 use lib.ListN.{length, take, drop}
 use lib.Dec.{ltb, leb, eqb}
-use borrow.Author.Tests.{lt-leb, le-leb, eqb-true}
+use borrow.Author.Tests.{lt-leb, le-leb, ne-eqb}
 use Rattle.picks.specs.Pick.{pick}
 use Rattle.order.specs.Order.{neverFalls, mayPrecede, NeverFalls, From}
 use Rattle.order.proofs.OrderedList.{never-falls-yes, never-falls-test}
 use Rattle.keeping.specs.Keeping.{rowOf, nearby, movedTo, atFront, onRowOf, previous, cleared, settled, amid, placedBetween, placedAfter}
-use Rattle.keeping.proofs.PlacedByPlace.{Reaches, walked}
+use Rattle.keeping.proofs.PlacedByPlace.{Reaches, walked, reaches-rest, nearAt, againstAt, changeBy, near-behind, change-falls}
 
 module _ {B W : Type 0} (row : B → ℕ) (near : W → W → Bool) where
   -- rows that never fall, from k on; and rows of a front, nearest first, that are at most k and never rise
@@ -137,3 +137,37 @@ module _ {B W : Type 0} (row : B → ℕ) (near : W → W → Bool) where
     between-keeps [] [] d u r = up-falls e [] tt
     between-keeps [] (first ∷ rest) d u r = front-keeps first rest r u
     between-keeps (last ∷ front) rest d u r = amid-keeps last front rest d u
+
+    behind-some : (m : List (B × W)) (x : B × W) (front rest : List (B × W)) → fallsBetween (reverseAux m (x ∷ front)) rest ≡ false
+    behind-some [] x front rest = refl
+    behind-some (y ∷ m) x front rest = behind-some m y (x ∷ front) rest
+
+    never : (n p : Bool) → pick n (pick p false false) false ≡ false
+    never true true = refl
+    never true false = refl
+    never false p = refl
+
+    -- the change says so
+    flag-falls : (l : List (B × W)) (at : ℕ) (o : Bool) → at ≤ 1024 → Reaches row near k at l → 0 < length l → changeBy row near e l at o .falls ≡ fallsBetween (reverse (take at l)) (drop at l)
+    flag-falls [] zero o few r some = absurd (omega arith)
+    flag-falls [] (suc at) o few r some = absurd r
+    flag-falls (first ∷ []) zero o few r some = change-falls row near 0 o _ _ _ few
+    flag-falls (first ∷ next ∷ rest) zero true few r some =
+        change-falls row near 0 true _ _ _ few ∙ rw (near-behind row near e [] first (next ∷ rest) 0 refl, near-behind row near e (first ∷ []) next rest 1 refl)
+    flag-falls (first ∷ next ∷ rest) zero false few r some =
+        change-falls row near 0 false _ _ _ few ∙ rw (near-behind row near e [] first (next ∷ rest) 0 refl, near-behind row near e (first ∷ []) next rest 1 refl)
+    flag-falls (x ∷ l) (suc at) o few r some =
+        let no : eqb (suc at) 0 ≡ false = ne-eqb (suc at) 0 (λ z. omega arith) in
+        change-falls row near (suc at) o _ _ _ few ∙ rw no (never (nearAt row near e (x ∷ l) (suc at - 1 + 1)) (nearAt row near e (x ∷ l) (againstAt row near (suc at - 1) o))) ∙ sym (behind-some (take at l) x [] (drop at l))
+
+    pub placed-falls : (l : List (B × W)) (at : ℕ) (o : Bool) → neverFalls (rowOf row near) l ≡ true → at ≤ 1024 → Reaches row near k at l → 0 < length l
+        → changeBy row near e l at o .falls ≡ not (neverFalls (rowOf row near) (placedAfter row near e [] l))
+    placed-falls l at o n few r some =
+        let place = around-place 0 k at [] l (omega arith) tt (up-all l n) r in
+        let kept : neverFalls (rowOf row near) (placedAfter row near e [] l) ≡ not (fallsBetween (reverse (take at l)) (drop at l)) =
+        ap (neverFalls (rowOf row near)) (walked row near e [] l at r) ∙ between-keeps (reverse (take at l)) (drop at l) (place .0) (place .1) (reaches-rest row near k at l r) in
+        flag-falls l at o few r some ∙ sym (ap not kept ∙ twice (fallsBetween (reverse (take at l)) (drop at l)))
+      where
+        twice : (b : Bool) → not (not b) ≡ b
+        twice true = refl
+        twice false = refl

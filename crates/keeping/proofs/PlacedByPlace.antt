@@ -76,7 +76,7 @@ module _ {B W : Type 0} (row : B → ℕ) (near : W → W → Bool) where
   abbrev pub changed : B × W → Change → List (B × W) → List (B × W)
   changed e c l = spliced (c .low) (c .high) (c .comes) (e .0, pick (c .moves) (getD l (c .high - 1) e .1) (e .1)) l
 
-  near-behind : (e : B × W) (f : List (B × W)) (x : B × W) (l : List (B × W)) (i : ℕ) → i ≡ length f → nearAt e (reverseAux f (x ∷ l)) i ≡ near (e .1) (x .1)
+  pub near-behind : (e : B × W) (f : List (B × W)) (x : B × W) (l : List (B × W)) (i : ℕ) → i ≡ length f → nearAt e (reverseAux f (x ∷ l)) i ≡ near (e .1) (x .1)
   near-behind e f x l i h =
       let here : getD (reverseAux f (x ∷ l)) i e ≡ x = ap (λ (k : ℕ). getD (reverseAux f (x ∷ l)) k e) (omega arith) ∙ getD-behind f (x ∷ l) 0 e in
       let inside : i < length (reverseAux f (x ∷ l)) = omega (arith, length-reverseAux f (x ∷ l)) in
@@ -221,7 +221,7 @@ module _ {B W : Type 0} (row : B → ℕ) (near : W → W → Bool) where
   between-changed e [] (first ∷ rest) at is few r some = changed-front e first rest at is r
   between-changed e (last ∷ front) rest at is few r some = changed-behind e last front at is few rest
 
-  reaches-few : (k at : ℕ) (l : List (B × W)) → Reaches k at l → at ≤ length l
+  pub reaches-few : (k at : ℕ) (l : List (B × W)) → Reaches k at l → at ≤ length l
   reaches-few k zero l r = omega arith
   reaches-few k (suc at) [] r = absurd r
   reaches-few k (suc at) (x ∷ l) r = let h = reaches-few k at l (r .1) in omega arith

@@ -6,7 +6,13 @@ use lib.Dec.{ltb, leb, eqb}
 use lib.ListN.{length, take, drop}
 use Rattle.picks.specs.Pick.{pick}
 use Rattle.order.specs.Order.{laid}
+use Rattle.order.specs.Order.{neverFalls}
 use Rattle.keeping.specs.declared.Change.{Change}
+use Rattle.keeping.specs.Keeping.{rowOf, placed}
+use mathlib.Core.Path.{_≡_}
+use Prim.Native.Nat.{_<_}
+use mathlib.Core.Bool.{not}
+use lib.ListN.{getD}
 
 -- what comes, where something does
 abbrev pub coming : {A : Type 0} → Bool → A → List A
@@ -39,3 +45,11 @@ changeOf at onRow nearNext nearPrevious nearLast =
     (pick nearPrevious (change (cut (at - 1) onRow) (at - 1 + 2) false false false) (change (cut (at - 1) onRow) (at - 1 + 2) true true (eqb at 0)))
     (pick nearPrevious (change (cut (at - 1) onRow) (at - 1 + 1) false false false)
     (pick onRow (pick nearLast (change at at false false false) (change (at - 1) at true false false)) (change at at true false false))))
+
+-- a change that gives what placing an entry gives, and says whether the list falls then
+pub record Changed {B W : Type 0} (row : B → ℕ) (near : W → W → Bool) (e : B × W) (list : List (B × W)) (c : Change) : Type 0 where
+  pub low : c .low ≤ c .high
+  pub high : c .high ≤ length list
+  pub moving : c .moves ≡ true → 0 < c .high
+  pub places : placed row near e list ≡ spliced (c .low) (c .high) (c .comes) (e .0, pick (c .moves) (getD list (c .high - 1) e .1) (e .1)) list
+  pub falling : c .falls ≡ not (neverFalls (rowOf row near) (placed row near e list))

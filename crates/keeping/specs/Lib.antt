@@ -2,3 +2,4 @@ pub mod Near
 pub mod Keeping
 pub mod Passing
 pub mod Changing
+pub mod Searching

@@ -2,6 +2,26 @@
 use columns::Outcome;
 use keeping::Change;
 use limits::Kind;
+ghost use mathlib.Core.Path.{_≡_};
+ghost use mathlib.Core.Bool.{true, false};
+ghost use mathlib.Core.List.{map};
+ghost use Prim.Native.Nat.{_-_, _≤_, _<_, min};
+ghost use lib.Dec.{ltb, leb};
+ghost use lib.ListN.{length, take, getD};
+ghost use lib.Ieee.{nan};
+ghost use Rattle.picks.specs.Pick.{pick};
+ghost use Rattle.limits.specs.Numbers.{rangeOf};
+ghost use Rattle.limits.specs.Refusals.{listNumber};
+ghost use Rattle.order.specs.Order.{neverFalls};
+ghost use Rattle.order.specs.Entries.{entries};
+ghost use Rattle.tidy_rows.specs.RowTidying.{rowKeyAt, onRow, onItsRow};
+ghost use Rattle.tidy_rows.specs.Ways.{Laid};
+ghost use Rattle.keeping.specs.Near.{nearTo};
+ghost use Rattle.keeping.specs.Passing.{comes, passed, written};
+ghost use Rattle.keeping.specs.Changing.{Changed};
+ghost use Rattle.keeping.specs.Searching.{UpTo};
+ghost use Rattle.tidy_scrolls.specs.ScrollTidying.{ScrollsTidied};
+ghost use Rattle.tidy_scrolls.specs.Ways.{waiting, unheld, writtenFrom, listed, PlacedOne, PlacedAll};
 
 // The beat moved to its row.
 fn on_row(beat: f64) -> f64
@@ -28,7 +48,9 @@ struct Held {
     value: f64,
 }
 
-fn none_held() -> Held {
+fn none_held() -> Held
+    ensures { λ r. ⌜ waiting r ≡ unheld ⌝ }
+{
     Held {
         before: 0.0 / 0.0,
         waits: false,
@@ -39,7 +61,10 @@ fn none_held() -> Held {
 }
 
 // An entry on a row from that of the waiting one on comes, after the value that is written last.
-fn come(before: f64, held: Held, row: u32, beat: f64, value: f64) -> Held {
+fn come(before: f64, held: Held, row: u32, beat: f64, value: f64) -> Held
+    requires { ⌜ row ≡ rowKeyAt beat ⌝ }
+    ensures { λ r. ⌜ waiting r ≡ comes rowKeyAt nearTo before (waiting held) (beat, value) ⌝ }
+{
     if keeping::near(value, before) {
         return Held {
             before: before,
@@ -59,14 +84,19 @@ fn come(before: f64, held: Held, row: u32, beat: f64, value: f64) -> Held {
 }
 
 // Whether the waiting entry is written when an entry on a row comes.
-fn writes(held: Held, row: u32) -> bool {
+fn writes(held: Held, row: u32) -> bool
+    ensures { λ r. ⌜ r ≡ pick (held .waits) (ltb (held .row) row) false ⌝ }
+{
     if held.waits {
         return held.row < row;
     }
     false
 }
 
-fn pass(held: Held, row: u32, beat: f64, value: f64) -> Held {
+fn pass(held: Held, row: u32, beat: f64, value: f64) -> Held
+    requires { ⌜ row ≡ rowKeyAt beat ⌝ }
+    ensures { λ r. ⌜ waiting r ≡ passed rowKeyAt nearTo (waiting held) (beat, value) ⌝ }
+{
     if held.waits {
         if held.row < row {
             return come(held.value, held, row, beat, value);
@@ -82,16 +112,23 @@ fn pass(held: Held, row: u32, beat: f64, value: f64) -> Held {
     come(held.before, held, row, beat, value)
 }
 
-fn count_kept(beats: &[f64], values: &[f64]) -> usize {
+fn count_kept(beats: &[f64], values: &[f64]) -> usize
+    requires { ⌜ length (now beats) ≡ length (now values) ⌝ }
+    ensures { λ r. ⌜ r ≡ length (written rowKeyAt nearTo unheld (entries (now (beats .entry)) (now (values .entry)))) ⌝ }
+{
     let mut held = none_held();
     let mut count = 0;
     let mut i = 0;
     while i < beats.len() {
         let row = row_key(beats[i]);
+        let next = pass(held, row, beats[i], values[i]);
         if writes(held, row) {
             count += 1;
+            held = next;
+            i += 1;
+            continue;
         }
-        held = pass(held, row, beats[i], values[i]);
+        held = next;
         i += 1;
     }
     if held.waits {
@@ -100,7 +137,12 @@ fn count_kept(beats: &[f64], values: &[f64]) -> usize {
     count
 }
 
-fn lay_kept(beats: &[f64], values: &[f64], out_beats: &mut [f64], out_values: &mut [f64]) -> usize {
+fn lay_kept(beats: &[f64], values: &[f64], out_beats: &mut [f64], out_values: &mut [f64]) -> usize
+    requires { ⌜ length (now beats) ≡ length (now values) ⌝ }
+    requires { ⌜ length (written rowKeyAt nearTo unheld (entries (now beats) (now values))) ≤ min (length (now «out_beats»)) (length (now «out_values»)) ⌝ }
+    ensures { λ r. ⌜ r ≡ length (written rowKeyAt nearTo unheld (entries (now (beats .entry)) (now (values .entry)))) ⌝ }
+    ensures { λ _. ⌜ Laid (writtenFrom unheld (entries (now (beats .entry)) (now (values .entry)))) (now («out_beats» .entry)) (now («out_beats» .exit)) (now («out_values» .entry)) (now («out_values» .exit)) ⌝ }
+{
     let mut held = none_held();
     let mut count = 0;
     let mut i = 0;
@@ -127,7 +169,10 @@ fn lay_kept(beats: &[f64], values: &[f64], out_beats: &mut [f64], out_values: &m
 }
 
 // Whether the kept entries have room: counted only where there are more entries than room.
-fn fits(beats: &[f64], values: &[f64], room: usize) -> bool {
+fn fits(beats: &[f64], values: &[f64], room: usize) -> bool
+    requires { ⌜ length (now beats) ≡ length (now values) ⌝ }
+    ensures { λ r. ⌜ r ≡ leb (length (written rowKeyAt nearTo unheld (entries (now (beats .entry)) (now (values .entry))))) room ⌝ }
+{
     if beats.len() <= room {
         return true;
     }
@@ -139,7 +184,11 @@ fn tidy_ordered(
     values: &[f64],
     out_beats: &mut [f64],
     out_values: &mut [f64],
-) -> Outcome {
+) -> Outcome
+    requires { ⌜ listNumber (rangeOf Kind.Beat) (rangeOf Kind.Value) (now beats) (now values) ≡ 0 ⌝ }
+    requires { ⌜ neverFalls rowKeyAt (now beats) ≡ true ⌝ }
+    ensures { λ r. ⌜ ScrollsTidied (now (beats .entry)) (now (values .entry)) r (now («out_beats» .entry)) (now («out_beats» .exit)) (now («out_values» .entry)) (now («out_values» .exit)) ⌝ }
+{
     let room = columns::room_of(out_beats.len(), out_values.len());
     if !fits(beats, values, room) {
         return columns::refused(limits::NO_ROOM);
@@ -154,7 +203,11 @@ fn tidy_ordered(
 // ---- entries in no order: placed one by one in two columns
 
 // How many of the first n beats, whose rows never fall, are on rows up to one.
-fn place_after(beats: &[f64], n: usize, row: u32) -> usize {
+fn place_after(beats: &[f64], n: usize, row: u32) -> usize
+    requires { ⌜ n ≤ length (now beats) ⌝ }
+    requires { ⌜ neverFalls rowKeyAt (take n (now beats)) ≡ true ⌝ }
+    ensures { λ r. ⌜ UpTo rowKeyAt nan (take n (now (beats .entry))) row r ⌝ }
+{
     let mut low = 0;
     let mut high = n;
     while low < high {
@@ -169,7 +222,10 @@ fn place_after(beats: &[f64], n: usize, row: u32) -> usize {
 }
 
 // Whether a value is near that at a place of the first n.
-fn near_at(values: &[f64], n: usize, place: usize, value: f64) -> bool {
+fn near_at(values: &[f64], n: usize, place: usize, value: f64) -> bool
+    requires { ⌜ n ≤ length (now values) ⌝ }
+    ensures { λ r. ⌜ r ≡ pick (ltb place n) (nearTo value (getD (now (values .entry)) place nan)) false ⌝ }
+{
     if place < n {
         return keeping::near(value, values[place]);
     }
@@ -177,14 +233,20 @@ fn near_at(values: &[f64], n: usize, place: usize, value: f64) -> bool {
 }
 
 // The place of the entry that one is held against: the last up to its row, or the one before that where the last is on its row.
-fn held_against(last: usize, on_row: bool) -> usize {
+fn held_against(last: usize, on_row: bool) -> usize
+    ensures { λ r. ⌜ r ≡ pick «on_row» (last - 1) last ⌝ }
+{
     if on_row {
         return keeping::place_before(last);
     }
     last
 }
 
-fn change_at(beats: &[f64], values: &[f64], n: usize, beat: f64, value: f64) -> Change {
+fn change_at(beats: &[f64], values: &[f64], n: usize, beat: f64, value: f64) -> Change
+    requires { ⌜ (0 < n) × (n ≤ 1024) × (n ≤ length (now beats)) × (n ≤ length (now values)) ⌝ }
+    requires { ⌜ neverFalls rowKeyAt (take n (now beats)) ≡ true ⌝ }
+    ensures { λ r. ⌜ Changed rowKeyAt nearTo (beat, value) (listed n (now (beats .entry)) (now (values .entry))) r ⌝ }
+{
     let row = row_key(beat);
     let at = place_after(beats, n, row);
     let last = keeping::place_before(at);
@@ -199,7 +261,10 @@ fn change_at(beats: &[f64], values: &[f64], n: usize, beat: f64, value: f64) -> 
 }
 
 // The value that comes: the entry's own, or where the next one moves that one's.
-fn value_of(values: &[f64], change: Change, value: f64) -> f64 {
+fn value_of(values: &[f64], change: Change, value: f64) -> f64
+    requires { ⌜ (change .moves ≡ true → 0 < change .high) × (change .high ≤ length (now values)) ⌝ }
+    ensures { λ r. ⌜ r ≡ pick (change .moves) (getD (now (values .entry)) (change .high - 1) nan) value ⌝ }
+{
     if change.moves {
         return values[change.high - 1];
     }
@@ -212,7 +277,11 @@ struct Placed {
     falls: bool,
 }
 
-fn place(beats: &mut [f64], values: &mut [f64], n: usize, beat: f64, value: f64) -> Placed {
+fn place(beats: &mut [f64], values: &mut [f64], n: usize, beat: f64, value: f64) -> Placed
+    requires { ⌜ (n < 1024) × (n < length (now beats)) × (length (now beats) ≡ length (now values)) ⌝ }
+    requires { ⌜ neverFalls rowKeyAt (take n (now beats)) ≡ true ⌝ }
+    ensures { λ r. ⌜ PlacedOne (beat, value) n (now (beats .entry)) (now (values .entry)) r (now (beats .exit)) (now (values .exit)) ⌝ }
+{
     if n == 0 {
         beats[0] = beat;
         values[0] = value;
@@ -244,7 +313,11 @@ fn place_all(
     values: &[f64],
     kept_beats: &mut [f64],
     kept_values: &mut [f64],
-) -> Placed {
+) -> Placed
+    requires { ⌜ (length (now beats) ≤ 1024) × (length (now beats) ≡ length (now values)) ⌝ }
+    requires { ⌜ (length (now beats) ≤ length (now «kept_beats»)) × (length (now «kept_beats») ≡ length (now «kept_values»)) ⌝ }
+    ensures { λ r. ⌜ PlacedAll (entries (now (beats .entry)) (now (values .entry))) r (now («kept_beats» .exit)) (now («kept_values» .exit)) ⌝ }
+{
     let mut kept = Placed {
         count: 0,
         falls: false,
@@ -272,7 +345,11 @@ fn lay_rows(
     count: usize,
     out_beats: &mut [f64],
     out_values: &mut [f64],
-) {
+)
+    requires { ⌜ (count ≤ length (now beats)) × (count ≤ length (now values)) ⌝ }
+    requires { ⌜ count ≤ min (length (now «out_beats»)) (length (now «out_values»)) ⌝ }
+    ensures { λ _. ⌜ Laid (map onItsRow (listed count (now (beats .entry)) (now (values .entry)))) (now («out_beats» .entry)) (now («out_beats» .exit)) (now («out_values» .entry)) (now («out_values» .exit)) ⌝ }
+{
     let mut i = 0;
     while i < count {
         out_beats[i] = on_row(beats[i]);
@@ -288,7 +365,12 @@ fn tidy_placed_in(
     kept_values: &mut [f64],
     out_beats: &mut [f64],
     out_values: &mut [f64],
-) -> Outcome {
+) -> Outcome
+    requires { ⌜ listNumber (rangeOf Kind.Beat) (rangeOf Kind.Value) (now beats) (now values) ≡ 0 ⌝ }
+    requires { ⌜ neverFalls rowKeyAt (now beats) ≡ false ⌝ }
+    requires { ⌜ (length (now beats) ≤ length (now «kept_beats»)) × (length (now «kept_beats») ≡ length (now «kept_values»)) ⌝ }
+    ensures { λ r. ⌜ ScrollsTidied (now (beats .entry)) (now (values .entry)) r (now («out_beats» .entry)) (now («out_beats» .exit)) (now («out_values» .entry)) (now («out_values» .exit)) ⌝ }
+{
     let kept = place_all(beats, values, kept_beats, kept_values);
     if kept.falls {
         return columns::refused(limits::FALLS);
@@ -308,7 +390,11 @@ fn tidy_placed(
     values: &[f64],
     out_beats: &mut [f64],
     out_values: &mut [f64],
-) -> Outcome {
+) -> Outcome
+    requires { ⌜ listNumber (rangeOf Kind.Beat) (rangeOf Kind.Value) (now beats) (now values) ≡ 0 ⌝ }
+    requires { ⌜ neverFalls rowKeyAt (now beats) ≡ false ⌝ }
+    ensures { λ r. ⌜ ScrollsTidied (now (beats .entry)) (now (values .entry)) r (now («out_beats» .entry)) (now («out_beats» .exit)) (now («out_values» .entry)) (now («out_values» .exit)) ⌝ }
+{
     let mut kept_beats = [0.0; 1024];
     let mut kept_values = [0.0; 1024];
     tidy_placed_in(
@@ -324,7 +410,9 @@ fn tidy_placed(
 // ---- the call
 
 // Whether no row is below the one before it.
-fn in_order(beats: &[f64]) -> bool {
+fn in_order(beats: &[f64]) -> bool
+    ensures { λ r. ⌜ r ≡ neverFalls rowKeyAt (now (beats .entry)) ⌝ }
+{
     let mut last = 0;
     let mut i = 0;
     while i < beats.len() {
@@ -343,7 +431,9 @@ pub fn tidy_scroll_segments(
     values: &[f64],
     out_beats: &mut [f64],
     out_values: &mut [f64],
-) -> Outcome {
+) -> Outcome
+    ensures { λ r. ⌜ ScrollsTidied (now (beats .entry)) (now (values .entry)) r (now («out_beats» .entry)) (now («out_beats» .exit)) (now («out_values» .entry)) (now («out_values» .exit)) ⌝ }
+{
     let number = limits::list_number(Kind::Beat, Kind::Value, beats, values);
     if number != 0 {
         return columns::refused(number);
