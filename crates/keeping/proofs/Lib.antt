@@ -5,3 +5,5 @@ pub mod OrderKept
 pub mod Searched
 pub mod ColumnsPlaced
 pub mod ChangedRightly
+pub mod PassTurns
+pub mod NearNothing

@@ -303,7 +303,7 @@ fn place(beats: &mut [f64], values: &mut [f64], n: usize, beat: f64, value: f64)
     }
     Placed {
         count: left,
-        falls: false,
+        falls: change.falls,
     }
 }
 
