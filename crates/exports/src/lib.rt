@@ -14,6 +14,7 @@ ghost use Rattle.limits.specs.Numbers.{rangeOf};
 ghost use Rattle.limits.specs.Refusals.{listNumber};
 ghost use Rattle.tidy_rows.specs.RowTidying.{RowsTidied};
 ghost use Rattle.tidy_tempos.specs.TempoTidying.{tidyTempos};
+ghost use Rattle.tidy_scrolls.specs.ScrollTidying.{ScrollsTidied};
 
 #[no_mangle]
 pub extern "C" fn marrighentu_lrint_f64(x: f64) -> i32
@@ -216,4 +217,16 @@ pub extern "C" fn marrighentu_tidy_bpms(
     ensures { λ r. ⌜ LaidPair (listNumber (rangeOf Kind.Beat) (rangeOf Kind.TidyTempo) (now (beats .entry)) (now (tempos .entry))) (tidyTempos (now (beats .entry)) (now (tempos .entry))) r (now («out_beats» .entry)) (now («out_beats» .exit)) (now («out_tempos» .entry)) (now («out_tempos» .exit)) ⌝ }
 {
     tidy_tempos::tidy_bpms(beats, tempos, out_beats, out_tempos)
+}
+
+#[no_mangle]
+pub extern "C" fn marrighentu_tidy_scroll_segments(
+    beats: &[f64],
+    values: &[f64],
+    out_beats: &mut [f64],
+    out_values: &mut [f64],
+) -> Outcome
+    ensures { λ r. ⌜ ScrollsTidied (now (beats .entry)) (now (values .entry)) r (now («out_beats» .entry)) (now («out_beats» .exit)) (now («out_values» .entry)) (now («out_values» .exit)) ⌝ }
+{
+    tidy_scrolls::tidy_scroll_segments(beats, values, out_beats, out_values)
 }

@@ -57,7 +57,9 @@ same-length-4 : tie.Need-same-length-4
 same-length-4 c = search needs
 
 returns-2 : tie.Need-returns-2
-returns-2 c = ?
+returns-2 c =
+    let g = c .before .before .before .before .before .before .before .before .before .before .before .before .before .before .before .before .before .before in
+    rw (c .before .before .before .before .before .before .before .before .splice .ensures, c .before .before .before .before .splice2 .ensures) (placed-later (g .args .beat, g .args .value) (g .args .n) (g .args .beats .now) (g .args .values .now) (omega arith) (g .pre .0 .2) (c .before .before .before .before .before .before .before .before .before .before .before .before .change-at .result) (c .before .before .before .before .before .before .before .before .before .before .before .before .change-at .ensures) (c .before .before .before .before .before .before .before .before .before .before .value-of .result) (c .before .before .before .before .before .before .before .before .before .before .value-of .ensures) _ (rw (c .if2 .taken)) refl)
 
 same-length-5 : tie.Need-same-length-5
 same-length-5 c = search needs
@@ -66,7 +68,9 @@ same-length-6 : tie.Need-same-length-6
 same-length-6 c = search needs
 
 returns-3 : tie.Need-returns-3
-returns-3 c = ?
+returns-3 c =
+    let g = c .before .before .before .before .before .before .before .before .before .before .before .before .before .before .before .before .before .before in
+    rw (c .before .before .before .before .before .before .before .before .splice .ensures, c .before .before .before .before .splice2 .ensures) (placed-later (g .args .beat, g .args .value) (g .args .n) (g .args .beats .now) (g .args .values .now) (omega arith) (g .pre .0 .2) (c .before .before .before .before .before .before .before .before .before .before .before .before .change-at .result) (c .before .before .before .before .before .before .before .before .before .before .before .before .change-at .ensures) (c .before .before .before .before .before .before .before .before .before .before .value-of .result) (c .before .before .before .before .before .before .before .before .before .before .value-of .ensures) _ (rw (c .if2 .left) (omega arith)) refl)
 
 pub place-spec : {M : Type 1} → statement M
 place-spec =

@@ -61,7 +61,7 @@ loop-again c =
     let at = c .before .before .before .before .before .before .before .before .before .before .before in
     let g = at .before .before .before .before .before in
     let p = c .before .before .before .before .place in
-    (p .kept .0 ∙ at .loop .inv .0, p .kept .1 .0 ∙ at .loop .inv .1, placing-more (g .args .beats .now) (g .args .values .now) (g .pre .0 .1) (at .loop .kept-beats) (at .loop .kept-values) (at .loop .kept) (at .loop .i) (at .loop .inv .2) _ _ (p .result) (c .before .before .before .before .before .before .before .before .before .if1 .left) (omega arith) (p .kept .0) (p .kept .1 .0) (p .ensures))
+    (p .kept .0 ∙ at .loop .inv .0, p .kept .1 .0 ∙ at .loop .inv .1, placing-more (g .args .beats .now) (g .args .values .now) (g .pre .0 .1) (at .loop .kept-beats) (at .loop .kept-values) (at .loop .kept) (at .loop .i) (at .loop .inv .2) _ _ (p .result) (c .before .before .before .before .before .before .before .before .before .if1 .left) (c .before .before .before .before .before .before .before .before .before .before .loop-test .taken) (p .kept .0) (p .kept .1 .0) (p .ensures))
 
 same-length-3 : tie.Need-same-length-3 Inv-loop μ-loop
 same-length-3 c = search needs
