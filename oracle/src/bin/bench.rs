@@ -3,7 +3,7 @@
 use oracle::calls::{self, Call, Visit};
 use oracle::cases::Cases;
 use oracle::random::Random;
-use oracle::tidying::{self, Rows, Tempos, Tidying};
+use oracle::tidying::{self, Rows, Scrolls, Tempos, Tidying};
 use std::hint::black_box;
 use std::time::{Duration, Instant};
 
@@ -25,6 +25,9 @@ fn main() {
     }
     for entries in [16, 256] {
         ORDERS[..2].iter().for_each(|order| bench.tidying::<Tempos>(entries, *order));
+    }
+    for entries in [16, 256, 1_024] {
+        ORDERS[..2].iter().for_each(|order| bench.tidying::<Scrolls>(entries, *order));
     }
     println!("worst ratio {:.2} ({})", bench.worst.0, bench.worst.1);
 }

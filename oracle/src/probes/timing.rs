@@ -9,6 +9,6 @@ crate::probes! { super =>
     fn quantize_beat_f32(beat: f32) -> f32;
     fn tidy_row_segments(segments: Vec<super::Segment>) -> Vec<super::Segment>;
     fn tidy_scroll_segments(segments: Vec<super::Segment>) -> Vec<super::Segment>;
-    fn add_scroll_segment_slow(out: &mut Vec<super::Segment>, seg: super::Segment) -> ();
+    fn add_scroll_segment_slow(out: &mut Vec<super::Segment>, seg: super::Segment);
     fn tidy_bpms(bpms: Vec<(f64, f64)>) -> Vec<(f64, f64)>;
 }
