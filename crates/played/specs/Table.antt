@@ -6,6 +6,7 @@ use lib.Ieee.{binary32, binary64, neg}
 use Rattle.rows.specs.Rows.{row}
 use Rattle.tidy_rows.specs.RowTidying.{tidyRows}
 use Rattle.tidy_tempos.specs.TempoTidying.{tidyTempos}
+use Rattle.tidy_scrolls.specs.ScrollTidying.{tidyScrolls, scrollsNumber}
 use Rattle.played.specs.Numbers.{decimal, whole, minus}
 
 pub record Examples : Type 0 where
@@ -17,3 +18,8 @@ pub record Examples : Type 0 where
   -- tempos, tidied: of equal beats the last, moved to 0; and an equal tempo left out
   pub tempos-of-one-beat : tidyTempos (whole 1 ∷ whole 1 ∷ []) (whole 150 ∷ whole 160 ∷ []) ≡ (whole 0, whole 160) ∷ []
   pub tempos-that-change : tidyTempos (whole 0 ∷ whole 4 ∷ whole 8 ∷ []) (whole 120 ∷ whole 120 ∷ whole 60 ∷ []) ≡ (whole 0, whole 120) ∷ (whole 8, whole 60) ∷ []
+  -- scrolls: in order, and out of order, where a fourth entry finds a kept list that falls
+  pub scrolls-in-order : tidyScrolls (whole 0 ∷ whole 4 ∷ whole 4 ∷ []) (whole 1 ∷ whole 2 ∷ whole 1 ∷ []) ≡ (whole 0, whole 1) ∷ []
+  pub scrolls-out-of-order : tidyScrolls (whole 4 ∷ whole 8 ∷ whole 0 ∷ []) (whole 1 ∷ whole 2 ∷ whole 2 ∷ []) ≡ (whole 4, whole 1) ∷ (whole 0, whole 2) ∷ []
+  pub scrolls-that-fall-last : scrollsNumber (whole 4 ∷ whole 8 ∷ whole 0 ∷ []) (whole 1 ∷ whole 2 ∷ whole 2 ∷ []) ≡ 0
+  pub scrolls-that-fall : scrollsNumber (whole 4 ∷ whole 8 ∷ whole 0 ∷ whole 12 ∷ []) (whole 1 ∷ whole 2 ∷ whole 2 ∷ whole 3 ∷ []) ≡ 6
