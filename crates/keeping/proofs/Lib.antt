@@ -7,3 +7,4 @@ pub mod ColumnsPlaced
 pub mod ChangedRightly
 pub mod PassTurns
 pub mod NearNothing
+pub mod KeptInOrder
