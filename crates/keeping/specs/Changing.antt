@@ -1,18 +1,14 @@
 -- An entry placed by its place: which part of the kept list goes, and what comes there. Definitions only.
-use Prim.Native.Nat.{ℕ, _+_, _-_, _≤_}
-use mathlib.Core.Bool.{Bool, true, false}
+use Prim.Native.Nat.{ℕ, _+_, _-_, _≤_, _<_}
+use mathlib.Core.Path.{_≡_}
+use mathlib.Core.Bool.{Bool, true, false, not}
 use mathlib.Core.List.{List, [], _∷_, _++_}
 use lib.Dec.{ltb, leb, eqb}
-use lib.ListN.{length, take, drop}
+use lib.ListN.{length, take, drop, getD}
 use Rattle.picks.specs.Pick.{pick}
-use Rattle.order.specs.Order.{laid}
-use Rattle.order.specs.Order.{neverFalls}
+use Rattle.order.specs.Order.{laid, neverFalls}
 use Rattle.keeping.specs.declared.Change.{Change}
 use Rattle.keeping.specs.Keeping.{rowOf, placed}
-use mathlib.Core.Path.{_≡_}
-use Prim.Native.Nat.{_<_}
-use mathlib.Core.Bool.{not}
-use lib.ListN.{getD}
 
 -- what comes, where something does
 abbrev pub coming : {A : Type 0} → Bool → A → List A
