@@ -15,6 +15,7 @@ ghost use Rattle.limits.specs.Refusals.{listNumber};
 ghost use Rattle.tidy_rows.specs.RowTidying.{RowsTidied};
 ghost use Rattle.tidy_tempos.specs.TempoTidying.{tidyTempos};
 ghost use Rattle.tidy_scrolls.specs.ScrollTidying.{ScrollsTidied};
+ghost use Rattle.tidy_speeds.specs.SpeedTidying.{SpeedsTidied};
 
 #[no_mangle]
 pub extern "C" fn marrighentu_lrint_f64(x: f64) -> i32
@@ -229,4 +230,29 @@ pub extern "C" fn marrighentu_tidy_scroll_segments(
     ensures { λ r. ⌜ ScrollsTidied (now (beats .entry)) (now (values .entry)) r (now («out_beats» .entry)) (now («out_beats» .exit)) (now («out_values» .entry)) (now («out_values» .exit)) ⌝ }
 {
     tidy_scrolls::tidy_scroll_segments(beats, values, out_beats, out_values)
+}
+
+#[no_mangle]
+pub extern "C" fn marrighentu_tidy_speed_segments(
+    beats: &[f64],
+    ratios: &[f64],
+    delays: &[f64],
+    units: &[u8],
+    out_beats: &mut [f64],
+    out_ratios: &mut [f64],
+    out_delays: &mut [f64],
+    out_units: &mut [u8],
+) -> Outcome
+    ensures { λ r. ⌜ SpeedsTidied (now (beats .entry)) (now (ratios .entry)) (now (delays .entry)) (now (units .entry)) r (now («out_beats» .entry)) (now («out_beats» .exit)) (now («out_ratios» .entry)) (now («out_ratios» .exit)) (now («out_delays» .entry)) (now («out_delays» .exit)) (now («out_units» .entry)) (now («out_units» .exit)) ⌝ }
+{
+    tidy_speeds::tidy_speed_segments(
+        beats,
+        ratios,
+        delays,
+        units,
+        out_beats,
+        out_ratios,
+        out_delays,
+        out_units,
+    )
 }

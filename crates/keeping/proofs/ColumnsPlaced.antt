@@ -10,12 +10,9 @@ use borrow.Author.Tests.{lt-ltb, le-leb}
 use Rattle.picks.specs.Pick.{pick}
 use Rattle.order.specs.Order.{laid, neverFalls, mayPrecede}
 use Rattle.order.specs.Entries.{entries}
+use Rattle.order.proofs.Columns.{length-entries}
 use Rattle.keeping.specs.Keeping.{rowOf}
-use Rattle.keeping.specs.Changing.{coming, spliced, splicedIn}
-
--- how many a list has with a part replaced
-abbrev pub countBy : ℕ → ℕ → ℕ → Bool → ℕ
-countBy n low high comes = n - (high - low) + pick comes 1 0
+use Rattle.keeping.specs.Changing.{coming, spliced, splicedIn, countBy}
 
 module _ {A : Type 0} where
   pub length-spliced : (low high : ℕ) (comes : Bool) (x : A) (l : List A) → low ≤ high → high ≤ length l → length (spliced low high comes x l) ≡ countBy (length l) low high comes
@@ -63,6 +60,29 @@ module _ {A C : Type 0} where
       ∙ rw (entries-take low a c) (ap (λ (l : List (A × C)). take low (entries a c) ++ l) (unfold entries in ap (_∷_ (x, y)) (entries-drop high a c h)))
   entries-spliced low high false x y a c h =
       entries-append (take low a) (drop high a) (take low c) (drop high c) (simp length-take (omega arith)) ∙ rw (entries-take low a c, entries-drop high a c h)
+
+-- the same of columns of one length that lie in a room
+module _ {A C : Type 0} where
+  entries-laid : (a a′ : List A) (c c′ : List C) → length a ≡ length c → length a′ ≡ length c′ → entries (laid a a′) (laid c c′) ≡ laid (entries a c) (entries a′ c′)
+  unfolding laid
+  entries-laid a a′ c c′ h k =
+      entries-append a (drop (length a) a′) c (drop (length c) c′) h
+      ∙ ap (λ (l : List (A × C)). entries a c ++ l) (rw (← h, length-entries a c h) (entries-drop (length a) a′ c′ k))
+
+  pub entries-spliced-in : (n low high : ℕ) (comes : Bool) (x : A) (y : C) (a : List A) (c : List C) → length a ≡ length c → n < length a → low ≤ high → high ≤ n
+      → entries (splicedIn n low high comes x a) (splicedIn n low high comes y c) ≡ splicedIn n low high comes (x, y) (entries a c)
+  unfolding splicedIn
+  entries-spliced-in n low high comes x y a c same room h k =
+      let room-c : n < length c = omega arith in
+      let room-e : n < length (entries a c) = omega (arith, length-entries a c same) in
+      let some-a : length (take n a) ≡ n = length-take-le n a (omega arith) in
+      let some-c : length (take n c) ≡ n = length-take-le n c (omega arith) in
+      let even : length (take n a) ≡ length (take n c) = some-a ∙ sym some-c in
+      let size : length (spliced low high comes x (take n a)) ≡ length (spliced low high comes y (take n c)) =
+      length-spliced low high comes x (take n a) h (omega arith) ∙ ap (λ (m : ℕ). countBy m low high comes) even ∙ sym (length-spliced low high comes y (take n c) h (omega arith)) in
+      rw (lt-ltb n (length a) room, lt-ltb n (length c) room-c, lt-ltb n (length (entries a c)) room-e, le-leb high n k, le-leb low high h)
+      (entries-laid (spliced low high comes x (take n a)) a (spliced low high comes y (take n c)) c size same
+      ∙ ap (λ (l : List (A × C)). laid l (entries a c)) (entries-spliced low high comes x y (take n a) (take n c) even ∙ ap (spliced low high comes (x, y)) (entries-take n a c)))
 
 -- the rows of entries are those of their beats
 module _ {B W : Type 0} (row : B → ℕ) (near : W → W → Bool) where

@@ -8,3 +8,6 @@ pub mod ChangedRightly
 pub mod PassTurns
 pub mod NearNothing
 pub mod KeptInOrder
+pub mod PlacedInColumns
+pub mod FieldsLaid
+pub mod ShortestColumn

@@ -51,6 +51,15 @@ module _ {B W : Type 0} (row : B → ℕ) (near : W → W → Bool) where
     unfolding written writes
     waits-here w = rw (from-here list i d is, here, w)
 
+  -- with what the code holds: the state that follows, the row, and whether the waiting entry is written
+  module _ (list : List (B × W)) (s next : Waiting B W) (i : ℕ) (e d : B × W) (inside : i < length list) (here : getD list i d ≡ e) (so : next ≡ passed row near s e)
+      (k : ℕ) (is : k ≡ row (e .0)) (flag : Bool) (told : flag ≡ pick (s .waits) (ltb (s .row) k) false) where
+    pub turn-writes : flag ≡ true → written row near s (drop i list) ≡ (s .beat, s .value) ∷ written row near next (drop (i + 1) list)
+    turn-writes f = rw so (writes-here s list i e d inside here (rw is at (sym told ∙ f)))
+
+    pub turn-waits : flag ≡ false → written row near s (drop i list) ≡ written row near next (drop (i + 1) list)
+    turn-waits f = rw so (waits-here s list i e d inside here (rw is at (sym told ∙ f)))
+
   module _ (s : Waiting B W) (list : List (B × W)) (i : ℕ) (past : length list ≤ i) where
     pub one-left : s .waits ≡ true → written row near s (drop i list) ≡ (s .beat, s .value) ∷ []
     unfolding written

@@ -25,6 +25,10 @@ splicedIn n low high comes x column =
     (pick (leb high n) (pick (leb low high) (laid (spliced low high comes x (take n column)) column) column) column)
     column
 
+-- how many a list of n has then
+abbrev pub countBy : ℕ → ℕ → ℕ → Bool → ℕ
+countBy n low high comes = n - (high - low) + pick comes 1 0
+
 abbrev pub change : ℕ → ℕ → Bool → Bool → Bool → Change
 change low high comes moves falls = record { low = low; high = high; comes = comes; moves = moves; falls = falls }
 

@@ -3,6 +3,7 @@ ghost use mathlib.Core.Path.{_≡_};
 ghost use mathlib.Core.List.{_∷_, _++_};
 ghost use Prim.Native.Nat.{_-_, _≤_, _<_};
 ghost use lib.ListN.{length, take, drop};
+ghost use Rattle.picks.specs.Pick.{pick};
 ghost use Rattle.order.specs.Order.{laid};
 ghost use Rattle.keeping.specs.Near.{nearTo};
 ghost use Rattle.keeping.specs.Changing.{cut, changeOf, splicedIn};
@@ -31,6 +32,16 @@ pub fn place_before(at: usize) -> usize
     ensures { λ r. ⌜ r ≡ at - 1 ⌝ }
 {
     if at == 0 { 0 } else { at - 1 }
+}
+
+// The place of the entry that one is held against: the last up to its row, or the one before that where the last is on its row.
+pub fn held_against(last: usize, on_row: bool) -> usize
+    ensures { λ r. ⌜ r ≡ pick «on_row» (last - 1) last ⌝ }
+{
+    if on_row {
+        return place_before(last);
+    }
+    last
 }
 
 fn cut_of(last: usize, on_row: bool) -> usize

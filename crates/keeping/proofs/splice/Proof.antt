@@ -9,76 +9,57 @@ use Rattle.keeping.proofs.PartReplaced.{spliced-opened, spliced-over, s
 use borrow.Author.Needs.{needs}
 use Rattle.keeping.proofs.splice.Statement.{statement}
 use Rattle.keeping.proofs.splice.Tie as tie
-use Rattle.keeping.proofs.splice.Reads as reads
-use Rattle.keeping.proofs.splice.Lts as lts
-use Rattle.keeping.proofs.close_gap.Reads as close-reads
-use Rattle.keeping.proofs.open_place.Reads as open-reads
 
--- src/lib.rt:164:25
 open-place-requires : tie.Need-open-place-requires
 open-place-requires c κs = search needs
 
--- src/lib.rt:165:25
 same-length : tie.Need-same-length
 same-length c = search needs
 
--- src/lib.rt:165:25
 returns : tie.Need-returns
 returns c =
     let g = c .before .before .before .before .before .before .before .before .before .before .args in
     c .before .before .open-place .ensures ∙ rw (c .before .before .before .before .before .if4 .taken) (spliced-opened nan (g .column .now) (g .n) (omega arith) (g .low) (g .high) (omega arith) (omega arith) (g .x) (omega arith))
 
--- src/lib.rt:167:21
 mul-column : tie.Need-mul-column
 mul-column c = search needs
 
--- src/lib.rt:167:21
 slice-write-column : tie.Need-slice-write-column
 slice-write-column c = search needs
 
--- src/lib.rt:168:38
 add-close-gap : tie.Need-add-close-gap
 add-close-gap c = search needs
 
--- src/lib.rt:168:21
 close-gap-requires : tie.Need-close-gap-requires
 close-gap-requires c κs = (omega arith, omega arith, simp length-set (omega arith))
 
--- src/lib.rt:169:21
 same-length-2 : tie.Need-same-length-2
 same-length-2 c = c .before .before .close-gap .kept .0 ∙ simp length-set
 
--- src/lib.rt:169:21
 returns-2 : tie.Need-returns-2
 returns-2 c =
     let g = c .before .before .before .before .before .before .before .before .before .before .args in
     c .before .before .close-gap .ensures ∙ rw (c .before .before .before .before .before .if4 .taken) (spliced-over nan (g .column .now) (g .n) (omega arith) (g .low) (g .high) (omega arith) (omega arith) (g .x) (omega arith))
 
--- src/lib.rt:171:17
 close-gap-requires-2 : tie.Need-close-gap-requires-2
 close-gap-requires-2 c κs = search needs
 
--- src/lib.rt:156:1
 same-length-3 : tie.Need-same-length-3
 same-length-3 c = search needs
 
--- src/lib.rt:156:1
 returns-3 : tie.Need-returns-3
 returns-3 c =
     let g = c .before .before .before .before .before .before .before .before .before .args in
     c .before .before .close-gap2 .ensures ∙ rw (c .before .before .before .before .if4 .left) (spliced-shut nan (g .column .now) (g .n) (omega arith) (g .low) (g .high) (omega arith) (omega arith) (g .x))
 
--- src/lib.rt:156:1
 returns-4 : tie.Need-returns-4
 unfolding splicedIn
 returns-4 c = search flags
 
--- src/lib.rt:156:1
 returns-5 : tie.Need-returns-5
 unfolding splicedIn
 returns-5 c = search flags
 
--- src/lib.rt:156:1
 returns-6 : tie.Need-returns-6
 unfolding splicedIn
 returns-6 c = search flags

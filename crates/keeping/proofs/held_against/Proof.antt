@@ -1,8 +1,8 @@
--- `tidy_scrolls::held_against` meets its contract. Assumes nothing.
+-- `keeping::held_against` meets its contract. Assumes nothing.
 use Rattle.picks.proofs.Rules.{flags}
 use borrow.Author.Needs.{needs}
-use Rattle.tidy_scrolls.proofs.held_against.Statement.{statement}
-use Rattle.tidy_scrolls.proofs.held_against.Tie as tie
+use Rattle.keeping.proofs.held_against.Statement.{statement}
+use Rattle.keeping.proofs.held_against.Tie as tie
 
 place-before-requires : tie.Need-place-before-requires
 place-before-requires c κs = search needs

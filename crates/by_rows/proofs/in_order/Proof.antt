@@ -1,4 +1,4 @@
--- `tidy_scrolls::in_order` compares each row with the one before. Assumes nothing.
+-- `by_rows::in_order` compares each row with the one before. Assumes nothing.
 use Rattle.keeping.proofs.PassTurns.{neverFrom, from-zero, row-falls, row-stands, rows-end}
 use Rattle.tidy_rows.specs.RowTidying.{rowKeyAt}
 use Rattle.order.specs.Order.{neverFalls}
@@ -8,8 +8,8 @@ use native.Mathlib.Omega.{arith}
 use mathlib.Core.Path.{_≡_, sym, ap, _∙_}
 use Prim.Native.Nat.{_+_, _-_, _≤_, _<_}
 use borrow.Author.Needs.{needs}
-use Rattle.tidy_scrolls.proofs.in_order.Statement.{statement}
-use Rattle.tidy_scrolls.proofs.in_order.Tie as tie
+use Rattle.by_rows.proofs.in_order.Statement.{statement}
+use Rattle.by_rows.proofs.in_order.Tie as tie
 
 abbrev Inv-loop : tie.InvT-loop
 Inv-loop beats last₀ i₀ last i = (i ≤ length beats) × (neverFrom rowKeyAt last (drop i beats) ≡ neverFalls rowKeyAt beats)
