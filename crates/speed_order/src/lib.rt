@@ -52,13 +52,14 @@ fn come(before: Speed, held: Held, row: u32, beat: f64, value: Speed) -> Held
     requires { ⌜ row ≡ rowKeyAt beat ⌝ }
     ensures { λ r. ⌜ waiting r ≡ comes rowKeyAt nearSpeed (valueOf before) (waiting held) (beat, valueOf value) ⌝ }
 {
+    let waiting = held.value;
     if speeds::near(value, before) {
         return Held {
             before: before,
             waits: false,
             row: held.row,
             beat: held.beat,
-            value: held.value,
+            value: waiting,
         };
     }
     Held {
@@ -84,19 +85,21 @@ fn pass(held: Held, row: u32, beat: f64, value: Speed) -> Held
     requires { ⌜ row ≡ rowKeyAt beat ⌝ }
     ensures { λ r. ⌜ waiting r ≡ passed rowKeyAt nearSpeed (waiting held) (beat, valueOf value) ⌝ }
 {
+    let before = held.before;
+    let waiting = held.value;
     if held.waits {
         if held.row < row {
-            return come(held.value, held, row, beat, value);
+            return come(waiting, held, row, beat, value);
         }
-        if speeds::near(value, held.before) {
-            return come(held.before, held, row, beat, value);
+        if speeds::near(value, before) {
+            return come(before, held, row, beat, value);
         }
-        if speeds::near(value, held.value) {
+        if speeds::near(value, waiting) {
             return held;
         }
-        return come(held.before, held, row, beat, value);
+        return come(before, held, row, beat, value);
     }
-    come(held.before, held, row, beat, value)
+    come(before, held, row, beat, value)
 }
 
 fn speed_at(ratios: &[f64], delays: &[f64], units: &[u8], i: usize) -> Speed
@@ -180,6 +183,7 @@ fn lay_kept(
         let row = by_rows::row_key(beats[i]);
         let next = pass(held, row, beats[i], speed_at(ratios, delays, units, i));
         if writes(held, row) {
+            let waiting = held.value;
             write_speed(
                 out_beats,
                 out_ratios,
@@ -187,7 +191,7 @@ fn lay_kept(
                 out_units,
                 count,
                 held.beat,
-                held.value,
+                waiting,
             );
             count += 1;
             held = next;
@@ -198,6 +202,7 @@ fn lay_kept(
         i += 1;
     }
     if held.waits {
+        let waiting = held.value;
         write_speed(
             out_beats,
             out_ratios,
@@ -205,7 +210,7 @@ fn lay_kept(
             out_units,
             count,
             held.beat,
-            held.value,
+            waiting,
         );
         return count + 1;
     }

@@ -1,11 +1,11 @@
+-- `speed_order::no_speed` meets its contract. Assumes nothing.
+use lib.Ieee.{div, ofBits}
 use borrow.Author.Needs.{needs}
 use Rattle.speed_order.proofs.no_speed.Statement.{statement}
 use Rattle.speed_order.proofs.no_speed.Tie as tie
-use Rattle.speed_order.proofs.no_speed.Reads as reads
-use Rattle.speed_order.proofs.no_speed.Lts as lts
 
--- src/lib.rt:28:1
 returns : tie.Need-returns
+unfolding div ofBits
 returns c = search needs
 
 pub no-speed-spec : {M : Type 1} → statement M
