@@ -103,7 +103,7 @@ fn change_at(
 
 // The speed that comes: the entry's own, or where the next one moves that one's.
 fn speed_of(ratios: &[f64], delays: &[f64], units: &[u8], change: Change, value: Speed) -> Speed
-    requires { ⌜ change .moves ≡ true → 0 < change .high ⌝ }
+    requires { ⌜ (change .moves ≡ true → 0 < change .high) ⌝ }
     requires { ⌜ (change .high ≤ length (now ratios)) × (change .high ≤ length (now delays)) × (change .high ≤ length (now units)) ⌝ }
     ensures { λ r. ⌜ valueOf r ≡ pick (change .moves) (getD (speedValues (now (ratios .entry)) (now (delays .entry)) (now (units .entry))) (change .high - 1) noSpeed) (valueOf value) ⌝ }
 {

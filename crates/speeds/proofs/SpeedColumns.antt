@@ -39,3 +39,8 @@ module _ (ratios delays : List Float) (units : List ℕ) where
     pub speed-here : (i : ℕ) → i < leastOf (length beats) (length ratios) (length delays) (length units)
         → getD (speedEntries beats ratios delays units) i (nan, noSpeed) ≡ (getD beats i nan, (getD ratios i nan, (getD delays i nan, getD units i 0)))
     speed-here i h = entry-at beats (speedValues ratios delays units) i nan noSpeed (omega arith) (omega (arith, many-values)) ∙ rw (value-at i (omega arith) (omega arith) (omega arith))
+
+    -- with what is read of the other three columns
+    pub speed-entry : (i : ℕ) (v : SpeedValue) → i < leastOf (length beats) (length ratios) (length delays) (length units) → v ≡ getD (speedValues ratios delays units) i noSpeed
+        → getD (speedEntries beats ratios delays units) i (nan, noSpeed) ≡ (getD beats i nan, v)
+    speed-entry i v h is = rw is (entry-at beats (speedValues ratios delays units) i nan noSpeed (omega arith) (omega (arith, many-values)))
