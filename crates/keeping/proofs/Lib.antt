@@ -11,3 +11,4 @@ pub mod KeptInOrder
 pub mod PlacedInColumns
 pub mod FieldsLaid
 pub mod ShortestColumn
+pub mod Answered
