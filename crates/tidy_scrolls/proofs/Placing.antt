@@ -19,12 +19,12 @@ use Rattle.tidy_rows.specs.RowTidying.{rowKeyAt, rowKeyOf}
 use Rattle.keeping.specs.declared.Change.{Change}
 use Rattle.keeping.specs.Near.{nearTo}
 use Rattle.keeping.specs.Keeping.{placed, placedAfter, placedBetween, fallsWhile}
-use Rattle.keeping.specs.Changing.{changeOf, spliced, splicedIn, Changed}
+use Rattle.keeping.specs.Changing.{changeOf, spliced, splicedIn, countBy, Changed}
 use Rattle.keeping.specs.Searching.{UpTo}
 use Rattle.keeping.proofs.PlacedByPlace.{nearAt, againstAt, changeBy, onRowAt}
 use Rattle.keeping.proofs.ChangedRightly.{changed-rightly}
 use Rattle.keeping.proofs.Searched.{reached}
-use Rattle.keeping.proofs.ColumnsPlaced.{countBy, taken-spliced, entries-spliced, never-falls-entries}
+use Rattle.keeping.proofs.ColumnsPlaced.{taken-spliced, entries-spliced, never-falls-entries}
 use Rattle.keeping.proofs.PassTurns.{places-here, falls-here, stands-here, all-placed, none-falls}
 use Rattle.tidy_scrolls.specs.declared.Placed.{Placed}
 use Rattle.tidy_scrolls.specs.Ways.{listed, placedIn, PlacedOne, PlacedAll}

@@ -23,20 +23,6 @@ ghost use Rattle.keeping.specs.Searching.{UpTo};
 ghost use Rattle.tidy_scrolls.specs.ScrollTidying.{ScrollsTidied};
 ghost use Rattle.tidy_scrolls.specs.Ways.{waiting, unheld, writtenFrom, listed, PlacedOne, PlacedAll};
 
-// The beat moved to its row.
-fn on_row(beat: f64) -> f64
-    ensures { λ r. ⌜ r ≡ onRow beat ⌝ }
-{
-    rows::note_row_to_beat(rows::beat_to_note_row(beat))
-}
-
-// The row of a beat, as a key.
-fn row_key(beat: f64) -> u32
-    ensures { λ r. ⌜ r ≡ rowKeyAt beat ⌝ }
-{
-    order::key_of_row(rows::beat_to_note_row(beat))
-}
-
 // ---- entries in order: no working memory
 
 // The value written last, and the entry that waits to be written, if one does.
@@ -120,7 +106,7 @@ fn count_kept(beats: &[f64], values: &[f64]) -> usize
     let mut count = 0;
     let mut i = 0;
     while i < beats.len() {
-        let row = row_key(beats[i]);
+        let row = by_rows::row_key(beats[i]);
         let next = pass(held, row, beats[i], values[i]);
         if writes(held, row) {
             count += 1;
@@ -147,10 +133,10 @@ fn lay_kept(beats: &[f64], values: &[f64], out_beats: &mut [f64], out_values: &m
     let mut count = 0;
     let mut i = 0;
     while i < beats.len() {
-        let row = row_key(beats[i]);
+        let row = by_rows::row_key(beats[i]);
         let next = pass(held, row, beats[i], values[i]);
         if writes(held, row) {
-            out_beats[count] = on_row(held.beat);
+            out_beats[count] = by_rows::on_row(held.beat);
             out_values[count] = held.value;
             count += 1;
             held = next;
@@ -161,7 +147,7 @@ fn lay_kept(beats: &[f64], values: &[f64], out_beats: &mut [f64], out_values: &m
         i += 1;
     }
     if held.waits {
-        out_beats[count] = on_row(held.beat);
+        out_beats[count] = by_rows::on_row(held.beat);
         out_values[count] = held.value;
         return count + 1;
     }
@@ -212,7 +198,7 @@ fn place_after(beats: &[f64], n: usize, row: u32) -> usize
     let mut high = n;
     while low < high {
         let middle = low + (high - low) / 2;
-        if row_key(beats[middle]) <= row {
+        if by_rows::row_key(beats[middle]) <= row {
             low = middle + 1;
             continue;
         }
@@ -232,30 +218,20 @@ fn near_at(values: &[f64], n: usize, place: usize, value: f64) -> bool
     false
 }
 
-// The place of the entry that one is held against: the last up to its row, or the one before that where the last is on its row.
-fn held_against(last: usize, on_row: bool) -> usize
-    ensures { λ r. ⌜ r ≡ pick «on_row» (last - 1) last ⌝ }
-{
-    if on_row {
-        return keeping::place_before(last);
-    }
-    last
-}
-
 fn change_at(beats: &[f64], values: &[f64], n: usize, beat: f64, value: f64) -> Change
     requires { ⌜ (0 < n) × (n ≤ 1024) × (n ≤ length (now beats)) × (n ≤ length (now values)) ⌝ }
     requires { ⌜ neverFalls rowKeyAt (take n (now beats)) ≡ true ⌝ }
     ensures { λ r. ⌜ Changed rowKeyAt nearTo (beat, value) (listed n (now (beats .entry)) (now (values .entry))) r ⌝ }
 {
-    let row = row_key(beat);
+    let row = by_rows::row_key(beat);
     let at = place_after(beats, n, row);
     let last = keeping::place_before(at);
-    let on_row = row_key(beats[last]) == row;
+    let on_row = by_rows::row_key(beats[last]) == row;
     keeping::change_of(
         at,
         on_row,
         near_at(values, n, last + 1, value),
-        near_at(values, n, held_against(last, on_row), value),
+        near_at(values, n, keeping::held_against(last, on_row), value),
         near_at(values, n, last, value),
     )
 }
@@ -352,7 +328,7 @@ fn lay_rows(
 {
     let mut i = 0;
     while i < count {
-        out_beats[i] = on_row(beats[i]);
+        out_beats[i] = by_rows::on_row(beats[i]);
         out_values[i] = values[i];
         i += 1;
     }
@@ -409,23 +385,6 @@ fn tidy_placed(
 
 // ---- the call
 
-// Whether no row is below the one before it.
-fn in_order(beats: &[f64]) -> bool
-    ensures { λ r. ⌜ r ≡ neverFalls rowKeyAt (now (beats .entry)) ⌝ }
-{
-    let mut last = 0;
-    let mut i = 0;
-    while i < beats.len() {
-        let row = row_key(beats[i]);
-        if row < last {
-            return false;
-        }
-        last = row;
-        i += 1;
-    }
-    true
-}
-
 pub fn tidy_scroll_segments(
     beats: &[f64],
     values: &[f64],
@@ -438,7 +397,7 @@ pub fn tidy_scroll_segments(
     if number != 0 {
         return columns::refused(number);
     }
-    if in_order(beats) {
+    if by_rows::in_order(beats) {
         return tidy_ordered(beats, values, out_beats, out_values);
     }
     tidy_placed(beats, values, out_beats, out_values)

@@ -1,6 +1,6 @@
 -- `tidy_scrolls::place` writes the first entry, or makes the change. Assumes nothing.
 use Rattle.tidy_scrolls.proofs.Placing.{placed-first, high-fits, placed-later}
-use Rattle.keeping.proofs.ColumnsPlaced.{countBy}
+use Rattle.keeping.specs.Changing.{countBy}
 use native.Mathlib.Omega.{arith}
 use mathlib.Core.Path.{_≡_, refl, sym, _∙_}
 use Prim.Native.Nat.{_+_, _-_}
