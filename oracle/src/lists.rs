@@ -69,7 +69,7 @@ fn arrange(beats: &mut [f64], random: &mut Random) {
 
 /// Values that every call takes, of one kind.
 pub fn values(length: usize, random: &mut Random) -> Vec<f64> {
-    let kind = random.below(4);
+    let kind = random.below(5);
     let ends = [0.0, power(-20), power(-20).moved(1), power(30).moved(-1), power(30)];
     let mut last = 60.0;
     (0..length)
@@ -79,6 +79,9 @@ pub fn values(length: usize, random: &mut Random) -> Vec<f64> {
                 0 => random.sign() * power(random.below(50) as i32 - 20) * (1.0 + random.part()),
                 // runs of the same
                 1 if random.below(3) != 0 => last,
+                // about as far apart as values may be to count as the same
+                4 if random.below(3) == 0 => 60.0 + random.below(3) as f64,
+                4 => (last + random.sign() * one_of(&[0.0, 0.4e-6, 1e-6, 2e-6], random)).moved(random.below(3) as i64 - 1),
                 1 => random.sign() * one_of(&[0.0, 60.0, 60f64.moved(1), 120.0], random),
                 _ => random.sign() * one_of(&ends, random),
             };

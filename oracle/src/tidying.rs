@@ -30,12 +30,18 @@ pub trait Tidying {
     /// Whether a value is within its limit.
     fn takes(value: f64) -> bool;
     fn original(list: Vec<Self::Entry>) -> Vec<Self::Entry>;
+    /// Whether the original's way with a list that is not in order meets a kept list that falls.
+    fn falls(_beats: &[f64], _values: &[f64]) -> bool {
+        false
+    }
     fn port(beats: &[f64], values: &[f64], out_beats: &mut [f64], out_values: &mut [f64]) -> Outcome;
 }
 
 pub struct Rows;
 
 pub struct Tempos;
+
+pub struct Scrolls;
 
 /// The port's function `marrighentu_NAME`.
 macro_rules! port {
@@ -110,6 +116,41 @@ impl Tidying for Tempos {
     port! { "tidy_bpms" }
 }
 
+impl Tidying for Scrolls {
+    type Entry = Segment;
+    const NAME: &str = "tidy_scroll_segments";
+
+    fn entry(beat: f64, value: f64) -> Segment {
+        Segment { beat, value }
+    }
+    fn beat_and_value(entry: &Segment) -> (f64, f64) {
+        (entry.beat, entry.value)
+    }
+    fn takes(value: f64) -> bool {
+        value.is_finite() && value.abs() <= power(30)
+    }
+    fn original(list: Vec<Segment>) -> Vec<Segment> {
+        probe::tidy_scroll_segments(list)
+    }
+    fn falls(beats: &[f64], values: &[f64]) -> bool {
+        let on_row = |beat: &f64| probe::note_row_to_beat(probe::beat_to_note_row(*beat));
+        let falls = |list: &[Segment]| list.windows(2).any(|pair| pair[1].beat < pair[0].beat);
+        let list: Vec<_> = beats.iter().zip(values).map(|(beat, value)| Self::entry(on_row(beat), *value)).collect();
+        let mut kept = Vec::new();
+        falls(&list)
+            && list.into_iter().any(|entry| {
+                let fallen = falls(&kept);
+                if kept.is_empty() {
+                    kept.push(entry);
+                } else {
+                    probe::add_scroll_segment_slow(&mut kept, entry);
+                }
+                fallen
+            })
+    }
+    port! { "tidy_scroll_segments" }
+}
+
 pub fn list<T: Tidying>(beats: &[f64], values: &[f64]) -> Vec<T::Entry> {
     beats.iter().zip(values).map(|(beat, value)| T::entry(*beat, *value)).collect()
 }
@@ -124,6 +165,8 @@ fn list_number<T: Tidying>(beats: &[f64], values: &[f64]) -> u32 {
         3
     } else if values.iter().any(|value| !T::takes(*value)) {
         4
+    } else if T::falls(beats, values) {
+        6
     } else {
         0
     }
@@ -292,4 +335,5 @@ pub fn compare_all(work: Work, total: &mut Total) {
     }
     add::<Rows>(work, total);
     add::<Tempos>(work, total);
+    add::<Scrolls>(work, total);
 }

@@ -32,6 +32,8 @@ ghost use Rattle.walk.specs.Events.{timing};
 ghost use Rattle.timing_tests.specs.TimingNumbers.{timingNumber};
 ghost use Rattle.clock.specs.Question.{freshCursor, made, playerQuestion, question};
 ghost use Rattle.clock_run.specs.Run.{RunLaid};
+ghost use Rattle.tidy_scrolls.specs.ScrollTidying.{ScrollsTidied};
+ghost use Rattle.tidy_speeds.specs.SpeedTidying.{SpeedsTidied};
 
 #[no_mangle]
 pub extern "C" fn marrighentu_lrint_f64(x: f64) -> i32
@@ -662,5 +664,42 @@ pub extern "C" fn marrighentu_run(
         numbers,
         times,
         counts,
+    )
+}
+
+#[no_mangle]
+pub extern "C" fn marrighentu_tidy_scroll_segments(
+    beats: &[f64],
+    values: &[f64],
+    out_beats: &mut [f64],
+    out_values: &mut [f64],
+) -> Outcome
+    ensures { λ r. ⌜ ScrollsTidied (now (beats .entry)) (now (values .entry)) r (now («out_beats» .entry)) (now («out_beats» .exit)) (now («out_values» .entry)) (now («out_values» .exit)) ⌝ }
+{
+    tidy_scrolls::tidy_scroll_segments(beats, values, out_beats, out_values)
+}
+
+#[no_mangle]
+pub extern "C" fn marrighentu_tidy_speed_segments(
+    beats: &[f64],
+    ratios: &[f64],
+    delays: &[f64],
+    units: &[u8],
+    out_beats: &mut [f64],
+    out_ratios: &mut [f64],
+    out_delays: &mut [f64],
+    out_units: &mut [u8],
+) -> Outcome
+    ensures { λ r. ⌜ SpeedsTidied (now (beats .entry)) (now (ratios .entry)) (now (delays .entry)) (now (units .entry)) r (now («out_beats» .entry)) (now («out_beats» .exit)) (now («out_ratios» .entry)) (now («out_ratios» .exit)) (now («out_delays» .entry)) (now («out_delays» .exit)) (now («out_units» .entry)) (now («out_units» .exit)) ⌝ }
+{
+    tidy_speeds::tidy_speed_segments(
+        beats,
+        ratios,
+        delays,
+        units,
+        out_beats,
+        out_ratios,
+        out_delays,
+        out_units,
     )
 }

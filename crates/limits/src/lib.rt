@@ -155,7 +155,8 @@ pub fn in_range(range: Range, x: f64) -> bool
     range.dropped
 }
 
-fn magnitude(x: f64) -> f64
+// The size of a number: a NaN stays one.
+pub fn magnitude(x: f64) -> f64
     ensures { λ r. ⌜ r ≡ sizeOf x ⌝ }
 {
     if x < 0.0 { -x } else { x }

@@ -1,8 +1,8 @@
 -- The played examples hold, each by computation. A definition that one computes with stands on the `unfolding` line. Assumes nothing.
 use mathlib.Core.Path.{refl}
-use lib.Ieee.{add, sub, ne, mul, div, ofInt, neg, eq, lt, le, toBits}
+use lib.Ieee.{add, sub, ne, mul, div, ofInt, neg, eq, lt, le, toBits, ofBits}
 use Rattle.ieee.specs.Rounding.{rint, hold}
-use Rattle.order.specs.Order.{run, put, tidied}
+use Rattle.order.specs.Order.{run, put, tidied, neverFalls, mayPrecede}
 use Rattle.order.specs.Entries.{entries}
 use Rattle.order.specs.RowKey.{rowKey}
 use Rattle.order.specs.FloatKey.{floatKey}
@@ -19,11 +19,14 @@ use Rattle.walk.specs.Walk.{timeAt, walkWithin, walkOn, walk}
 use Rattle.timing_tests.specs.TimingNumbers.{rises, risesFrom, startsAtZero, listsNumber, offsetNumber, offsetsNumber, orderNumber, timingNumber, beatNumber}
 use Rattle.timing_tests.specs.CursorNumbers.{placesIn, rowsIn, endIn, cursorNumber}
 use Rattle.clock.specs.Question.{filled, temposOf, freshState, freshCursor, beginning, reply, cursorRefusal, playerNumber, questionNumber, question}
+use Rattle.tidy_scrolls.specs.ScrollTidying.{tidyScrolls, scrollsNumber}
+use Rattle.keeping.specs.Near.{nearTo}
+use Rattle.keeping.specs.Keeping.{onLastRow, keep, atFront, onRowOf, previous, cleared, settled, amid, placedBetween, placedAfter, fallsWhile, keptOf, keepNumber}
 use Rattle.played.specs.Numbers.{decimal}
 use Rattle.played.specs.Table.{Examples}
 
 pub played : Examples
-unfolding lesser leastBeat meets leading forward turn isOver written mergedWithin merged ne decimal neg add sub mul div ofInt rint hold eq lt le toBits narrow lastPasses isPaused isWarped run put tidied entries rowKey floatKey tidyRows fromZero changesAfter changes tidyTempos inRange every rowIn lower listNumber sooner offered endOffered nextEvent lastUpTo tempoAt earlyTempo inForce timeTo larger afterWarpEnd afterTempo afterStop afterWarp passed timeAt walkWithin walkOn walk rises risesFrom startsAtZero listsNumber offsetNumber offsetsNumber orderNumber timingNumber beatNumber placesIn rowsIn endIn cursorNumber filled temposOf freshState freshCursor beginning reply cursorRefusal playerNumber questionNumber question
+unfolding lesser leastBeat meets leading forward turn isOver written mergedWithin merged ne decimal neg add sub mul div ofInt rint hold eq lt le toBits narrow lastPasses isPaused isWarped run put tidied entries rowKey floatKey tidyRows fromZero changesAfter changes tidyTempos inRange every rowIn lower listNumber sooner offered endOffered nextEvent lastUpTo tempoAt earlyTempo inForce timeTo larger afterWarpEnd afterTempo afterStop afterWarp passed timeAt walkWithin walkOn walk rises risesFrom startsAtZero listsNumber offsetNumber offsetsNumber orderNumber timingNumber beatNumber placesIn rowsIn endIn cursorNumber filled temposOf freshState freshCursor beginning reply cursorRefusal playerNumber questionNumber question ofBits neverFalls mayPrecede nearTo onLastRow keep atFront onRowOf previous cleared settled amid placedBetween placedAfter fallsWhile keptOf keepNumber tidyScrolls scrollsNumber
 played =
     record {
       rows-f64 = refl;
@@ -37,4 +40,8 @@ played =
       beat-behind-a-stop = refl;
       beat-within-a-warp = refl;
       beat-behind-a-warp = refl;
+      scrolls-in-order = refl;
+      scrolls-out-of-order = refl;
+      scrolls-that-fall-last = refl;
+      scrolls-that-fall = refl;
     }

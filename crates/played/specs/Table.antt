@@ -10,6 +10,7 @@ use Rattle.tidy_tempos.specs.TempoTidying.{tidyTempos}
 use Rattle.lookup.specs.Lookups.{isWarped, askedRow}
 use Rattle.sm_stops.specs.Merging.{sources, merged, atFirst}
 use Rattle.played.specs.Charts.{stopped, warped, asked}
+use Rattle.tidy_scrolls.specs.ScrollTidying.{tidyScrolls, scrollsNumber}
 use Rattle.played.specs.Numbers.{decimal, whole, minus}
 
 pub record Examples : Type 0 where
@@ -30,3 +31,8 @@ pub record Examples : Type 0 where
   pub beat-behind-a-stop : asked stopped (whole 5) ≡ (0, decimal 35 1, 3)
   pub beat-within-a-warp : asked warped (whole 5) ≡ (0, whole 2, 3)
   pub beat-behind-a-warp : asked warped (whole 8) ≡ (0, whole 3, 4)
+  -- scrolls: in order, and out of order, where a fourth entry finds a kept list that falls
+  pub scrolls-in-order : tidyScrolls (whole 0 ∷ whole 4 ∷ whole 4 ∷ []) (whole 1 ∷ whole 2 ∷ whole 1 ∷ []) ≡ (whole 0, whole 1) ∷ []
+  pub scrolls-out-of-order : tidyScrolls (whole 4 ∷ whole 8 ∷ whole 0 ∷ []) (whole 1 ∷ whole 2 ∷ whole 2 ∷ []) ≡ (whole 4, whole 1) ∷ (whole 0, whole 2) ∷ []
+  pub scrolls-that-fall-last : scrollsNumber (whole 4 ∷ whole 8 ∷ whole 0 ∷ []) (whole 1 ∷ whole 2 ∷ whole 2 ∷ []) ≡ 0
+  pub scrolls-that-fall : scrollsNumber (whole 4 ∷ whole 8 ∷ whole 0 ∷ whole 12 ∷ []) (whole 1 ∷ whole 2 ∷ whole 2 ∷ whole 3 ∷ []) ≡ 6

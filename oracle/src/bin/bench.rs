@@ -7,7 +7,7 @@ use oracle::clock::{self, Columns, Cursor};
 use oracle::lookups::{self, Lists};
 use oracle::processing::{self, Format, Rooms, Sm, Ssc};
 use oracle::random::Random;
-use oracle::tidying::{self, Rows, Tempos, Tidying};
+use oracle::tidying::{self, Rows, Scrolls, Tempos, Tidying};
 use oracle::timing::probe;
 use oracle::timings::{Chart, DELAYS, STOPS, TEMPOS, WARPS};
 use std::hint::black_box;
@@ -32,6 +32,9 @@ fn main() {
     }
     for entries in [16, 256] {
         ORDERS[..2].iter().for_each(|order| bench.tidying::<Tempos>(entries, *order));
+    }
+    for entries in [16, 256, 1_024] {
+        ORDERS[..2].iter().for_each(|order| bench.tidying::<Scrolls>(entries, *order));
     }
     for entries in [16, 256] {
         bench.lookups(entries);

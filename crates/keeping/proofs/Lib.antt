@@ -1,0 +1,14 @@
+pub mod PartReplaced
+pub mod InOnePass
+pub mod PlacedByPlace
+pub mod OrderKept
+pub mod Searched
+pub mod ColumnsPlaced
+pub mod ChangedRightly
+pub mod PassTurns
+pub mod NearNothing
+pub mod KeptInOrder
+pub mod PlacedInColumns
+pub mod FieldsLaid
+pub mod ShortestColumn
+pub mod Answered

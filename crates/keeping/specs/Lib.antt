@@ -1,0 +1,6 @@
+pub mod Near
+pub mod Keeping
+pub mod Passing
+pub mod Changing
+pub mod Searching
+pub mod Placing

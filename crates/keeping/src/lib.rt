@@ -1,0 +1,186 @@
+// What the tidying of scrolls and that of speeds share: nearness, the change that an entry makes in the kept list, and a column with a part replaced.
+ghost use mathlib.Core.Path.{_≡_};
+ghost use mathlib.Core.List.{_∷_, _++_};
+ghost use Prim.Native.Nat.{_-_, _≤_, _<_};
+ghost use lib.ListN.{length, take, drop};
+ghost use Rattle.picks.specs.Pick.{pick};
+ghost use Rattle.order.specs.Order.{laid};
+ghost use Rattle.keeping.specs.Near.{nearTo};
+ghost use Rattle.keeping.specs.Changing.{cut, changeOf, splicedIn};
+
+// Whether two values are less than a millionth apart.
+pub fn near(a: f64, b: f64) -> bool
+    ensures { λ r. ⌜ r ≡ nearTo a b ⌝ }
+{
+    limits::magnitude(a - b) < 1e-6
+}
+
+// ---- the change that an entry makes
+
+// The places from low up to high go. Where something comes in their place it has the entry's beat, and the entry's value or, where the next one moves, that one's.
+// Whether the kept list falls then.
+pub struct Change {
+    pub low: usize,
+    pub high: usize,
+    pub comes: bool,
+    pub moves: bool,
+    pub falls: bool,
+}
+
+// The place before; 0 before all.
+pub fn place_before(at: usize) -> usize
+    ensures { λ r. ⌜ r ≡ at - 1 ⌝ }
+{
+    if at == 0 { 0 } else { at - 1 }
+}
+
+// The place of the entry that one is held against: the last up to its row, or the one before that where the last is on its row.
+pub fn held_against(last: usize, on_row: bool) -> usize
+    ensures { λ r. ⌜ r ≡ pick «on_row» (last - 1) last ⌝ }
+{
+    if on_row {
+        return place_before(last);
+    }
+    last
+}
+
+fn cut_of(last: usize, on_row: bool) -> usize
+    requires { ⌜ last ≤ 1024 ⌝ }
+    ensures { λ r. ⌜ r ≡ cut last «on_row» ⌝ }
+{
+    if on_row {
+        if last == 0 {
+            return 1;
+        }
+        return last;
+    }
+    last + 1
+}
+
+// The change of an entry with `at` kept ones on rows up to its own. A place beyond 1,024 changes nothing.
+pub fn change_of(
+    at: usize,
+    on_row: bool,
+    near_next: bool,
+    near_previous: bool,
+    near_last: bool,
+) -> Change
+    ensures { λ r. ⌜ r ≡ changeOf at «on_row» «near_next» «near_previous» «near_last» ⌝ }
+{
+    if at > 1024 {
+        return Change {
+            low: 0,
+            high: 0,
+            comes: false,
+            moves: false,
+            falls: false,
+        };
+    }
+    let last = place_before(at);
+    let kept = cut_of(last, on_row);
+    if near_next {
+        if near_previous {
+            return Change {
+                low: kept,
+                high: last + 2,
+                comes: false,
+                moves: false,
+                falls: false,
+            };
+        }
+        return Change {
+            low: kept,
+            high: last + 2,
+            comes: true,
+            moves: true,
+            falls: at == 0,
+        };
+    }
+    if near_previous {
+        return Change {
+            low: kept,
+            high: last + 1,
+            comes: false,
+            moves: false,
+            falls: false,
+        };
+    }
+    if on_row {
+        if near_last {
+            return Change {
+                low: at,
+                high: at,
+                comes: false,
+                moves: false,
+                falls: false,
+            };
+        }
+        return Change {
+            low: last,
+            high: at,
+            comes: true,
+            moves: false,
+            falls: false,
+        };
+    }
+    Change {
+        low: at,
+        high: at,
+        comes: true,
+        moves: false,
+        falls: false,
+    }
+}
+
+// ---- a column with a part replaced
+
+// x at a place of the first n, those behind it one place on.
+fn open_place(column: &mut [f64], n: usize, at: usize, x: f64)
+    requires { ⌜ (at ≤ n) × (n < length (now column)) ⌝ }
+    ensures { λ _. ⌜ now (column .exit) ≡ laid (take at (take n (now (column .entry))) ++ (x ∷ drop at (take n (now (column .entry))))) (now (column .entry)) ⌝ }
+{
+    let mut i = n;
+    while at < i {
+        column[i] = column[i - 1];
+        i -= 1;
+    }
+    column[i] = x;
+}
+
+// The first n without the places from low up to high.
+fn close_gap(column: &mut [f64], n: usize, low: usize, high: usize)
+    requires { ⌜ (low ≤ high) × (high ≤ n) × (n < length (now column)) ⌝ }
+    ensures { λ _. ⌜ now (column .exit) ≡ laid (take low (take n (now (column .entry))) ++ drop high (take n (now (column .entry)))) (now (column .entry)) ⌝ }
+{
+    if low < high {
+        let mut to = low;
+        let mut i = high;
+        while i < n {
+            column[to] = column[i];
+            to += 1;
+            i += 1;
+        }
+    }
+}
+
+// The first n of a column without the places from low up to high, and where one comes with x there. Nothing is done where these do not fit, or nothing is behind the first n.
+pub fn splice(column: &mut [f64], n: usize, low: usize, high: usize, comes: bool, x: f64)
+    ensures { λ _. ⌜ now (column .exit) ≡ splicedIn n low high comes x (now (column .entry)) ⌝ }
+{
+    if n < column.len() {
+        if high <= n {
+            if low <= high {
+                if comes {
+                    if low == high {
+                        open_place(column, n, low, x);
+                        return;
+                    }
+                    column[low] = x;
+                    close_gap(column, n, low + 1, high);
+                    return;
+                }
+                close_gap(column, n, low, high);
+            }
+        }
+    }
+}

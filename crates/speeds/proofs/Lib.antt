@@ -1,0 +1,5 @@
+pub mod OneOutcome
+pub mod Rooms
+pub mod NearNoSpeed
+pub mod SpeedsLaid
+pub mod SpeedColumns

@@ -1,0 +1,69 @@
+-- `tidy_scrolls::change_at` finds the change by place and nearness. Assumes nothing.
+use Rattle.tidy_scrolls.proofs.Placing.{change-by}
+use lib.Seq.{length-take-le}
+use native.Mathlib.Omega.{arith}
+use mathlib.Core.Path.{refl}
+use borrow.Author.Needs.{needs}
+use Rattle.tidy_scrolls.proofs.change_at.Statement.{statement}
+use Rattle.tidy_scrolls.proofs.change_at.Tie as tie
+
+row-key-requires : tie.Need-row-key-requires
+row-key-requires c κs = search needs
+
+place-after-requires : tie.Need-place-after-requires
+place-after-requires c κs = search needs
+
+place-before-requires : tie.Need-place-before-requires
+place-before-requires c κs = search needs
+
+mul-row-key : tie.Need-mul-row-key
+mul-row-key c = omega (arith, c .place-before .ensures, c .before .place-after .ensures .within, length-take-le (c .before .before .before .before .before .args .n) (c .before .before .before .before .before .args .beats .now) (omega arith))
+
+shared-slice-read-row-key : tie.Need-shared-slice-read-row-key
+shared-slice-read-row-key c = omega (arith, c .before .place-before .ensures, c .before .before .place-after .ensures .within, length-take-le (c .before .before .before .before .before .before .args .n) (c .before .before .before .before .before .before .args .beats .now) (omega arith))
+
+row-key-requires-2 : tie.Need-row-key-requires-2
+row-key-requires-2 c κs = search needs
+
+add-near-at : tie.Need-add-near-at
+add-near-at c = search needs
+
+near-at-requires : tie.Need-near-at-requires
+near-at-requires c κs = search needs
+
+held-against-requires : tie.Need-held-against-requires
+held-against-requires c κs = search needs
+
+near-at-requires-2 : tie.Need-near-at-requires-2
+near-at-requires-2 c κs = search needs
+
+near-at-requires-3 : tie.Need-near-at-requires-3
+near-at-requires-3 c κs = search needs
+
+change-of-requires : tie.Need-change-of-requires
+change-of-requires c κs = search needs
+
+returns : tie.Need-returns
+returns c =
+    let g = c .before .before .before .before .before .before .before .before .before .before .before .before in
+    change-by (g .args .n) (g .args .beats .now) (g .args .values .now) (omega arith) (omega arith) (g .args .beat, g .args .value) (c .before .before .before .before .before .before .before .before .place-after .result) (c .before .before .before .before .before .before .before .place-before .result) (c .before .before .before .held-against .result) (c .before .before .before .before .before .before .before .before .before .row-key .result) (c .before .before .before .before .before .row-key2 .result)
+    (c .before .before .before .before .before .before .before .place-before .ensures) (c .before .before .before .before .before .before .before .before .before .row-key .ensures) (c .before .before .before .before .before .row-key2 .ensures) (c .before .before .before .before .before .before .before .before .place-after .ensures) (g .pre .1) (omega arith) (omega arith) _ (c .before .before .before .before .near-at .result) (c .before .before .near-at2 .result) (c .before .near-at3 .result) refl (c .before .before .before .held-against .ensures)
+    (c .before .before .before .before .near-at .ensures) (c .before .before .near-at2 .ensures) (c .before .near-at3 .ensures) (c .change-of .result) (c .change-of .ensures)
+
+pub change-at-spec : {M : Type 1} → statement M
+change-at-spec =
+    tie.close
+    (tie.spec
+    row-key-requires
+    place-after-requires
+    place-before-requires
+    mul-row-key
+    shared-slice-read-row-key
+    row-key-requires-2
+    add-near-at
+    near-at-requires
+    held-against-requires
+    near-at-requires-2
+    near-at-requires-3
+    change-of-requires
+    returns)

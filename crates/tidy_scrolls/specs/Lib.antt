@@ -1,0 +1,2 @@
+pub mod ScrollTidying
+pub mod Ways

@@ -1,0 +1,404 @@
+// Scroll tidying: entries in order are kept in one pass; others are placed one by one.
+use columns::Outcome;
+use keeping::Change;
+use limits::Kind;
+ghost use mathlib.Core.Path.{_≡_};
+ghost use mathlib.Core.Bool.{true, false};
+ghost use mathlib.Core.List.{map};
+ghost use Prim.Native.Nat.{_-_, _≤_, _<_, min};
+ghost use lib.Dec.{ltb, leb};
+ghost use lib.ListN.{length, take, getD};
+ghost use lib.Ieee.{nan};
+ghost use Rattle.picks.specs.Pick.{pick};
+ghost use Rattle.limits.specs.Numbers.{rangeOf};
+ghost use Rattle.limits.specs.Refusals.{listNumber};
+ghost use Rattle.order.specs.Order.{neverFalls};
+ghost use Rattle.order.specs.Entries.{entries};
+ghost use Rattle.tidy_rows.specs.RowTidying.{rowKeyAt, onRow, onItsRow};
+ghost use Rattle.tidy_rows.specs.Ways.{Laid};
+ghost use Rattle.keeping.specs.Near.{nearTo};
+ghost use Rattle.keeping.specs.Passing.{comes, passed, written};
+ghost use Rattle.keeping.specs.Changing.{Changed};
+ghost use Rattle.keeping.specs.Searching.{UpTo};
+ghost use Rattle.tidy_scrolls.specs.ScrollTidying.{ScrollsTidied};
+ghost use Rattle.tidy_scrolls.specs.Ways.{waiting, unheld, writtenFrom, listed, PlacedOne, PlacedAll};
+
+// ---- entries in order: no working memory
+
+// The value written last, and the entry that waits to be written, if one does.
+struct Held {
+    before: f64,
+    waits: bool,
+    row: u32,
+    beat: f64,
+    value: f64,
+}
+
+fn none_held() -> Held
+    ensures { λ r. ⌜ waiting r ≡ unheld ⌝ }
+{
+    Held {
+        before: 0.0 / 0.0,
+        waits: false,
+        row: 0,
+        beat: 0.0,
+        value: 0.0,
+    }
+}
+
+// An entry on a row from that of the waiting one on comes, after the value that is written last.
+fn come(before: f64, held: Held, row: u32, beat: f64, value: f64) -> Held
+    requires { ⌜ row ≡ rowKeyAt beat ⌝ }
+    ensures { λ r. ⌜ waiting r ≡ comes rowKeyAt nearTo before (waiting held) (beat, value) ⌝ }
+{
+    if keeping::near(value, before) {
+        return Held {
+            before: before,
+            waits: false,
+            row: held.row,
+            beat: held.beat,
+            value: held.value,
+        };
+    }
+    Held {
+        before: before,
+        waits: true,
+        row: row,
+        beat: beat,
+        value: value,
+    }
+}
+
+// Whether the waiting entry is written when an entry on a row comes.
+fn writes(held: Held, row: u32) -> bool
+    ensures { λ r. ⌜ r ≡ pick (held .waits) (ltb (held .row) row) false ⌝ }
+{
+    if held.waits {
+        return held.row < row;
+    }
+    false
+}
+
+fn pass(held: Held, row: u32, beat: f64, value: f64) -> Held
+    requires { ⌜ row ≡ rowKeyAt beat ⌝ }
+    ensures { λ r. ⌜ waiting r ≡ passed rowKeyAt nearTo (waiting held) (beat, value) ⌝ }
+{
+    if held.waits {
+        if held.row < row {
+            return come(held.value, held, row, beat, value);
+        }
+        if keeping::near(value, held.before) {
+            return come(held.before, held, row, beat, value);
+        }
+        if keeping::near(value, held.value) {
+            return held;
+        }
+        return come(held.before, held, row, beat, value);
+    }
+    come(held.before, held, row, beat, value)
+}
+
+fn count_kept(beats: &[f64], values: &[f64]) -> usize
+    requires { ⌜ length (now beats) ≡ length (now values) ⌝ }
+    ensures { λ r. ⌜ r ≡ length (written rowKeyAt nearTo unheld (entries (now (beats .entry)) (now (values .entry)))) ⌝ }
+{
+    let mut held = none_held();
+    let mut count = 0;
+    let mut i = 0;
+    while i < beats.len() {
+        let row = by_rows::row_key(beats[i]);
+        let next = pass(held, row, beats[i], values[i]);
+        if writes(held, row) {
+            count += 1;
+            held = next;
+            i += 1;
+            continue;
+        }
+        held = next;
+        i += 1;
+    }
+    if held.waits {
+        return count + 1;
+    }
+    count
+}
+
+fn lay_kept(beats: &[f64], values: &[f64], out_beats: &mut [f64], out_values: &mut [f64]) -> usize
+    requires { ⌜ length (now beats) ≡ length (now values) ⌝ }
+    requires { ⌜ length (written rowKeyAt nearTo unheld (entries (now beats) (now values))) ≤ min (length (now «out_beats»)) (length (now «out_values»)) ⌝ }
+    ensures { λ r. ⌜ r ≡ length (written rowKeyAt nearTo unheld (entries (now (beats .entry)) (now (values .entry)))) ⌝ }
+    ensures { λ _. ⌜ Laid (writtenFrom unheld (entries (now (beats .entry)) (now (values .entry)))) (now («out_beats» .entry)) (now («out_beats» .exit)) (now («out_values» .entry)) (now («out_values» .exit)) ⌝ }
+{
+    let mut held = none_held();
+    let mut count = 0;
+    let mut i = 0;
+    while i < beats.len() {
+        let row = by_rows::row_key(beats[i]);
+        let next = pass(held, row, beats[i], values[i]);
+        if writes(held, row) {
+            out_beats[count] = by_rows::on_row(held.beat);
+            out_values[count] = held.value;
+            count += 1;
+            held = next;
+            i += 1;
+            continue;
+        }
+        held = next;
+        i += 1;
+    }
+    if held.waits {
+        out_beats[count] = by_rows::on_row(held.beat);
+        out_values[count] = held.value;
+        return count + 1;
+    }
+    count
+}
+
+// Whether the kept entries have room: counted only where there are more entries than room.
+fn fits(beats: &[f64], values: &[f64], room: usize) -> bool
+    requires { ⌜ length (now beats) ≡ length (now values) ⌝ }
+    ensures { λ r. ⌜ r ≡ leb (length (written rowKeyAt nearTo unheld (entries (now (beats .entry)) (now (values .entry))))) room ⌝ }
+{
+    if beats.len() <= room {
+        return true;
+    }
+    count_kept(beats, values) <= room
+}
+
+fn tidy_ordered(
+    beats: &[f64],
+    values: &[f64],
+    out_beats: &mut [f64],
+    out_values: &mut [f64],
+) -> Outcome
+    requires { ⌜ listNumber (rangeOf Kind.Beat) (rangeOf Kind.Value) (now beats) (now values) ≡ 0 ⌝ }
+    requires { ⌜ neverFalls rowKeyAt (now beats) ≡ true ⌝ }
+    ensures { λ r. ⌜ ScrollsTidied (now (beats .entry)) (now (values .entry)) r (now («out_beats» .entry)) (now («out_beats» .exit)) (now («out_values» .entry)) (now («out_values» .exit)) ⌝ }
+{
+    let room = columns::room_of(out_beats.len(), out_values.len());
+    if !fits(beats, values, room) {
+        return columns::refused(limits::NO_ROOM);
+    }
+    let count = lay_kept(beats, values, out_beats, out_values);
+    Outcome {
+        number: limits::TAKEN,
+        count: count,
+    }
+}
+
+// ---- entries in no order: placed one by one in two columns
+
+// How many of the first n beats, whose rows never fall, are on rows up to one.
+fn place_after(beats: &[f64], n: usize, row: u32) -> usize
+    requires { ⌜ n ≤ length (now beats) ⌝ }
+    requires { ⌜ neverFalls rowKeyAt (take n (now beats)) ≡ true ⌝ }
+    ensures { λ r. ⌜ UpTo rowKeyAt nan (take n (now (beats .entry))) row r ⌝ }
+{
+    let mut low = 0;
+    let mut high = n;
+    while low < high {
+        let middle = low + (high - low) / 2;
+        if by_rows::row_key(beats[middle]) <= row {
+            low = middle + 1;
+            continue;
+        }
+        high = middle;
+    }
+    low
+}
+
+// Whether a value is near that at a place of the first n.
+fn near_at(values: &[f64], n: usize, place: usize, value: f64) -> bool
+    requires { ⌜ n ≤ length (now values) ⌝ }
+    ensures { λ r. ⌜ r ≡ pick (ltb place n) (nearTo value (getD (now (values .entry)) place nan)) false ⌝ }
+{
+    if place < n {
+        return keeping::near(value, values[place]);
+    }
+    false
+}
+
+fn change_at(beats: &[f64], values: &[f64], n: usize, beat: f64, value: f64) -> Change
+    requires { ⌜ (0 < n) × (n ≤ 1024) × (n ≤ length (now beats)) × (n ≤ length (now values)) ⌝ }
+    requires { ⌜ neverFalls rowKeyAt (take n (now beats)) ≡ true ⌝ }
+    ensures { λ r. ⌜ Changed rowKeyAt nearTo (beat, value) (listed n (now (beats .entry)) (now (values .entry))) r ⌝ }
+{
+    let row = by_rows::row_key(beat);
+    let at = place_after(beats, n, row);
+    let last = keeping::place_before(at);
+    let on_row = by_rows::row_key(beats[last]) == row;
+    keeping::change_of(
+        at,
+        on_row,
+        near_at(values, n, last + 1, value),
+        near_at(values, n, keeping::held_against(last, on_row), value),
+        near_at(values, n, last, value),
+    )
+}
+
+// The value that comes: the entry's own, or where the next one moves that one's.
+fn value_of(values: &[f64], change: Change, value: f64) -> f64
+    requires { ⌜ (change .moves ≡ true → 0 < change .high) × (change .high ≤ length (now values)) ⌝ }
+    ensures { λ r. ⌜ r ≡ pick (change .moves) (getD (now (values .entry)) (change .high - 1) nan) value ⌝ }
+{
+    if change.moves {
+        return values[change.high - 1];
+    }
+    value
+}
+
+// How many are kept, and whether they fall somewhere.
+struct Placed {
+    count: usize,
+    falls: bool,
+}
+
+fn place(beats: &mut [f64], values: &mut [f64], n: usize, beat: f64, value: f64) -> Placed
+    requires { ⌜ (n < 1024) × (n < length (now beats)) × (length (now beats) ≡ length (now values)) ⌝ }
+    requires { ⌜ neverFalls rowKeyAt (take n (now beats)) ≡ true ⌝ }
+    ensures { λ r. ⌜ PlacedOne (beat, value) n (now (beats .entry)) (now (values .entry)) r (now (beats .exit)) (now (values .exit)) ⌝ }
+{
+    if n == 0 {
+        beats[0] = beat;
+        values[0] = value;
+        return Placed {
+            count: 1,
+            falls: false,
+        };
+    }
+    let change = change_at(beats, values, n, beat, value);
+    let comes = value_of(values, change, value);
+    keeping::splice(beats, n, change.low, change.high, change.comes, beat);
+    keeping::splice(values, n, change.low, change.high, change.comes, comes);
+    let left = n - (change.high - change.low);
+    if change.comes {
+        return Placed {
+            count: left + 1,
+            falls: change.falls,
+        };
+    }
+    Placed {
+        count: left,
+        falls: change.falls,
+    }
+}
+
+// Every entry, until one is to be placed in a kept list that falls: then `falls`, and the count is 0.
+fn place_all(
+    beats: &[f64],
+    values: &[f64],
+    kept_beats: &mut [f64],
+    kept_values: &mut [f64],
+) -> Placed
+    requires { ⌜ (length (now beats) ≤ 1024) × (length (now beats) ≡ length (now values)) ⌝ }
+    requires { ⌜ (length (now beats) ≤ length (now «kept_beats»)) × (length (now «kept_beats») ≡ length (now «kept_values»)) ⌝ }
+    ensures { λ r. ⌜ PlacedAll (entries (now (beats .entry)) (now (values .entry))) r (now («kept_beats» .exit)) (now («kept_values» .exit)) ⌝ }
+{
+    let mut kept = Placed {
+        count: 0,
+        falls: false,
+    };
+    let mut i = 0;
+    while i < beats.len() {
+        if kept.falls {
+            return Placed {
+                count: 0,
+                falls: true,
+            };
+        }
+        kept = place(kept_beats, kept_values, kept.count, beats[i], values[i]);
+        i += 1;
+    }
+    Placed {
+        count: kept.count,
+        falls: false,
+    }
+}
+
+fn lay_rows(
+    beats: &[f64],
+    values: &[f64],
+    count: usize,
+    out_beats: &mut [f64],
+    out_values: &mut [f64],
+)
+    requires { ⌜ (count ≤ length (now beats)) × (count ≤ length (now values)) ⌝ }
+    requires { ⌜ count ≤ min (length (now «out_beats»)) (length (now «out_values»)) ⌝ }
+    ensures { λ _. ⌜ Laid (map onItsRow (listed count (now (beats .entry)) (now (values .entry)))) (now («out_beats» .entry)) (now («out_beats» .exit)) (now («out_values» .entry)) (now («out_values» .exit)) ⌝ }
+{
+    let mut i = 0;
+    while i < count {
+        out_beats[i] = by_rows::on_row(beats[i]);
+        out_values[i] = values[i];
+        i += 1;
+    }
+}
+
+fn tidy_placed_in(
+    beats: &[f64],
+    values: &[f64],
+    kept_beats: &mut [f64],
+    kept_values: &mut [f64],
+    out_beats: &mut [f64],
+    out_values: &mut [f64],
+) -> Outcome
+    requires { ⌜ listNumber (rangeOf Kind.Beat) (rangeOf Kind.Value) (now beats) (now values) ≡ 0 ⌝ }
+    requires { ⌜ neverFalls rowKeyAt (now beats) ≡ false ⌝ }
+    requires { ⌜ (length (now beats) ≤ length (now «kept_beats»)) × (length (now «kept_beats») ≡ length (now «kept_values»)) ⌝ }
+    ensures { λ r. ⌜ ScrollsTidied (now (beats .entry)) (now (values .entry)) r (now («out_beats» .entry)) (now («out_beats» .exit)) (now («out_values» .entry)) (now («out_values» .exit)) ⌝ }
+{
+    let kept = place_all(beats, values, kept_beats, kept_values);
+    if kept.falls {
+        return columns::refused(limits::FALLS);
+    }
+    if kept.count > columns::room_of(out_beats.len(), out_values.len()) {
+        return columns::refused(limits::NO_ROOM);
+    }
+    lay_rows(kept_beats, kept_values, kept.count, out_beats, out_values);
+    Outcome {
+        number: limits::TAKEN,
+        count: kept.count,
+    }
+}
+
+fn tidy_placed(
+    beats: &[f64],
+    values: &[f64],
+    out_beats: &mut [f64],
+    out_values: &mut [f64],
+) -> Outcome
+    requires { ⌜ listNumber (rangeOf Kind.Beat) (rangeOf Kind.Value) (now beats) (now values) ≡ 0 ⌝ }
+    requires { ⌜ neverFalls rowKeyAt (now beats) ≡ false ⌝ }
+    ensures { λ r. ⌜ ScrollsTidied (now (beats .entry)) (now (values .entry)) r (now («out_beats» .entry)) (now («out_beats» .exit)) (now («out_values» .entry)) (now («out_values» .exit)) ⌝ }
+{
+    let mut kept_beats = [0.0; 1024];
+    let mut kept_values = [0.0; 1024];
+    tidy_placed_in(
+        beats,
+        values,
+        &mut kept_beats,
+        &mut kept_values,
+        out_beats,
+        out_values,
+    )
+}
+
+// ---- the call
+
+pub fn tidy_scroll_segments(
+    beats: &[f64],
+    values: &[f64],
+    out_beats: &mut [f64],
+    out_values: &mut [f64],
+) -> Outcome
+    ensures { λ r. ⌜ ScrollsTidied (now (beats .entry)) (now (values .entry)) r (now («out_beats» .entry)) (now («out_beats» .exit)) (now («out_values» .entry)) (now («out_values» .exit)) ⌝ }
+{
+    let number = limits::list_number(Kind::Beat, Kind::Value, beats, values);
+    if number != 0 {
+        return columns::refused(number);
+    }
+    if by_rows::in_order(beats) {
+        return tidy_ordered(beats, values, out_beats, out_values);
+    }
+    tidy_placed(beats, values, out_beats, out_values)
+}

@@ -1,0 +1,84 @@
+-- `tidy_speeds::tidy_speed_segments` meets its contract. Assumes nothing.
+use native.Mathlib.Omega.{arith}
+use mathlib.Core.Path.{sym, _∙_}
+use Rattle.tidy_speeds.proofs.Outcomes.{list-refused, ordered-number, ordered-list, placed-number, placed-list}
+use borrow.Author.Needs.{needs}
+use Rattle.tidy_speeds.proofs.tidy_speed_segments.Statement.{statement}
+use Rattle.tidy_speeds.proofs.tidy_speed_segments.Tie as tie
+
+speed-list-number-requires : tie.Need-speed-list-number-requires
+speed-list-number-requires c κs = search needs
+
+refused-requires : tie.Need-refused-requires
+refused-requires c κs = search needs
+
+returns : tie.Need-returns
+returns c =
+    let g = c .before .before .before .before .before .before .before .before .before .before .before in
+    rw (c .refused .ensures, c .before .before .speed-list-number .ensures) (list-refused (g .args .beats .now) (g .args .ratios .now) (g .args .delays .now) (g .args .units .now) (g .args .out-beats .now) (g .args .out-ratios .now) (g .args .out-delays .now) (g .args .out-units .now) (λ e. omega (arith, c .before .if1 .taken, c .before .before .speed-list-number .ensures, e)))
+
+in-order-requires : tie.Need-in-order-requires
+in-order-requires c κs = search needs
+
+tidy-ordered-requires : tie.Need-tidy-ordered-requires
+tidy-ordered-requires c κs = search needs
+
+same-length : tie.Need-same-length
+same-length c = search needs
+
+same-length-2 : tie.Need-same-length-2
+same-length-2 c = search needs
+
+same-length-3 : tie.Need-same-length-3
+same-length-3 c = search needs
+
+same-length-4 : tie.Need-same-length-4
+same-length-4 c = search needs
+
+returns-2 : tie.Need-returns-2
+returns-2 c =
+    let g = c .before .before .before .before .before .before .before .before .before .before .before .before .before .before .before .before .before .before .before .before .before .before .before .before .before in
+    let ordered = sym (c .before .before .before .before .before .before .before .before .before .before .before .before .before .before .in-order .ensures) ∙ c .before .before .before .before .before .before .before .before .before .before .before .before .before .if2 .taken in
+    rw (ordered-number (g .args .beats .now) (g .args .ratios .now) (g .args .delays .now) (g .args .units .now) (sym (c .before .before .before .before .before .before .before .before .before .before .before .before .before .before .before .before .speed-list-number .ensures) ∙ c .before .before .before .before .before .before .before .before .before .before .before .before .before .before .before .if1 .left) ordered, ordered-list (g .args .beats .now) (g .args .ratios .now) (g .args .delays .now) (g .args .units .now) (sym (c .before .before .before .before .before .before .before .before .before .before .before .before .before .before .before .before .speed-list-number .ensures) ∙ c .before .before .before .before .before .before .before .before .before .before .before .before .before .before .before .if1 .left) ordered) (c .before .before .before .before .before .before .before .before .tidy-ordered .ensures)
+
+tidy-placed-requires : tie.Need-tidy-placed-requires
+tidy-placed-requires c κs = search needs
+
+same-length-5 : tie.Need-same-length-5
+same-length-5 c = search needs
+
+same-length-6 : tie.Need-same-length-6
+same-length-6 c = search needs
+
+same-length-7 : tie.Need-same-length-7
+same-length-7 c = search needs
+
+same-length-8 : tie.Need-same-length-8
+same-length-8 c = search needs
+
+returns-3 : tie.Need-returns-3
+returns-3 c =
+    let g = c .before .before .before .before .before .before .before .before .before .before .before .before .before .before .before .before .before .before .before .before .before .before .before .before .before in
+    let unordered = sym (c .before .before .before .before .before .before .before .before .before .before .before .before .before .before .in-order .ensures) ∙ c .before .before .before .before .before .before .before .before .before .before .before .before .before .if2 .left in
+    rw (placed-number (g .args .beats .now) (g .args .ratios .now) (g .args .delays .now) (g .args .units .now) (sym (c .before .before .before .before .before .before .before .before .before .before .before .before .before .before .before .before .speed-list-number .ensures) ∙ c .before .before .before .before .before .before .before .before .before .before .before .before .before .before .before .if1 .left) unordered, placed-list (g .args .beats .now) (g .args .ratios .now) (g .args .delays .now) (g .args .units .now) (sym (c .before .before .before .before .before .before .before .before .before .before .before .before .before .before .before .before .speed-list-number .ensures) ∙ c .before .before .before .before .before .before .before .before .before .before .before .before .before .before .before .if1 .left) unordered) (c .before .before .before .before .before .before .before .before .tidy-placed .ensures)
+
+pub tidy-speed-segments-spec : {M : Type 1} → statement M
+tidy-speed-segments-spec =
+    tie.close
+    (tie.spec
+    speed-list-number-requires
+    refused-requires
+    returns
+    in-order-requires
+    tidy-ordered-requires
+    same-length
+    same-length-2
+    same-length-3
+    same-length-4
+    returns-2
+    tidy-placed-requires
+    same-length-5
+    same-length-6
+    same-length-7
+    same-length-8
+    returns-3)

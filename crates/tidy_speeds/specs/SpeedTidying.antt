@@ -1,0 +1,46 @@
+-- Speed tidying. Definitions only.
+use Prim.Native.Nat.{ℕ}
+use mathlib.Core.List.{List, map}
+use lib.Dec.{ltb, eqb}
+use lib.ListN.{length}
+use lib.Ieee.{Float}
+use Rattle.picks.specs.Pick.{pick}
+use Rattle.limits.specs.declared.Kind.the-variants.{Beat, Value}
+use Rattle.limits.specs.Numbers.{rangeOf, allIn, unitsIn}
+use Rattle.limits.specs.Refusals.{lower}
+use Rattle.columns.specs.declared.Outcome.{Outcome}
+use Rattle.tidy_rows.specs.RowTidying.{rowKeyAt}
+use Rattle.keeping.specs.Keeping.{keptOf, keepNumber}
+use Rattle.speeds.specs.Speed.{SpeedEntry, nearSpeed, speedEntries, speedOnRow}
+use Rattle.speeds.specs.LaidSpeeds.{LaidSpeeds}
+
+-- 4 where a ratio, a delay or a unit is out of range
+unfoldable pub valuesNumber : List Float → List Float → List ℕ → ℕ
+valuesNumber ratios delays units = pick (allIn (rangeOf Value) ratios) (pick (allIn (rangeOf Value) delays) (pick (unitsIn units) 0 4) 4) 4
+
+-- a list of four columns by itself: too long, columns that differ in length, a beat, then the others
+unfoldable pub speedListNumber : List Float → List Float → List Float → List ℕ → ℕ
+speedListNumber beats ratios delays units =
+    pick (ltb 1024 (length beats)) 1
+    (pick (ltb 1024 (length ratios)) 1
+    (pick (ltb 1024 (length delays)) 1
+    (pick (ltb 1024 (length units)) 1
+    (pick (eqb (length beats) (length ratios))
+    (pick (eqb (length beats) (length delays))
+    (pick (eqb (length beats) (length units))
+    (pick (allIn (rangeOf Beat) beats) (valuesNumber ratios delays units) 3)
+    2)
+    2)
+    2))))
+
+-- the kept entries, each on its row
+unfoldable pub tidySpeeds : List Float → List Float → List Float → List ℕ → List SpeedEntry
+tidySpeeds beats ratios delays units = map speedOnRow (keptOf rowKeyAt nearSpeed (speedEntries beats ratios delays units))
+
+-- the tests of the list, then whether an entry is placed in a kept list that falls
+unfoldable pub speedsNumber : List Float → List Float → List Float → List ℕ → ℕ
+speedsNumber beats ratios delays units = lower (speedListNumber beats ratios delays units) (keepNumber rowKeyAt nearSpeed (speedEntries beats ratios delays units))
+
+-- the one outcome of the call, with the four rooms before and after
+abbrev pub SpeedsTidied : (beats ratios delays : List Float) (units : List ℕ) → Outcome → (beatsOld beatsNew ratiosOld ratiosNew delaysOld delaysNew : List Float) (unitsOld unitsNew : List ℕ) → Type 0
+SpeedsTidied beats ratios delays units outcome = LaidSpeeds (speedsNumber beats ratios delays units) (tidySpeeds beats ratios delays units) outcome
