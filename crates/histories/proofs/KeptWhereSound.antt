@@ -88,11 +88,11 @@ module _ (t : Timing) (offset global : Float) (sound : Sound t offset global) wh
   fine c (walked near e) =
       ap (λ (s : State). cursorNumber (temposOf t) (length (t .stopBeats)) (length (t .delayBeats)) (length (t .warpBeats)) s (c .asked)) e ∙ sound .walkedFine (c .asked) near
 
-  same-number : (c : Cursor) (b : Float) → Comes c → questionNumber t c offset global b ≡ questionNumber t (freshCursor offset global) offset global b
+  pub same-number : (c : Cursor) (b : Float) → Comes c → questionNumber t c offset global b ≡ questionNumber t (freshCursor offset global) offset global b
   unfolding questionNumber playerNumber
   same-number c b h = ap (λ (n : ℕ). lower (timingNumber t offset global) (lower (beatNumber b) n)) (fine c h ∙ sym (sound .freshFine))
 
-  same-accepts : (c : Cursor) (b : Float) → Comes c → accepts t offset global c b ≡ true → accepts t offset global (freshCursor offset global) b ≡ true
+  pub same-accepts : (c : Cursor) (b : Float) → Comes c → accepts t offset global c b ≡ true → accepts t offset global (freshCursor offset global) b ≡ true
   same-accepts c b h e = ap (λ (n : ℕ). eqb n 0) (sym (same-number c b h)) ∙ e
 
   -- ---- times
@@ -107,7 +107,7 @@ module _ (t : Timing) (offset global : Float) (sound : Sound t offset global) wh
   pub accepted-is : (c : Cursor) (b : Float) → question t c offset global b .number ≡ 0 → accepts t offset global c b ≡ true
   accepted-is c b n = eq-eqb (questionNumber t c offset global b) 0 (sym (number-is c b) ∙ n)
 
-  times : (c : Cursor) (b : Float) → Comes c → question t c offset global b .number ≡ 0 → question t c offset global b .time ≡ question t (freshCursor offset global) offset global b .time
+  pub times : (c : Cursor) (b : Float) → Comes c → question t c offset global b .number ≡ 0 → question t c offset global b .time ≡ question t (freshCursor offset global) offset global b .time
   times c b h n =
       let e = accepted-is c b n in
       ap (λ (a : Answer). a .time) (took c b e) ∙ replied-then c b h ∙ sym (ap (λ (a : Answer). a .time) (took (freshCursor offset global) b (same-accepts c b h e)))

@@ -7,3 +7,4 @@ pub mod DemandThree
 pub mod TimesAndRows
 pub mod EventsOfAWalk
 pub mod MixedQuestions
+pub mod RunsKeep

@@ -28,7 +28,7 @@ module _ (t : Timing) (offset global : Float) (taken : timingNumber t offset glo
   unfolding questionNumber
   question-number c b h = rw taken (none-lower (playerNumber t c b) ∙ player-number c b h)
 
-  same-answer : (way : Asking) (c : Cursor) (b : Float) → Reaches c → asks way t c offset global b ≡ question t c offset global b
+  pub same-answer : (way : Asking) (c : Cursor) (b : Float) → Reaches c → asks way t c offset global b ≡ question t c offset global b
   unfolding asking playerQuestion question
   same-answer ofBeat c b h = ap (λ (n : ℕ). byNumber n t c offset global b) (sym (question-number c b h))
   same-answer ofCursor c b h = ap (λ (n : ℕ). byNumber n t c offset global b) (player-number c b h ∙ sym (question-number c b h))

@@ -1,3 +1,4 @@
 pub mod History
 pub mod Demand
 pub mod Mixed
+pub mod Runs
