@@ -22,10 +22,10 @@ pub events-at-most : (t : Timing) (offset global : Float) (r : ℤ) → walk (fi
 events-at-most t offset global r = omega (arith, spent (filled t) r (freshState offset global), all-left t offset global)
 
 -- a tempo, a delay and a stop on beat 1, and a warp from beat 2 to 3: five events up to row 192, which is beat 4
-abbrev one : Float
+abbrev pub one : Float
 one = fin false 1 (pos 0)
 
-abbrev small : Timing
+abbrev pub small : Timing
 small = timing (noTime ∷ []) (sixty ∷ []) (one ∷ []) (one ∷ []) (one ∷ []) (one ∷ []) (fin false 1 (pos 1) ∷ []) (one ∷ [])
 
 pub events-all-passed : walk (filled small) (pos 192) (freshState noTime noTime) .passed ≡ events small

@@ -3,6 +3,7 @@ pub mod WithATempo
 pub mod WhereAFreshOneEnds
 pub mod KeptWhereSound
 pub mod WalksAreSound
+pub mod MixedQuestions
 pub mod DemandThree
 pub mod TimesAndRows
 pub mod EventsOfAWalk

@@ -1,5 +1,5 @@
 -- Over a timing that is taken, the questions that test less give the answers of the one that tests all, for every cursor that any of them left behind. Assumes nothing.
-use Prim.Native.Nat.{ℕ}
+use Prim.Native.Nat.{ℕ, _+_}
 use mathlib.Core.List.{List, [], _∷_}
 use mathlib.Core.Path.{_≡_, refl, sym, ap, _∙_}
 use lib.Ieee.{Float}
@@ -8,9 +8,9 @@ use Rattle.walk.specs.Events.{Timing}
 use Rattle.timing_tests.specs.TimingNumbers.{timingNumber, beatNumber}
 use Rattle.clock.specs.Question.{freshCursor, byNumber, asking, playerNumber, playerQuestion, questionNumber, question}
 use Rattle.clock.specs.declared.Cursor.{Cursor}
-use Rattle.histories.specs.History.{after}
+use Rattle.histories.specs.History.{after, counts}
 use Rattle.histories.specs.Demand.{used}
-use Rattle.histories.specs.Mixed.{Asking, ofBeat, ofCursor, ofAll, asks, beatsOf, afterMixed}
+use Rattle.histories.specs.Mixed.{Asking, ofBeat, ofCursor, ofAll, asks, beatsOf, afterMixed, countsMixed}
 use Rattle.histories.proofs.WhereAFreshOneEnds.{new}
 use Rattle.histories.proofs.KeptWhereSound.{Comes, comes, stays, fine}
 use Rattle.histories.proofs.WalksAreSound.{sound}
@@ -40,6 +40,13 @@ module _ (t : Timing) (offset global : Float) (taken : timingNumber t offset glo
   same-after c (q ∷ list) h =
       rw (same-answer (q .0) c (q .1) h) (same-after (question t c offset global (q .1) .cursor) list (stays t offset global (sound taken) c (q .1) h))
 
+  same-counts : (c : Cursor) (list : List (Asking × Float)) → Reaches c → countsMixed t offset global c list ≡ counts t offset global c (beatsOf list)
+  unfolding countsMixed counts
+  same-counts c [] h = refl
+  same-counts c (q ∷ list) h =
+      rw (same-answer (q .0) c (q .1) h)
+      (ap (λ (n : ℕ). question t c offset global (q .1) .count + n) (same-counts (question t c offset global (q .1) .cursor) list (stays t offset global (sound taken) c (q .1) h)))
+
   -- a mixed list leaves the cursor that its beats leave
   pub mixed-cursor : (list : List (Asking × Float)) → afterMixed t offset global (freshCursor offset global) list ≡ used t offset global (beatsOf list)
   mixed-cursor list = same-after (freshCursor offset global) list (new refl)
@@ -50,3 +57,9 @@ module _ (t : Timing) (offset global : Float) (taken : timingNumber t offset glo
   mixed-answer list way b =
       ap (λ (c : Cursor). asks way t c offset global b) (mixed-cursor list)
       ∙ same-answer way (used t offset global (beatsOf list)) b (comes t offset global (sound taken) (freshCursor offset global) (beatsOf list) (new refl))
+
+  pub mixed-fresh : (way : Asking) (b : Float) → asks way t (freshCursor offset global) offset global b ≡ question t (freshCursor offset global) offset global b
+  mixed-fresh way b = same-answer way (freshCursor offset global) b (new refl)
+
+  pub mixed-counts : (list : List (Asking × Float)) → countsMixed t offset global (freshCursor offset global) list ≡ counts t offset global (freshCursor offset global) (beatsOf list)
+  mixed-counts list = same-counts (freshCursor offset global) list (new refl)

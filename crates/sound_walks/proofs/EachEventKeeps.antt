@@ -72,8 +72,8 @@ pub record Fine (t : Timing) (s : State) (n : ℕ) : Type 0 where
 pub spans-of-format : (k : ℕ) → k ≤ 2 ^ 20 → OfFormat binary64 (spans k)
 spans-of-format k h = digits-of-format binary64 k 50 (omega arith) (lit≤ tt)
 
-one-more : (k : ℕ) → k ≤ 2 ^ 20 → (x y : Float) → AtMost (spans k) x → AtMost (2 ^ 50) y → k + 1 ≤ 2 ^ 20 → AtMost (spans (k + 1)) (add binary64 x y)
-one-more k h x y v w l = add-at-most binary64 (spans-of-format (k + 1) l) x y v w (omega arith)
+one-more : (k : ℕ) (x y : Float) → AtMost (spans k) x → AtMost (2 ^ 50) y → k + 1 ≤ 2 ^ 20 → AtMost (spans (k + 1)) (add binary64 x y)
+one-more k x y v w l = add-at-most binary64 (spans-of-format (k + 1) l) x y v w (omega arith)
 
 -- a number at a place of a list that is taken
 taken-at : (k : ℕ) (list : List Float) (i : ℕ) → allIn (upTo k) list ≡ true → i < length list → Sized k (getD list i nan)
@@ -127,8 +127,8 @@ module _ (t : Timing) (lists : ListsTaken t) (r : ℤ) (asked : natAbs r ≤ mos
   unfolding afterWarpEnd afterTempo afterDelay afterStop afterWarp
   time-after s at time k WarpEnd l d p h = at-most-wider (omega arith) h
   time-after s at time k Tempo l d p h = at-most-wider (omega arith) h
-  time-after s at time k Delay l d p h = one-more k (omega arith) time (getD (t .delayValues) (s .delays) nan) h (taken-at 50 (t .delayValues) (s .delays) (lists .delays .valuesIn) (rw (lists .delays .even) at p)) l
-  time-after s at time k Stop l d p h = one-more k (omega arith) time (getD (t .stopValues) (s .stops) nan) h (taken-at 50 (t .stopValues) (s .stops) (lists .stops .valuesIn) (rw (lists .stops .even) at p)) l
+  time-after s at time k Delay l d p h = one-more k time (getD (t .delayValues) (s .delays) nan) h (taken-at 50 (t .delayValues) (s .delays) (lists .delays .valuesIn) (rw (lists .delays .even) at p)) l
+  time-after s at time k Stop l d p h = one-more k time (getD (t .stopValues) (s .stops) nan) h (taken-at 50 (t .stopValues) (s .stops) (lists .stops .valuesIn) (rw (lists .stops .even) at p)) l
   time-after s at time k Warp l d p h = at-most-wider (omega arith) h
   time-after s at time k Asked l d p h = no d
   time-after s at time k NotFound l d p h = no d
@@ -140,7 +140,7 @@ module _ (t : Timing) (lists : ListsTaken t) (r : ℤ) (asked : natAbs r ≤ mos
         let there = next t r s .row in
         let force = force-taken early (t .tempoValues) (s .tempos) tempo (lists .tempos .valuesIn) (rw (lists .tempos .even) at (f .places .tempos)) in
         let few = f .few in
-        one-more (spansAfter n) (omega arith) (s .time) (timeTo early (t .tempoValues) s there) (f .time)
+        one-more (spansAfter n) (s .time) (timeTo early (t .tempoValues) s there) (f .time)
         (at-most-wider (lit≤ tt) (time-between early (t .tempoValues) s there (f .near) (next-near s (f .end)) force)) (omega arith)
 
     fine-step : (s : State) (n : ℕ) → due t r s ≡ true → Fine t s n → Fine t (step early t r s) (n + 1)

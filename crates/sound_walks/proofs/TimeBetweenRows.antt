@@ -1,13 +1,12 @@
 -- From one row within the limit to another at most 2 ^ 43 seconds pass, at a tempo that is taken. Assumes nothing.
-use Prim.Native.Nat.{ℕ, zero, suc, _+_, _-_, _^_, _≤_}
+use Prim.Native.Nat.{ℕ, _+_, _-_, _^_, _≤_}
 use mathlib.Core.List.{List}
-use mathlib.Core.Bool.{Bool, true, false, cond}
-use mathlib.Core.Path.{_≡_, refl, sym, subst}
+use mathlib.Core.Bool.{Bool, true, false}
+use mathlib.Core.Path.{refl, sym, subst}
 use native.Mathlib.Nat.{zero-lt-suc}
 use native.Mathlib.Omega.{arith}
-use borrow.Author.Tests.{ltb-true}
-use lib.Dec.{ltb, lit≤}
-use lib.IntN.{ℤ, pos, negsuc, natAbs, subℕ, _-ℤ_}
+use lib.Dec.{lit≤}
+use lib.IntN.{ℤ, natAbs, _-ℤ_}
 use lib.Ieee.{Float, binary64, div}
 use Rattle.picks.specs.Pick.{pick}
 use Rattle.ieee.proofs.SignedSizes.{negative}
@@ -18,23 +17,8 @@ use Rattle.rows.proofs.RowValue.{beat-rounded}
 use Rattle.limits.proofs.TempoSizes.{tempo-at-most, tempo-at-least}
 use Rattle.walk.specs.Passing.{noTime, sixty, inForce, timeTo}
 use Rattle.walk.specs.declared.State.{State}
+use Rattle.walk.proofs.RowsApart.{apart}
 use Rattle.sound_walks.proofs.TempoInForce.{IsTempo}
-
--- ---- rows apart
-sub-size : (m n : ℕ) → natAbs (subℕ m n) ≤ m + n
-sub-size m n = go (ltb m n) refl
-  where
-    go : (b : Bool) → ltb m n ≡ b → natAbs (cond b (negsuc (n - suc m)) (pos (m - n))) ≤ m + n
-    go true e = omega (arith, ltb-true m n e)
-    go false e = omega arith
-
-pub apart : (a b : ℤ) → natAbs (a -ℤ b) ≤ natAbs a + natAbs b
-apart (pos a) (pos zero) = omega arith
-apart (pos a) (pos (suc b)) = sub-size a (suc b)
-apart (pos a) (negsuc b) = omega arith
-apart (negsuc a) (pos zero) = let l = sub-size 0 (suc a) in omega arith
-apart (negsuc a) (pos (suc b)) = omega arith
-apart (negsuc a) (negsuc b) = let l = sub-size (suc b) (suc a) in omega arith
 
 -- ---- the beats between two rows
 pub beats-between : (d : ℤ) → natAbs d ≤ mostRow + mostRow → AtMost (2 ^ 17) (beatOf binary64 d)

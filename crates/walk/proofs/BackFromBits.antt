@@ -1,15 +1,16 @@
 -- A signed number that was put into bits and read back is itself; so is a test of two, and the difference of two i32 taken in i64. Assumes nothing.
-use Prim.Native.Nat.{ℕ, zero, suc, _+_, _-_, _^_, _<_, _≤_}
+use Prim.Native.Nat.{_+_, _-_, _^_, _<_, _≤_}
 use native.Mathlib.Omega.{arith}
-use mathlib.Core.Path.{_≡_, refl, sym, ap, _∙_, subst}
-use mathlib.Core.Bool.{Bool, true, false, cond}
+use mathlib.Core.Path.{_≡_, sym, ap, _∙_, subst}
+use mathlib.Core.Bool.{Bool}
 use lib.Dec.{T, ltb, le→leb, lt→ltb}
-use lib.IntN.{ℤ, pos, negsuc, subℕ, _-ℤ_}
+use lib.IntN.{ℤ, pos, negsuc, natAbs, _-ℤ_}
 use lib.Signed.{ltZ, mag}
 use lib.Ieee.{binary64, inFloat}
 use mir.Syntax.{w32, w64}
 use mir.Val.{SFits, toZ, ofZ}
 use mir.ValLaws.{toZ-ofZ}
+use Rattle.walk.proofs.RowsApart.{apart}
 
 pub back : (z : ℤ) → SFits w32 z → toZ w32 (ofZ w32 z) ≡ z
 back z f = toZ-ofZ w32 z f
@@ -18,20 +19,12 @@ pub tested : (a b : ℤ) → SFits w32 a → SFits w32 b → (t : Bool) → ltZ 
 tested a b f g t h = rw (toZ-ofZ w32 a f, toZ-ofZ w32 b g) at h
 
 -- ---- two rows are less than 2 ^ 33 apart
-sub-size : (m n : ℕ) → mag (subℕ m n) ≤ m + n
-sub-size m n = go (ltb m n) refl
-  where
-    go : (b : Bool) → ltb m n ≡ b → mag (cond b (negsuc (n - suc m)) (pos (m - n))) ≤ m + n
-    go true e = omega arith
-    go false e = omega arith
+sizes : (z : ℤ) → (mag z ≤ natAbs z) × (natAbs z ≤ mag z + 1)
+sizes (pos n) = (omega arith, omega arith)
+sizes (negsuc n) = (omega arith, omega arith)
 
-apart : (a b : ℤ) → mag a < 2 ^ 31 → mag b < 2 ^ 31 → mag (a -ℤ b) < 2 ^ 33
-apart (pos a) (pos zero) p q = omega arith
-apart (pos a) (pos (suc b)) p q = let l = sub-size a (suc b) in omega arith
-apart (pos a) (negsuc b) p q = omega arith
-apart (negsuc a) (pos zero) p q = let l = sub-size 0 (suc a) in omega arith
-apart (negsuc a) (pos (suc b)) p q = omega arith
-apart (negsuc a) (negsuc b) p q = let l = sub-size (suc b) (suc a) in omega arith
+less-apart : (a b : ℤ) → mag a < 2 ^ 31 → mag b < 2 ^ 31 → mag (a -ℤ b) < 2 ^ 33
+less-apart a b p q = omega (arith, apart a b, sizes (a -ℤ b) .0, sizes a .1, sizes b .1)
 
 in-float : (z : ℤ) → mag z < 2 ^ 33 → T (inFloat binary64 z)
 unfolding inFloat
@@ -53,7 +46,7 @@ module _ (a b : ℤ) (f : SFits w32 a) (g : SFits w32 b) where
   plain = rw (widened a b f g, widened b a g f)
 
   far : SFits w64 (a -ℤ b)
-  far = let l = apart a b (f .sfits) (g .sfits) in record { sfits = omega arith }
+  far = let l = less-apart a b (f .sfits) (g .sfits) in record { sfits = omega arith }
 
   pub difference-fits : SFits w64 (toZ w64 (ofZ w64 (toZ w32 (ofZ w32 a))) -ℤ toZ w64 (ofZ w64 (toZ w32 (ofZ w32 b))))
   difference-fits = subst (SFits w64) (sym plain) far
@@ -62,4 +55,4 @@ module _ (a b : ℤ) (f : SFits w32 a) (g : SFits w32 b) where
   difference = ap (λ (z : ℤ). toZ w64 (ofZ w64 z)) plain ∙ toZ-ofZ w64 (a -ℤ b) far
 
   pub difference-casts : T (inFloat binary64 (toZ w64 (ofZ w64 (toZ w64 (ofZ w64 (toZ w32 (ofZ w32 a))) -ℤ toZ w64 (ofZ w64 (toZ w32 (ofZ w32 b)))))))
-  difference-casts = subst (λ (z : ℤ). T (inFloat binary64 z)) (sym difference) (in-float (a -ℤ b) (apart a b (f .sfits) (g .sfits)))
+  difference-casts = subst (λ (z : ℤ). T (inFloat binary64 z)) (sym difference) (in-float (a -ℤ b) (less-apart a b (f .sfits) (g .sfits)))

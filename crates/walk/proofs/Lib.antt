@@ -1,3 +1,4 @@
+pub mod RowsApart
 pub mod BackFromBits
 pub mod EachCandidate
 pub mod EventByEvent
