@@ -7,5 +7,4 @@ pub mod MixedQuestions
 pub mod DemandThree
 pub mod TimesAndRows
 pub mod EventsOfAWalk
-pub mod MixedQuestions
 pub mod RunsKeep
