@@ -22,6 +22,8 @@ pub mod lists;
 pub mod numbers;
 pub mod random;
 #[cfg(feature = "port")]
+pub mod speeds;
+#[cfg(feature = "port")]
 pub mod tally;
 #[cfg(feature = "port")]
 pub mod tidying;

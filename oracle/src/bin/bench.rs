@@ -3,7 +3,9 @@
 use oracle::calls::{self, Call, Visit};
 use oracle::cases::Cases;
 use oracle::random::Random;
+use oracle::speeds::{self, Columns};
 use oracle::tidying::{self, Rows, Scrolls, Tempos, Tidying};
+use oracle::timing::probe;
 use std::hint::black_box;
 use std::time::{Duration, Instant};
 
@@ -28,6 +30,9 @@ fn main() {
     }
     for entries in [16, 256, 1_024] {
         ORDERS[..2].iter().for_each(|order| bench.tidying::<Scrolls>(entries, *order));
+    }
+    for entries in [16, 256, 1_024] {
+        ORDERS[..2].iter().for_each(|order| bench.speeds(entries, *order));
     }
     println!("worst ratio {:.2} ({})", bench.worst.0, bench.worst.1);
 }
@@ -68,6 +73,26 @@ impl Bench {
                 black_box(T::port(black_box(&beats), black_box(&values), &mut out_beats, &mut out_values));
             },
             || drop(black_box(T::original(black_box(&list).clone()))),
+        );
+    }
+
+    /// The same of speeds: each with a ratio and a delay of its own.
+    fn speeds(&mut self, entries: usize, (order, arrange): Order) {
+        let mut random = Random::new(1, "bench of tidying");
+        let mut beats: Vec<_> = (0..entries).map(|place| place as f64 / 4.0).collect();
+        arrange(&mut beats, &mut random);
+        let mut values = || (0..entries).map(|_| 1.0 + random.part() * 999.0).collect();
+        let columns = Columns { numbers: [beats, values(), values()], units: vec![0; entries] };
+        let list = columns.list();
+        let mut rooms = columns.clone();
+        self.line(
+            &format!("{} of {entries} {order}", speeds::NAME),
+            1,
+            || {
+                let [beats, ratios, delays] = &mut rooms.numbers;
+                black_box(speeds::port(black_box(&columns), [beats, ratios, delays], &mut rooms.units));
+            },
+            || drop(black_box(probe::tidy_speed_segments(black_box(&list).clone()))),
         );
     }
 }

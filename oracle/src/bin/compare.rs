@@ -5,7 +5,7 @@ use oracle::cases::{Cases, LAST_ROW, Work};
 use oracle::numbers::Number;
 use oracle::random::Random;
 use oracle::tally::{Tally, Total};
-use oracle::tidying;
+use oracle::{speeds, tidying};
 use std::process::ExitCode;
 
 fn main() -> ExitCode {
@@ -18,6 +18,7 @@ fn main() -> ExitCode {
     there_and_back::<called::note_row_to_beat, called::beat_to_note_row>(&mut total);
     there_and_back::<called::note_row_to_beat_f32, called::beat_to_note_row_f32>(&mut total);
     tidying::compare_all(work, &mut total);
+    speeds::compare_all(work, &mut total);
     if total.end() { ExitCode::SUCCESS } else { ExitCode::FAILURE }
 }
 
