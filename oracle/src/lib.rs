@@ -31,6 +31,8 @@ pub mod random;
 #[cfg(feature = "port")]
 pub mod sm_stops;
 #[cfg(feature = "port")]
+pub mod speeds;
+#[cfg(feature = "port")]
 pub mod tally;
 #[cfg(feature = "port")]
 pub mod tidying;

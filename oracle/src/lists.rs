@@ -90,6 +90,39 @@ pub fn values(length: usize, random: &mut Random) -> Vec<f64> {
         .collect()
 }
 
+/// Two columns of values: often one of them is all but the same in every entry, so that the other alone decides.
+pub fn near_pairs(length: usize, random: &mut Random) -> [Vec<f64>; 2] {
+    let all_near = |random: &mut Random| (0..length).map(|_| 1.0 + 0.3e-6 * random.below(3) as f64).collect();
+    let few = |random: &mut Random| (0..length).map(|_| random.below(3) as f64).collect();
+    match random.below(6) {
+        0 => [values(length, random), values(length, random)],
+        1 => [values(length, random), all_near(random)],
+        2 => [all_near(random), values(length, random)],
+        3 => [few(random), all_near(random)],
+        4 => [all_near(random), few(random)],
+        _ => [few(random), few(random)],
+    }
+}
+
+/// All beats, all seconds, or either.
+pub fn units(length: usize, random: &mut Random) -> Vec<u8> {
+    let kind = random.below(4);
+    (0..length).map(|_| if kind < 2 { kind as u8 } else { random.below(2) as u8 }).collect()
+}
+
+/// Sometimes a unit that is none, and sometimes another length.
+pub fn spoil_units(units: &mut Vec<u8>, random: &mut Random) {
+    if random.below(3) == 0 && !units.is_empty() {
+        let place = random.below(units.len() as u64) as usize;
+        units[place] = [2, 3, 255][random.below(3) as usize];
+    }
+    match random.below(6) {
+        0 => units.push(0),
+        1 => drop(units.pop()),
+        _ => (),
+    }
+}
+
 /// Moves a beat or a value beyond its limit, or gives the columns other lengths; sometimes all of these.
 pub fn spoil(beats: &mut Vec<f64>, values: &mut Vec<f64>, random: &mut Random) {
     let endless = [f64::NAN, f64::INFINITY, f64::MAX];

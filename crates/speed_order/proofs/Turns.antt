@@ -5,7 +5,9 @@ use mathlib.Core.Bool.{Bool, true, false}
 use mathlib.Core.List.{List, [], _∷_}
 use native.Mathlib.Omega.{arith}
 use lib.Dec.{ltb}
-use lib.ListN.{length, drop, getD}
+use native.Mathlib.Numerals.{add-one}
+use lib.ListN.{length, drop, getD, drop-of-length-le}
+use lib.Seq.{drop-cons}
 use lib.Ieee.{Float, nan}
 use Rattle.picks.specs.Pick.{pick}
 use Rattle.tidy_rows.specs.RowTidying.{rowKeyAt}
@@ -32,6 +34,13 @@ module _ (beats ratios delays : List Float) (units : List ℕ) (n : ℕ) (is : n
 
     pub speed-waits : flag ≡ false → written rowKeyAt nearSpeed s (drop i es) ≡ written rowKeyAt nearSpeed next (drop (i + 1) es)
     speed-waits = turn-waits rowKeyAt nearSpeed es s next i (getD beats i nan, v) (nan, noSpeed) (omega (arith, many)) here so k row flag told
+
+  -- the same where every entry is laid
+  pub speed-next : (i : ℕ) (v : SpeedValue) → i < n → v ≡ (getD ratios i nan, (getD delays i nan, getD units i 0)) → drop i es ≡ (getD beats i nan, v) ∷ drop (i + 1) es
+  speed-next i v h got = rw (add-one i, drop-cons es i (nan, noSpeed) (omega (arith, many)), got, speed-here ratios delays units beats i (omega arith))
+
+  pub speed-end : (i : ℕ) → n ≤ i → drop i es ≡ []
+  speed-end i h = let past : length es ≤ i = omega (arith, many) in drop-of-length-le es past
 
   module _ (s : Waiting Float SpeedValue) (i : ℕ) (past : n ≤ i) where
     pub ends-waiting : s .waits ≡ true → written rowKeyAt nearSpeed s (drop i es) ≡ (s .beat, s .value) ∷ []

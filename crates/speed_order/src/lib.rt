@@ -2,7 +2,7 @@
 use columns::Outcome;
 use speeds::Speed;
 ghost use mathlib.Core.Path.{_≡_};
-ghost use mathlib.Core.Bool.{false};
+ghost use mathlib.Core.Bool.{true, false};
 ghost use mathlib.Core.List.{map};
 ghost use Prim.Native.Nat.{_≤_, _<_};
 ghost use lib.Dec.{ltb, leb};
@@ -217,6 +217,65 @@ fn lay_kept(
     count
 }
 
+// ---- the common case: rows that rise, and no speed near the one before it
+
+// Whether every entry is kept for certain.
+fn all_kept(beats: &[f64], ratios: &[f64], delays: &[f64], units: &[u8], n: usize) -> bool
+    requires { ⌜ n ≡ leastOf (length (now beats)) (length (now ratios)) (length (now delays)) (length (now units)) ⌝ }
+    ensures { λ r. ⌜ (r ≡ true → keptSpeeds (speedEntries (now (beats .entry)) (now (ratios .entry)) (now (delays .entry)) (now (units .entry))) ≡ speedEntries (now (beats .entry)) (now (ratios .entry)) (now (delays .entry)) (now (units .entry))) ⌝ }
+{
+    if n == 0 {
+        return true;
+    }
+    let mut last = by_rows::row_key(beats[0]);
+    let mut i = 1;
+    while i < n {
+        let row = by_rows::row_key(beats[i]);
+        if row <= last {
+            return false;
+        }
+        if speeds::near(
+            speed_at(ratios, delays, units, i),
+            speed_at(ratios, delays, units, i - 1),
+        ) {
+            return false;
+        }
+        last = row;
+        i += 1;
+    }
+    true
+}
+
+fn lay_all(
+    beats: &[f64],
+    ratios: &[f64],
+    delays: &[f64],
+    units: &[u8],
+    n: usize,
+    out_beats: &mut [f64],
+    out_ratios: &mut [f64],
+    out_delays: &mut [f64],
+    out_units: &mut [u8],
+)
+    requires { ⌜ n ≡ leastOf (length (now beats)) (length (now ratios)) (length (now delays)) (length (now units)) ⌝ }
+    requires { ⌜ n ≤ leastOf (length (now «out_beats»)) (length (now «out_ratios»)) (length (now «out_delays»)) (length (now «out_units»)) ⌝ }
+    ensures { λ _. ⌜ LaidRooms (map speedOnRow (speedEntries (now (beats .entry)) (now (ratios .entry)) (now (delays .entry)) (now (units .entry)))) (now («out_beats» .entry)) (now («out_beats» .exit)) (now («out_ratios» .entry)) (now («out_ratios» .exit)) (now («out_delays» .entry)) (now («out_delays» .exit)) (now («out_units» .entry)) (now («out_units» .exit)) ⌝ }
+{
+    let mut i = 0;
+    while i < n {
+        write_speed(
+            out_beats,
+            out_ratios,
+            out_delays,
+            out_units,
+            i,
+            beats[i],
+            speed_at(ratios, delays, units, i),
+        );
+        i += 1;
+    }
+}
+
 // Whether the kept entries have room: counted only where there are more entries than room.
 fn fits(beats: &[f64], ratios: &[f64], delays: &[f64], units: &[u8], n: usize, room: usize) -> bool
     requires { ⌜ n ≡ leastOf (length (now beats)) (length (now ratios)) (length (now delays)) (length (now units)) ⌝ }
@@ -248,6 +307,25 @@ pub fn tidy_ordered(
         out_delays.len(),
         out_units.len(),
     );
+    if n <= room {
+        if all_kept(beats, ratios, delays, units, n) {
+            lay_all(
+                beats,
+                ratios,
+                delays,
+                units,
+                n,
+                out_beats,
+                out_ratios,
+                out_delays,
+                out_units,
+            );
+            return Outcome {
+                number: limits::TAKEN,
+                count: n,
+            };
+        }
+    }
     if !fits(beats, ratios, delays, units, n, room) {
         return columns::refused(limits::NO_ROOM);
     }

@@ -7,6 +7,7 @@ use oracle::clock::{self, Columns, Cursor};
 use oracle::lookups::{self, Lists};
 use oracle::processing::{self, Format, Rooms, Sm, Ssc};
 use oracle::random::Random;
+use oracle::speeds::{self, Columns as SpeedColumns};
 use oracle::tidying::{self, Rows, Scrolls, Tempos, Tidying};
 use oracle::timing::probe;
 use oracle::timings::{Chart, DELAYS, STOPS, TEMPOS, WARPS};
@@ -35,6 +36,9 @@ fn main() {
     }
     for entries in [16, 256, 1_024] {
         ORDERS[..2].iter().for_each(|order| bench.tidying::<Scrolls>(entries, *order));
+    }
+    for entries in [16, 256, 1_024] {
+        ORDERS[..2].iter().for_each(|order| bench.speeds(entries, *order));
     }
     for entries in [16, 256] {
         bench.lookups(entries);
@@ -93,6 +97,26 @@ impl Bench {
                 black_box(T::port(black_box(&beats), black_box(&values), &mut out_beats, &mut out_values));
             },
             || drop(black_box(T::original(black_box(&list).clone()))),
+        );
+    }
+
+    /// A list of speeds a quarter of a beat apart, each with a ratio of its own.
+    fn speeds(&mut self, entries: usize, (order, arrange): Order) {
+        let mut random = Random::new(1, "bench of tidying");
+        let mut beats: Vec<_> = (0..entries).map(|place| place as f64 / 4.0).collect();
+        arrange(&mut beats, &mut random);
+        let mut values = || (0..entries).map(|_| 1.0 + random.part() * 999.0).collect();
+        let columns = SpeedColumns { numbers: [beats, values(), values()], units: vec![0; entries] };
+        let list = columns.list();
+        let mut rooms = columns.clone();
+        self.line(
+            &format!("{} of {entries} {order}", speeds::NAME),
+            1,
+            || {
+                let [beats, ratios, delays] = &mut rooms.numbers;
+                black_box(speeds::port(black_box(&columns), [beats, ratios, delays], &mut rooms.units));
+            },
+            || drop(black_box(probe::tidy_speed_segments(black_box(&list).clone()))),
         );
     }
 

@@ -10,6 +10,8 @@ crate::probes! { super =>
     fn tidy_row_segments(segments: Vec<super::Segment>) -> Vec<super::Segment>;
     fn tidy_scroll_segments(segments: Vec<super::Segment>) -> Vec<super::Segment>;
     fn add_scroll_segment_slow(out: &mut Vec<super::Segment>, seg: super::Segment);
+    fn tidy_speed_segments(segments: Vec<super::SpeedSegment>) -> Vec<super::SpeedSegment>;
+    fn add_speed_segment_slow(out: &mut Vec<super::SpeedSegment>, seg: super::SpeedSegment);
     fn tidy_bpms(bpms: Vec<(f64, f64)>) -> Vec<(f64, f64)>;
     fn process_bpms_and_stops_ssc(bpms: Vec<(f64, f64)>, stops: Vec<super::Segment>) -> super::BpmStopResult;
     fn process_bpms_and_stops_sm(bpms: &[(f64, f64)], stops: &[super::Segment]) -> super::BpmStopResult;

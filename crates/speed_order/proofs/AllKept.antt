@@ -1,0 +1,68 @@
+-- Where rows rise and no value is near the one before it, every entry is kept. Assumes nothing.
+use Prim.Native.Nat.{ℕ, zero, suc, _+_, _-_, _≤_, _<_}
+use mathlib.Core.Path.{_≡_, refl, sym, ap, _∙_}
+use mathlib.Core.Bool.{Bool, true, false}
+use mathlib.Core.List.{List, [], _∷_}
+use native.Mathlib.Omega.{arith}
+use native.Mathlib.Numerals.{add-one}
+use lib.ListN.{length, drop, getD, drop-of-length-le}
+use lib.Seq.{drop-cons}
+use lib.Ieee.{Float, nan}
+use borrow.Author.Tests.{lt-ltb}
+use Rattle.picks.specs.Pick.{pick}
+use Rattle.tidy_rows.specs.RowTidying.{rowKeyAt}
+use Rattle.keeping.specs.Passing.{Waiting, writes, comes, passed, written}
+use Rattle.keeping.proofs.InOnePass.{state}
+use Rattle.speeds.specs.Speed.{SpeedValue, SpeedEntry, nearSpeed, noSpeed}
+use Rattle.speeds.proofs.NearNoSpeed.{near-no-speed}
+use Rattle.speed_order.specs.OrderedSpeeds.{unheld, keptSpeeds}
+
+module _ {B W : Type 0} (row : B → ℕ) (near : W → W → Bool) where
+  -- each entry is on a later row than the one before it, and not near it
+  abbrev pub Apart : B × W → List (B × W) → Type 0
+  Apart x [] = Unit {0}
+  Apart x (y ∷ list) = (row (x .0) < row (y .0)) × (near (y .1) (x .1) ≡ false) × Apart y list
+
+  all-written : (before : W) (x : B × W) (list : List (B × W)) → Apart x list → written row near (state true before (row (x .0)) x) list ≡ x ∷ list
+  unfolding written writes passed
+  all-written before x [] a = refl
+  all-written before x (y ∷ list) a = rw (lt-ltb (row (x .0)) (row (y .0)) (a .0), a .1) (ap (_∷_ x) (all-written (x .1) y list (a .2)))
+
+  -- up to place i, with the row of the entry before it
+  pub record AllSoFar (list : List (B × W)) (d : B × W) (last i : ℕ) : Type 0 where
+    pub from : 1 ≤ i
+    pub upTo : i ≤ length list
+    pub lastIs : last ≡ row (getD list (i - 1) d .0)
+    pub rest : Apart (getD list (i - 1) d) (drop i list) → Apart (getD list 0 d) (drop 1 list)
+
+  module _ (list : List (B × W)) (d : B × W) where
+    pub so-far-one : (k : ℕ) → 0 < length list → k ≡ row (getD list 0 d .0) → AllSoFar list d k 1
+    so-far-one k h e = record { from = omega arith; upTo = omega arith; lastIs = e; rest = λ a. a }
+
+    module _ (last i : ℕ) (p : AllSoFar list d last i) where
+      pub so-far-more : (k : ℕ) → i < length list → k ≡ row (getD list i d .0) → last < k → near (getD list i d .1) (getD list (i - 1) d .1) ≡ false → AllSoFar list d k (i + 1)
+      so-far-more k h e l n =
+          let back : i + 1 - 1 ≡ i = omega arith in
+          let here : drop i list ≡ getD list i d ∷ drop (i + 1) list = rw (add-one i, drop-cons list i d h) in
+          record {
+            from = omega arith;
+            upTo = omega arith;
+            lastIs = rw back e;
+            rest = λ a. p .rest (rw here (omega (arith, p .lastIs, e), n, rw back at a));
+          }
+
+      pub so-far-all : length list ≤ i → Apart (getD list 0 d) (drop 1 list)
+      so-far-all h = p .rest (rw (drop-of-length-le list h) tt)
+
+first-kept : (x : SpeedEntry) (list : List SpeedEntry) → Apart rowKeyAt nearSpeed x list → keptSpeeds (x ∷ list) ≡ x ∷ list
+unfolding written writes passed
+first-kept x list a = rw (near-no-speed (x .1)) (all-written rowKeyAt nearSpeed noSpeed x list a)
+
+pub none-kept : (list : List SpeedEntry) → length list ≡ 0 → keptSpeeds list ≡ list
+unfolding written
+none-kept [] h = refl
+none-kept (x ∷ list) h = absurd (omega arith)
+
+pub every-kept : (list : List SpeedEntry) → Apart rowKeyAt nearSpeed (getD list 0 (nan, noSpeed)) (drop 1 list) → keptSpeeds list ≡ list
+every-kept [] a = none-kept [] refl
+every-kept (x ∷ list) a = first-kept x list a
