@@ -112,11 +112,11 @@ pub fn units(length: usize, random: &mut Random) -> Vec<u8> {
 
 /// Sometimes a unit that is none, and sometimes another length.
 pub fn spoil_units(units: &mut Vec<u8>, random: &mut Random) {
-    if random.below(3) == 0 && !units.is_empty() {
+    if random.below(2) == 0 && !units.is_empty() {
         let place = random.below(units.len() as u64) as usize;
         units[place] = [2, 3, 255][random.below(3) as usize];
     }
-    match random.below(6) {
+    match random.below(12) {
         0 => units.push(0),
         1 => drop(units.pop()),
         _ => (),
