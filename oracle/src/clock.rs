@@ -18,9 +18,9 @@ pub struct State {
     pub delays: usize,
     pub warps: usize,
     pub row: i32,
+    pub warping: bool,
     pub time: f64,
     pub end: f64,
-    pub warping: bool,
 }
 
 #[derive(Clone, Copy, Debug)]

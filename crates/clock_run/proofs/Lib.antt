@@ -1,4 +1,3 @@
-pub mod RowOrder
 pub mod QuietRows
 pub mod BeatByBeat
 pub mod PlacesInColumns

@@ -26,7 +26,7 @@ use Rattle.clock.specs.declared.Cursor.{Cursor}
 use Rattle.clock.specs.declared.Answer.{Answer}
 use Rattle.clock_run.specs.Ahead.{farthest, rowAt, endRow, least, quietUntil, blind, lookAhead, isQuiet, quietTime}
 use Rattle.clock_run.specs.declared.Ahead.{Ahead}
-use Rattle.clock_run.proofs.RowOrder.{no, lt-le, lt-not}
+use Rattle.walk.proofs.RowOrder.{no, lt-le, lt-not}
 
 of-pick : (P : Next → Type 0) (b : Bool) (x y : Next) → P x → P y → P (pick b x y)
 of-pick P true x y p q = p
