@@ -10,6 +10,7 @@ use Rattle.tidy_rows.specs.RowTidying.{tidyRows}
 use Rattle.tidy_tempos.specs.TempoTidying.{fromZero, changesAfter, changes, tidyTempos}
 use Rattle.played.specs.Numbers.{decimal}
 use Rattle.played.specs.Table.{Examples}
+use Rattle.played.proofs.PlayedSm.{sm-backward, sm-backward-from-the-start}
 
 pub played : Examples
 unfolding decimal neg mul div ofInt rint hold eq toBits run put tidied entries rowKey floatKey tidyRows fromZero changesAfter changes tidyTempos
@@ -20,4 +21,6 @@ played =
       stops = refl;
       tempos-of-one-beat = refl;
       tempos-that-change = refl;
+      sm-backward = sm-backward;
+      sm-backward-from-the-start = sm-backward-from-the-start;
     }
