@@ -4,3 +4,4 @@ pub mod LaidEach
 pub mod EachOverFront
 pub mod LastsLaid
 pub mod KeptLaid
+pub mod AllKept

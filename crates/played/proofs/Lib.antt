@@ -1,1 +1,2 @@
+pub mod PlayedSm
 pub mod Played

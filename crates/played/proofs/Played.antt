@@ -24,6 +24,7 @@ use Rattle.keeping.specs.Near.{nearTo}
 use Rattle.keeping.specs.Keeping.{onLastRow, keep, atFront, onRowOf, previous, cleared, settled, amid, placedBetween, placedAfter, fallsWhile, keptOf, keepNumber}
 use Rattle.played.specs.Numbers.{decimal}
 use Rattle.played.specs.Table.{Examples}
+use Rattle.played.proofs.PlayedSm.{sm-backward, sm-backward-from-the-start}
 
 pub played : Examples
 unfolding lesser leastBeat meets leading forward turn isOver written mergedWithin merged ne decimal neg add sub mul div ofInt rint hold eq lt le toBits narrow lastPasses isPaused isWarped run put tidied entries rowKey floatKey tidyRows fromZero changesAfter changes tidyTempos inRange every rowIn lower listNumber sooner offered endOffered nextEvent lastUpTo tempoAt earlyTempo inForce timeTo larger afterWarpEnd afterTempo afterStop afterWarp passed timeAt walkWithin walkOn walk rises risesFrom startsAtZero listsNumber offsetNumber offsetsNumber orderNumber timingNumber beatNumber placesIn rowsIn endIn cursorNumber filled temposOf freshState freshCursor beginning reply cursorRefusal playerNumber questionNumber question ofBits neverFalls mayPrecede nearTo onLastRow keep atFront onRowOf previous cleared settled amid placedBetween placedAfter fallsWhile keptOf keepNumber tidyScrolls scrollsNumber
@@ -44,4 +45,6 @@ played =
       scrolls-out-of-order = refl;
       scrolls-that-fall-last = refl;
       scrolls-that-fall = refl;
+      sm-backward = sm-backward;
+      sm-backward-from-the-start = sm-backward-from-the-start;
     }

@@ -1,9 +1,9 @@
 -- The played examples that are proved, a line each: what the definitions give is what it is to be.
 use mathlib.Core.Path.{_≡_}
 use mathlib.Core.Bool.{false}
-use mathlib.Core.List.{[], _∷_, map}
+use mathlib.Core.List.{[], _∷_, map, List}
 use lib.IntN.{pos}
-use lib.Ieee.{binary32, binary64, neg}
+use lib.Ieee.{Float, binary32, binary64, neg}
 use Rattle.rows.specs.Rows.{row}
 use Rattle.tidy_rows.specs.RowTidying.{tidyRows}
 use Rattle.tidy_tempos.specs.TempoTidying.{tidyTempos}
@@ -11,7 +11,17 @@ use Rattle.lookup.specs.Lookups.{isWarped, askedRow}
 use Rattle.sm_stops.specs.Merging.{sources, merged, atFirst}
 use Rattle.played.specs.Charts.{stopped, warped, asked}
 use Rattle.tidy_scrolls.specs.ScrollTidying.{tidyScrolls, scrollsNumber}
+use Rattle.sm_walk.specs.Chart.{Output}
+use Rattle.process_sm.specs.Sm.{written, tidied}
 use Rattle.played.specs.Numbers.{decimal, whole, minus}
+
+-- what SM makes of tempos alone: the tempos tidied, the stops and the warps
+abbrev pub smOf : List Float → List Float → Output
+smOf beats tempos = record {
+  tempos = tidied (written beats tempos [] [] .tempos);
+  stops = written beats tempos [] [] .stops;
+  warps = written beats tempos [] [] .warps;
+}
 
 pub record Examples : Type 0 where
   -- rows of beats, at each width
@@ -36,3 +46,6 @@ pub record Examples : Type 0 where
   pub scrolls-out-of-order : tidyScrolls (whole 4 ∷ whole 8 ∷ whole 0 ∷ []) (whole 1 ∷ whole 2 ∷ whole 2 ∷ []) ≡ (whole 4, whole 1) ∷ (whole 0, whole 2) ∷ []
   pub scrolls-that-fall-last : scrollsNumber (whole 4 ∷ whole 8 ∷ whole 0 ∷ []) (whole 1 ∷ whole 2 ∷ whole 2 ∷ []) ≡ 0
   pub scrolls-that-fall : scrollsNumber (whole 4 ∷ whole 8 ∷ whole 0 ∷ whole 12 ∷ []) (whole 1 ∷ whole 2 ∷ whole 2 ∷ whole 3 ∷ []) ≡ 6
+  -- SM: a tempo backwards makes a warp up to where its time is made good; one that opens the chart makes none
+  pub sm-backward : smOf (whole 0 ∷ whole 4 ∷ whole 8 ∷ []) (whole 120 ∷ neg (whole 120) ∷ whole 120 ∷ []) ≡ record { tempos = (whole 0, whole 120) ∷ []; stops = []; warps = (whole 4, whole 8) ∷ [] }
+  pub sm-backward-from-the-start : smOf (whole 0 ∷ whole 4 ∷ []) (neg (whole 120) ∷ whole 120 ∷ []) ≡ record { tempos = (whole 0, whole 120) ∷ []; stops = []; warps = [] }

@@ -6,6 +6,7 @@ ghost use mathlib.Core.List.{map};
 ghost use Prim.Native.Nat.{_≤_, min};
 ghost use lib.Dec.{leb};
 ghost use lib.ListN.{length};
+ghost use Rattle.rows.specs.Rows.{quantized};
 ghost use Rattle.order.specs.Order.{laid};
 ghost use Rattle.order.specs.Entries.{first, second};
 ghost use Rattle.columns.specs.Laying.{LaidPair};
@@ -56,8 +57,8 @@ fn have_room(beats: &[f64], values: &[f64], room: usize) -> bool
     count_stayed(beats, values) <= room
 }
 
-// The entries that stay, each beat on its row, over the front of the rooms.
-fn lay_stayed(beats: &[f64], values: &[f64], out_beats: &mut [f64], out_values: &mut [f64]) -> usize
+// Where some are dropped: one by one.
+fn lay_some(beats: &[f64], values: &[f64], out_beats: &mut [f64], out_values: &mut [f64]) -> usize
     requires { ⌜ length (now beats) ≡ length (now values) ⌝ }
     requires { ⌜ length (stayed (now beats) (now values)) ≤ min (length (now «out_beats»)) (length (now «out_values»)) ⌝ }
     ensures { λ r. ⌜ r ≡ length (stayed (now (beats .entry)) (now (values .entry))) ⌝ }
@@ -79,6 +80,36 @@ fn lay_stayed(beats: &[f64], values: &[f64], out_beats: &mut [f64], out_values: 
         i += 1;
     }
     count
+}
+
+// Every entry, in a loop that a machine does for several at a time.
+fn lay_all(beats: &[f64], values: &[f64], out_beats: &mut [f64], out_values: &mut [f64])
+    requires { ⌜ length (now beats) ≡ length (now values) ⌝ }
+    requires { ⌜ length (now beats) ≤ min (length (now «out_beats»)) (length (now «out_values»)) ⌝ }
+    ensures { λ _. ⌜ now («out_beats» .exit) ≡ laid (map quantized (now (beats .entry))) (now («out_beats» .entry)) ⌝ }
+    ensures { λ _. ⌜ now («out_values» .exit) ≡ laid (now (values .entry)) (now («out_values» .entry)) ⌝ }
+{
+    let mut i = 0;
+    while i < beats.len() {
+        out_beats[i] = rows::quantize_beat(beats[i]);
+        out_values[i] = values[i];
+        i += 1;
+    }
+}
+
+// The entries that stay, each beat on its row, over the front of the rooms.
+fn lay_stayed(beats: &[f64], values: &[f64], out_beats: &mut [f64], out_values: &mut [f64]) -> usize
+    requires { ⌜ length (now beats) ≡ length (now values) ⌝ }
+    requires { ⌜ length (stayed (now beats) (now values)) ≤ min (length (now «out_beats»)) (length (now «out_values»)) ⌝ }
+    ensures { λ r. ⌜ r ≡ length (stayed (now (beats .entry)) (now (values .entry))) ⌝ }
+    ensures { λ _. ⌜ now («out_beats» .exit) ≡ laid (map first (stayed (now (beats .entry)) (now (values .entry)))) (now («out_beats» .entry)) ⌝ }
+    ensures { λ _. ⌜ now («out_values» .exit) ≡ laid (map second (stayed (now (beats .entry)) (now (values .entry)))) (now («out_values» .entry)) ⌝ }
+{
+    if count_stayed(beats, values) == beats.len() {
+        lay_all(beats, values, out_beats, out_values);
+        return beats.len();
+    }
+    lay_some(beats, values, out_beats, out_values)
 }
 
 // The tempos that stay, tidied, by way of columns that hold them.
