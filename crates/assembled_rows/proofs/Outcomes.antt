@@ -17,7 +17,7 @@ use Rattle.limits.specs.Numbers.{rangeOf, allIn}
 use Rattle.limits.specs.Refusals.{listNumber}
 use Rattle.order.specs.Order.{laid}
 use Rattle.order.specs.Entries.{first, second}
-use Rattle.order.proofs.Compare.{same?}
+use Rattle.order.proofs.Compare.{below?, same?}
 use Rattle.columns.specs.declared.Outcome.{Outcome}
 use Rattle.columns.specs.Laying.{roomNumber, refusedBy, given, LaidPair}
 use Rattle.columns.proofs.Rooms.{refused-by-tests}
@@ -27,9 +27,9 @@ use Rattle.assembled_rows.specs.AssembledRows.{narrowedEntry, narrowedFr
 use Rattle.assembled_rows.proofs.NarrowedFront.{front-of-result}
 
 -- ---- the number
-number-refused : (tests count room : ℕ) → (tests ≡ 0 → ⊥) → roomNumber tests count room ≡ tests
+pub number-as-tests : (tests count room : ℕ) → (tests ≡ 0 → ⊥) → roomNumber tests count room ≡ tests
 unfolding roomNumber
-number-refused tests count room h = rw (ne-eqb tests 0 h)
+number-as-tests tests count room h = rw (ne-eqb tests 0 h)
 
 with-room : (tests count room : ℕ) → tests ≡ 0 → count ≤ room → roomNumber tests count room ≡ tests
 unfolding roomNumber
@@ -37,7 +37,13 @@ with-room tests count room e l = rw (eq-eqb tests 0 e, le-leb count room l) (sym
 
 -- where there is room it is that of the tests
 pub number-with-room : (tests count room : ℕ) → (tests ≡ 0 → count ≤ room) → roomNumber tests count room ≡ tests
-number-with-room tests count room fits = ⊎-elim (λ e. with-room tests count room e (fits e)) (λ n. number-refused tests count room n) (same? tests 0)
+number-with-room tests count room fits = ⊎-elim (λ e. with-room tests count room e (fits e)) (λ n. number-as-tests tests count room n) (same? tests 0)
+
+-- a room that is long enough for any result counts no more than it has to
+pub number-in-room : (tests count short room : ℕ) → count ≤ 1024 → short ≡ min room 1024 → roomNumber tests count short ≡ roomNumber tests count room
+unfolding roomNumber
+number-in-room tests count short room few e =
+    ⊎-elim (λ h. rw (lt-leb count room h, lt-leb count short (omega arith))) (λ h. rw (le-leb count room h, le-leb count short (omega arith))) (below? room count)
 
 -- ---- under a refusal any two results are the same
 given-same : {A : Type 0} (number : ℕ) (one other : List A) → (number ≡ 0 → one ≡ other) → given number one ≡ given number other
@@ -45,11 +51,11 @@ unfolding given
 given-same number one other same = ⊎-elim (λ e. rw (eq-eqb number 0 e) (same e)) (λ n. rw (ne-eqb number 0 n)) (same? number 0)
 
 room-same : (tests a b room : ℕ) → (tests ≡ 0 → a ≡ b) → roomNumber tests a room ≡ roomNumber tests b room
-room-same tests a b room same = ⊎-elim (λ e. ap (λ (n : ℕ). roomNumber tests n room) (same e)) (λ n. number-refused tests a room n ∙ sym (number-refused tests b room n)) (same? tests 0)
+room-same tests a b room same = ⊎-elim (λ e. ap (λ (n : ℕ). roomNumber tests n room) (same e)) (λ n. number-as-tests tests a room n ∙ sym (number-as-tests tests b room n)) (same? tests 0)
 
 -- a taken call's tests are passed
 pub tests-passed : (tests count room : ℕ) → roomNumber tests count room ≡ 0 → tests ≡ 0
-tests-passed tests count room h = ⊎-elim (λ e. e) (λ n. absurd (n (sym (number-refused tests count room n) ∙ h))) (same? tests 0)
+tests-passed tests count room h = ⊎-elim (λ e. e) (λ n. absurd (n (sym (number-as-tests tests count room n) ∙ h))) (same? tests 0)
 
 pub pair-same : {tests : ℕ} {one other : List (Float × Float)} {outcome : Outcome} {firstOld firstNew secondOld secondNew : List Float} → (tests ≡ 0 → one ≡ other)
     → LaidPair tests one outcome firstOld firstNew secondOld secondNew → LaidPair tests other outcome firstOld firstNew secondOld secondNew
@@ -130,7 +136,7 @@ module _ (whole : Bool) (beats values : List Float) (room : ℕ) (short : room <
   long-unfit h =
       let one = long-number (changeBy whole) beats values h in
       let not-taken : assembledNumber (changeBy whole) beats values ≡ 0 → ⊥ = λ e. omega (arith, one, e) in
-      sym (by-number ∙ ap (λ (n : ℕ). eqb n 0) (number-refused (assembledNumber (changeBy whole) beats values) (length (assembledRows (changeBy whole) beats values)) room not-taken ∙ one))
+      sym (by-number ∙ ap (λ (n : ℕ). eqb n 0) (number-as-tests (assembledNumber (changeBy whole) beats values) (length (assembledRows (changeBy whole) beats values)) room not-taken ∙ one))
 
 -- ---- a list that is refused for its lengths
 module _ (beat value : Range) (f g : Float → Float) (beats values : List Float) where
