@@ -2,12 +2,11 @@
 use columns::Outcome;
 use limits::Kind;
 ghost use mathlib.Core.Path.{_≡_};
-ghost use mathlib.Core.Bool.{Bool, true};
+ghost use mathlib.Core.Bool.{true};
 ghost use mathlib.Core.List.{map};
 ghost use Prim.Native.Nat.{_≤_, _<_, min};
-ghost use lib.Dec.{leb};
 ghost use lib.ListN.{length};
-ghost use lib.Ieee.{Float, lt, le};
+ghost use lib.Ieee.{Float, lt};
 ghost use Rattle.ieee.specs.Narrowing.{narrow};
 ghost use Rattle.rows.specs.Rows.{quantized};
 ghost use Rattle.limits.specs.Numbers.{miss};
@@ -15,7 +14,7 @@ ghost use Rattle.columns.specs.Each.{laidEach};
 ghost use Rattle.columns.specs.Laying.{LaidPair};
 ghost use Rattle.tidy_rows.specs.RowTidying.{rowsNumber};
 ghost use Rattle.assembled_rows.specs.AssembledRows.{changeBy, narrowedFront, RowsAssembled, rowsFit};
-ghost use Rattle.assembled_rows.specs.Neighbours.{everyTwo};
+ghost use Rattle.assembled_rows.specs.Neighbours.{everyTwo, notAbove};
 
 // ---- columns: each writes what becomes of entry i of the first column into entry i of the second, for every i that both have
 
@@ -129,14 +128,14 @@ fn not_below(beat: f64, next: f64) -> usize
 }
 
 fn above(beat: f64, next: f64) -> usize
-    ensures { λ r. ⌜ r ≡ miss (λ (e : Float × Float). le (e .0) (e .1)) (quantized beat, quantized next) ⌝ }
+    ensures { λ r. ⌜ r ≡ miss (λ (e : Float × Float). notAbove (e .0) (e .1)) (quantized beat, quantized next) ⌝ }
 {
-    if rows::quantize_beat_f32(ieee::narrow_f64(beat))
-        <= rows::quantize_beat_f32(ieee::narrow_f64(next))
+    if rows::quantize_beat_f32(ieee::narrow_f64(next))
+        < rows::quantize_beat_f32(ieee::narrow_f64(beat))
     {
-        0
-    } else {
         1
+    } else {
+        0
     }
 }
 
@@ -155,7 +154,7 @@ pub fn quantized_rise(beats: &[f64]) -> bool
 
 // Whether no quantised beat is above the next.
 pub fn quantized_never_fall(beats: &[f64]) -> bool
-    ensures { λ r. ⌜ r ≡ everyTwo le (map quantized (now (beats .entry))) ⌝ }
+    ensures { λ r. ⌜ r ≡ everyTwo notAbove (map quantized (now (beats .entry))) ⌝ }
 {
     let mut fail: usize = 0;
     let mut i = 0;

@@ -1,64 +1,54 @@
+-- `assembled_rows::narrow_column` writes each number narrowed, as far as both columns go. Assumes nothing.
+use Prim.Native.Nat.{_-_}
+use native.Mathlib.Omega.{arith}
+use lib.Ieee.{nan}
+use Rattle.ieee.specs.Narrowing.{narrow}
+use Rattle.columns.proofs.LaidEach.{LayingEach, begun, turned, ended}
 use borrow.Author.Needs.{needs}
 use Rattle.assembled_rows.proofs.narrow_column.Statement.{statement}
 use Rattle.assembled_rows.proofs.narrow_column.Tie as tie
-use Rattle.assembled_rows.proofs.narrow_column.Reads as reads
-use Rattle.assembled_rows.proofs.narrow_column.Lts as lts
-use Rattle.columns.proofs.room_of.Reads as room-of-reads
-use Rattle.ieee.proofs.narrow_f64.Reads as narrow-f64-reads
 
 abbrev Inv-loop : tie.InvT-loop
-Inv-loop from to₀ n i₀ to i = ?
+Inv-loop from to₀ n i₀ to i = LayingEach narrow from to₀ n to i
 
 abbrev μ-loop : tie.MeasureT-loop
-μ-loop from to₀ n i₀ to i = ?
+μ-loop from to₀ n i₀ to i = n - i
 
--- src/lib.rt:50:9
 room-of-requires : tie.Need-room-of-requires Inv-loop μ-loop
 room-of-requires c κs = search needs
 
--- src/lib.rt:52:5
 loop-holds : tie.Need-loop-holds Inv-loop μ-loop
-loop-holds c = search needs
+loop-holds c = begun (c .room-of .ensures)
 
--- src/lib.rt:53:34
 mul-narrow-f64 : tie.Need-mul-narrow-f64 Inv-loop μ-loop
 mul-narrow-f64 c = search needs
 
--- src/lib.rt:53:34
 shared-slice-read-narrow-f64 : tie.Need-shared-slice-read-narrow-f64 Inv-loop μ-loop
 shared-slice-read-narrow-f64 c = search needs
 
--- src/lib.rt:53:17
 narrow-f64-requires : tie.Need-narrow-f64-requires Inv-loop μ-loop
 narrow-f64-requires c κs = search needs
 
--- src/lib.rt:53:9
 mul-to : tie.Need-mul-to Inv-loop μ-loop
 mul-to c = search needs
 
--- src/lib.rt:53:9
 slice-write-to : tie.Need-slice-write-to Inv-loop μ-loop
 slice-write-to c = search needs
 
--- src/lib.rt:54:9
 add-i : tie.Need-add-i Inv-loop μ-loop
 add-i c = search needs
 
--- src/lib.rt:52:5
 loop-less : tie.Need-loop-less Inv-loop μ-loop
 loop-less c = search needs
 
--- src/lib.rt:52:5
 loop-again : tie.Need-loop-again Inv-loop μ-loop
-loop-again c = search needs
+loop-again c = turned (c .before .before .before .loop .inv) nan (omega arith) (search needs)
 
--- src/lib.rt:47:1
 same-length : tie.Need-same-length Inv-loop μ-loop
 same-length c = search needs
 
--- src/lib.rt:47:1
 returns : tie.Need-returns Inv-loop μ-loop
-returns c = search needs
+returns c = ended (c .before .loop .inv) (omega arith)
 
 pub narrow-column-spec : {M : Type 1} → statement M
 narrow-column-spec =

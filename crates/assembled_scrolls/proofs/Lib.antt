@@ -1,0 +1,3 @@
+pub mod KeptNoLonger
+pub mod QuantizedTaken
+pub mod Outcomes
