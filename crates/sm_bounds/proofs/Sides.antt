@@ -18,7 +18,7 @@ use Rattle.ieee.proofs.Values.{rescaled}
 use Rattle.ieee.proofs.Units.{round-units, round-past}
 use Rattle.ieee.proofs.RoundedSize.{grid-le}
 use Rattle.ieee.proofs.SignedSizes.{Ordered}
-use Rattle.ieee.proofs.FloatOrder.{le-sizes, sizes-le}
+use Rattle.ieee.proofs.FloatOrder.{le-sizes, sizes-le, lt-not-le}
 use Rattle.ieee.proofs.ByValue.{mul-value, div-value}
 use Rattle.ieee.proofs.SumByValue.{add-values}
 use Rattle.ieee.proofs.Magnitude.{AtMost}
@@ -223,3 +223,36 @@ above-if-not-below (fin s m e) w h = go s h
     go : (s : Bool) → lt (fin s m e) zero ≡ false → lt zero (fin s m e) ≡ true
     go false q = lt-ltb (0 * 1 * down e) (m * up e * 1) (omega (arith, some))
     go true q = absurd (omega (arith, some, ltb-false 0 (m * up e * 1 + 0 * 1 * down e) q))
+
+-- above 0 and not above it
+pub not-both : (x : Float) → lt zero x ≡ true → On true x → ⊥
+not-both nan h k = k
+not-both (inf s) h k = k
+not-both (fin s m e) h k = lt-not-le zero (fin s m e) tt tt (subst T (sym h) tt) (on-not-above (fin s m e) k)
+
+-- ---- what is left of the second above 0, where the first is not above it: no more than the second
+module _ (f : Format) {bound : ℕ} (fine : OfFormat f bound) (a b c : ℕ) (C : 0 < c) (small : b ≤ bound * c) where
+  rest-of : (s t less more : Bool) → ltb a b ≡ less → ltb b a ≡ more → Side true s a → T (finite (summed f a b c C s t less more))
+      → AtMost bound (summed f a b c C s t less more) ⊎ On true (summed f a b c C s t less more)
+  rest-of true true less more l m h F = inr (round-side f true true (a + b) c C (inl refl) F)
+  rest-of true false true more l m h F = inl (round-at-most f fine false (b - a) c C (le-trans (omega arith) small))
+  rest-of true false false true l m h F = inr (round-side f true true (a - b) c C (inl refl) F)
+  rest-of true false false false l m h F = inr (round-side f true false (a - b) c C (inr (omega (arith, ltb-false b a m))) F)
+  rest-of false false less more l m h F = inl (round-at-most f fine false (a + b) c C (le-trans (omega (arith, none-below a h)) small))
+  rest-of false true true more l m h F = inl (round-at-most f fine true (b - a) c C (le-trans (omega arith) small))
+  rest-of false true false more l m h F = inl (round-at-most f fine false (a - b) c C (le-trans (omega (arith, none-below a h)) small))
+
+  rest-of-sum : (s t : Bool) → Side true s a → T (finite (sum f s a t b c)) → AtMost bound (sum f s a t b c) ⊎ On true (sum f s a t b c)
+  unfolding sum
+  rest-of-sum s t h F = rest-of s t (ltb a b) (ltb b a) refl refl h F
+
+pub rest-at-most : (f : Format) {A bound : ℕ} → OfFormat f bound → (x y : Float) (v : AtMost A x) (w : AtMost bound y) → On true x → T (finite (add f x y)) → lt zero (add f x y) ≡ true → AtMost bound (add f x y)
+rest-at-most f {A} {bound} fine x y v w h F above =
+    let C = mul-pos (v .den-pos) (w .den-pos) in
+    let small : w .num * v .den ≤ bound * (v .den * w .den) =
+    le-trans (mul-le-mul-right (v .den) (w .small)) (le-of-eq (mul-right-comm bound (w .den) (v .den) ∙ mul-assoc bound (v .den) (w .den))) in
+    elim (rest-of-sum f fine (v .num * w .den) (w .num * v .den) (v .den * w .den) C small (v .negative) (w .negative)
+    (side-of true x (v .negative) (v .num * w .den) (v .den * w .den) (over x y v w) h) (subst (λ (z : Float). T (finite z)) (added x y v w f) F)) [
+      | inl z ↦ subst (AtMost bound) (sym (added x y v w f)) z
+      | inr z ↦ absurd (not-both (add f x y) above (subst (On true) (sym (added x y v w f)) z))
+    ]
