@@ -1,3 +1,4 @@
 pub mod Sides
 pub mod WarpLengths
 pub mod ChangesTaken
+pub mod ArrowsKeepBounds
