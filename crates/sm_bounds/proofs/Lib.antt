@@ -2,3 +2,4 @@ pub mod Sides
 pub mod WarpLengths
 pub mod ChangesTaken
 pub mod ArrowsKeepBounds
+pub mod WalkWithin
