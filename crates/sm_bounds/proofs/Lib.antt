@@ -3,3 +3,4 @@ pub mod WarpLengths
 pub mod ChangesTaken
 pub mod ArrowsKeepBounds
 pub mod WalkWithin
+pub mod AssemblyTakes

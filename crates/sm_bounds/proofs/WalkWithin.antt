@@ -95,7 +95,7 @@ walk-within m few (change ∷ changes) state n h w e k r =
       lists = fine-then (fine-then (said-fine (passed state change) one) (said-fine (met state change) two)) (rest .lists);
     }
 
-sixty-taken : IsTempo sixty
+pub sixty-taken : IsTempo sixty
 unfolding inRange ofBits lt le neg eq
 sixty-taken = refl
 
