@@ -1,5 +1,5 @@
 -- Each arrow keeps a state within its bounds and writes stops above 0 of at most 2 ^ 30 seconds: in a warp what is owed is never above 0, so a stop leaves no more of itself. Assumes nothing.
-use Prim.Native.Nat.{ℕ, suc, _+_, _*_, _^_, _≤_, _<_}
+use Prim.Native.Nat.{ℕ, suc, _*_, _^_, _<_}
 use mathlib.Core.Logic.{inl, inr}
 use mathlib.Core.Bool.{Bool, true, false, _&&_}
 use mathlib.Core.Path.{_≡_, refl}
@@ -10,9 +10,8 @@ use lib.Ieee.{Float, binary32, add, sub, mul, div, lt, le, ofBits}
 use lib.Ieee.Scale.{finite}
 use Rattle.picks.specs.Pick.{pick}
 use Rattle.ieee.proofs.Magnitude.{AtMost, Sized, sized}
-use Rattle.ieee.proofs.SizesAddUp.{AtLeast, OfFormat, power-of-format, digits-of-format, at-most-finite, at-most-wider, add-at-most, sub-at-most, mul-at-most, div-at-most}
+use Rattle.ieee.proofs.SizesAddUp.{OfFormat, power-of-format, digits-of-format, at-most-finite, at-most-wider, add-at-most, sub-at-most, mul-at-most, div-at-most}
 use Rattle.limits.proofs.TempoSizes.{tempo-at-most, tempo-at-least}
-use Rattle.rows.specs.Rows.{quantized32}
 use Rattle.sm_machine.specs.declared.Change.{Change}
 use Rattle.sm_machine.specs.declared.Change.the-variants.{Tempo, Stop}
 use Rattle.sm_machine.specs.declared.Opened.{Opened}
@@ -129,7 +128,7 @@ module _ (tempo last beat : Float) (t : IsTempo tempo) (l : Beat last) (b : Beat
       div-side binary32 (sixtyfold last beat) tempo sixtyfold-at-most (tempo-at-least tempo t) false true upward (not-above-on tempo (at-most-finite (tempo-at-most false tempo t)) h) (at-most-finite seconds-at-most)
 
   module _ (n : ℕ) (few : suc n < 2 ^ 24) (owed : Float) (o : AtMost (spans n) owed) where
-    more-at-most : AtMost (spans (suc n)) (add binary32 owed (seconds tempo last beat))
+    pub more-at-most : AtMost (spans (suc n)) (add binary32 owed (seconds tempo last beat))
     more-at-most = add-at-most binary32 (spans-fine (suc n) few) owed (seconds tempo last beat) o seconds-at-most (omega arith)
 
     pub owed-at-most : AtMost (spans (suc n)) (owedAt tempo last owed beat)

@@ -1,5 +1,5 @@
 -- What SM's walk writes of raw lists that are taken is taken further on: its stops and its warps by row tidying, its tempos by tempo tidying and by the clock. Assumes nothing.
-use Prim.Native.Nat.{ℕ, _≤_, max}
+use Prim.Native.Nat.{_≤_, max}
 use mathlib.Core.Bool.{true}
 use mathlib.Core.List.{List, [], _∷_, map}
 use mathlib.Core.Path.{_≡_, refl}
@@ -101,6 +101,9 @@ module _ (tempoBeats tempoValues stopBeats stopValues : List Float) (taken : raw
         beats-in (rangeOf Beat) out (each-so (beatKey binary32) (λ e h. allowed-taken (e .0) h) out warps-are),
         is-in (rangeOf Value) length-taken out (lists .warpsAre),
       )
+
+  pub sm-warps-short : Values IsLength (processed tempos stops .warps)
+  sm-warps-short = lists .warpsAre
 
   -- tempos: at most 1,024, on allowed beats, none 0, from 2 ^ -20 to 2 ^ 30 in size
   most-tempos : length (processed tempos stops .tempos) ≤ 1024

@@ -1,5 +1,5 @@
 -- The changes of raw lists that are taken: f32 beats that are allowed, in order, and values of a tempo's size; so the walk takes them. Assumes nothing.
-use Prim.Native.Nat.{ℕ, _≤_}
+use Prim.Native.Nat.{_≤_}
 use mathlib.Core.Path.{_≡_, refl}
 use mathlib.Core.Bool.{Bool, true, false}
 use mathlib.Core.List.{List, [], _∷_, map}
@@ -10,10 +10,10 @@ use lib.Ieee.{Float, inf, eq, le, lt}
 use Rattle.picks.specs.Pick.{pick}
 use Rattle.ieee.proofs.Narrow.{narrow-fits}
 use Rattle.limits.specs.declared.Kind.the-variants.{RawBeat, RawTempo, TidyTempo, Tempo}
-use Rattle.limits.specs.Numbers.{rangeOf, inRange, allIn, every, tempo, sizeOf, power, nothing}
+use Rattle.limits.specs.Numbers.{rangeOf, inRange, allIn, every, sizeOf, power, nothing}
 use Rattle.limits.proofs.Every.{every-rest}
 use Rattle.limits.proofs.ListTaken.{list-taken}
-use Rattle.order.specs.Order.{ordered, NeverFalls}
+use Rattle.order.specs.Order.{NeverFalls}
 use Rattle.order.specs.Entries.{entries, first, second}
 use Rattle.order.proofs.Columns.{length-entries, entries-columns}
 use Rattle.order.proofs.OrderedList.{Each, each-ordered, ordered-length, ordered-never-falls}

@@ -4,3 +4,5 @@ pub mod ChangesTaken
 pub mod ArrowsKeepBounds
 pub mod WalkWithin
 pub mod AssemblyTakes
+pub mod OffsetWithin
+pub mod EveryNumberFinite

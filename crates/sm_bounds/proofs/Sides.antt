@@ -7,7 +7,7 @@ use native.Mathlib.Nat.{le-trans, le-of-eq, le-of-mul-le-mul-right, zero-mul, mu
 use native.Mathlib.Omega.{arith}
 use borrow.Author.Tests.{ltb-true, ltb-false, lt-ltb}
 use lib.IntN.{pos}
-use lib.Dec.{T, ltb, lit<}
+use lib.Dec.{T, ltb}
 use lib.Pow.{pow-pos}
 use lib.Ieee.{Float, nan, inf, fin, Format, prec, low, up, down, unlike, round, sum, neg, add, sub, mul, div, lt, le}
 use lib.Ieee.Exact.{HasValue}
@@ -22,7 +22,7 @@ use Rattle.ieee.proofs.FloatOrder.{le-sizes, sizes-le, lt-not-le}
 use Rattle.ieee.proofs.ByValue.{mul-value, div-value}
 use Rattle.ieee.proofs.SumByValue.{add-values}
 use Rattle.ieee.proofs.Magnitude.{AtMost}
-use Rattle.ieee.proofs.SizesAddUp.{AtLeast, OfFormat, not-zero, round-at-most, at-most-neg}
+use Rattle.ieee.proofs.SizesAddUp.{AtLeast, OfFormat, not-zero, round-at-most}
 
 -- a sign, or nothing to have one
 abbrev pub Side : Bool → Bool → ℕ → Type 0

@@ -1,6 +1,5 @@
 -- Every state of the walk over changes that are taken is within its bounds, and so is every stop and every length of a warp that it writes. Assumes nothing.
 use Prim.Native.Nat.{ℕ, suc, _+_, _*_, _^_, _≤_, _<_, max}
-use mathlib.Core.Bool.{true}
 use mathlib.Core.List.{List, [], _∷_, _++_}
 use mathlib.Core.Path.{_≡_, refl, sym, _∙_, subst}
 use native.Mathlib.Nat.{mul-le-mul-right}
@@ -144,14 +143,17 @@ module _ (tempos stops : List (Float × Float)) (tempoGood : Each (beatKey binar
   unfolding openChart
   starts-at = after-opening tempos stops tempo-beats tempoOrder stop-beats stopOrder
 
+  pub all-good : Each changeKey GoodChange changes
+  all-good =
+      let t = max (temposBy0 tempos) 1 in let s = stopsBefore stops in
+      each-merged GoodChange (drop t tempos) (drop s stops)
+      (each-drop (beatKey binary32) (λ (e : Float × Float). GoodChange (tempoOf e)) t tempos (each-so (beatKey binary32) (λ e g. (g .beat, g .value)) tempos tempoGood))
+      (each-drop (beatKey binary32) (λ (e : Float × Float). GoodChange (stopOf e)) s stops (each-so (beatKey binary32) (λ e g. (g .beat, g .value)) stops stopGood))
+
   walked : Walked 4096 changes opened
   walked =
       let t = max (temposBy0 tempos) 1 in let s = stopsBefore stops in
-      walk-within 4096 (lit< tt) changes opened 0 (omega (arith, few-changes)) (opening .state)
-      (each-merged GoodChange (drop t tempos) (drop s stops)
-      (each-drop (beatKey binary32) (λ (e : Float × Float). GoodChange (tempoOf e)) t tempos (each-so (beatKey binary32) (λ e g. (g .beat, g .value)) tempos tempoGood))
-      (each-drop (beatKey binary32) (λ (e : Float × Float). GoodChange (stopOf e)) s stops (each-so (beatKey binary32) (λ e g. (g .beat, g .value)) stops stopGood)))
-      starts-at
+      walk-within 4096 (lit< tt) changes opened 0 (omega (arith, few-changes)) (opening .state) all-good starts-at
       (rises-merged (drop t tempos) (drop s stops)
       (each-drop (beatKey binary32) (λ (e : Float × Float). Beat (e .0)) t tempos tempo-beats) (rises-drop (beatKey binary32) t tempos tempoOrder)
       (each-drop (beatKey binary32) (λ (e : Float × Float). Beat (e .0)) s stops stop-beats) (rises-drop (beatKey binary32) s stops stopOrder))

@@ -1,25 +1,24 @@
 -- What stays of a list that is taken, narrowed: beats are allowed f32, and values have the size of a tempo. Assumes nothing.
-use Prim.Native.Nat.{ℕ, _+_, _*_, _≤_, _<_}
-use mathlib.Core.Path.{_≡_, refl, sym, ap, _∙_, subst}
+use Prim.Native.Nat.{ℕ, _+_, _*_, _<_}
+use mathlib.Core.Path.{_≡_, refl, sym, _∙_, subst}
 use mathlib.Core.Bool.{Bool, true, false, not}
-use mathlib.Core.List.{List, [], _∷_}
-use mathlib.Core.Logic.{_⊎_, inl, inr, ⊎-elim}
+use mathlib.Core.Logic.{⊎-elim}
 use native.Mathlib.Omega.{arith}
 use borrow.Author.Tests.{ltb-true, ltb-false, eq-eqb, ne-eqb}
 use lib.Ieee.Fits.{down-pos}
 use Rattle.order.proofs.Compare.{same?}
-use lib.Dec.{T, ltb, eqb}
+use lib.Dec.{T}
 use lib.IntN.{ℤ, pos, negsuc}
-use lib.Ieee.{Float, nan, inf, fin, binary32, up, down, neg, lt, eq, le, fits, isNan}
+use lib.Ieee.{Float, nan, inf, fin, up, down, neg, lt, eq, le, fits}
 use lib.Ieee.Bits.{is-true}
 use lib.Ieee.Scale.{finite}
 use Rattle.picks.specs.Pick.{pick}
 use Rattle.ieee.specs.Narrowing.{narrow, withSign}
-use Rattle.ieee.proofs.Narrow.{narrow-fits, narrow-own, narrow-keeps-order, narrow-signed}
+use Rattle.ieee.proofs.Narrow.{narrow-own, narrow-keeps-order, narrow-signed}
 use Rattle.ieee.proofs.FloatOrder.{le-sizes}
 use Rattle.rows.specs.Rows.{allowedBeat}
 use Rattle.rows.proofs.Quantizing.{narrow-allowed}
-use Rattle.limits.specs.declared.Kind.the-variants.{Beat, RawBeat, RawTempo, TidyTempo}
+use Rattle.limits.specs.declared.Kind.the-variants.{RawBeat, RawTempo, TidyTempo}
 use Rattle.limits.specs.Numbers.{rangeOf, inRange, sizeOf, nothing, power, upTo, tempo}
 use Rattle.limits.proofs.TakenWithin.{taken-within, finite-taken}
 use Rattle.sm_changes.specs.SmChanges.{zero, staysSm}
