@@ -1,0 +1,2 @@
+pub mod StopsOnRows
+pub mod ListsTaken
