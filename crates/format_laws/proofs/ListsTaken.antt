@@ -34,7 +34,12 @@ use Rattle.process_ssc.specs.Ssc.{staysSsc, onRow, stayed}
 use Rattle.process_ssc.proofs.TemposTaken.{tempos-taken}
 use Rattle.sm_changes.specs.SmChanges.{smChanges}
 use Rattle.sm_bounds.proofs.ChangesTaken.{changes-good, changes-most, few-changes, in-order, few-written}
-use Rattle.sm_bounds.proofs.WalkWithin.{all-good}
+use Rattle.sm_bounds.proofs.WalkWithin.{GoodChange, all-good}
+use Rattle.sm_machine.specs.declared.Change.{Change}
+use Rattle.sm_machine.specs.Machine.{beatAt}
+use Rattle.sm_walk.specs.Chart.{openingPlaces}
+use Rattle.sm_walk.specs.Changes.{left}
+use Rattle.sm_laws.specs.Beats as beats
 use Rattle.sm_bounds.proofs.AssemblyTakes.{sm-stops-taken, sm-warps-taken}
 use Rattle.sm_laws.proofs.ChangesInOrder.{changeKey}
 use Rattle.assembled_rows.proofs.QuantizedTaken.{list-passes}
@@ -128,7 +133,7 @@ module _ (tempoBeats tempoValues stopBeats stopValues : List Float) (t : rawNumb
         fewStops = omega (arith, few .stops);
         fewWarps = omega (arith, few .warps);
         stops = sm-stops-taken tempoBeats tempoValues stopBeats stopValues both;
-        onRows = sm-on-rows T S (each-so changeKey (λ e g. g .0) _ good);
+        onRows = sm-on-rows T S (each-so changeKey {P = GoodChange} {Q = λ (change : Change). beats.Beat (beatAt change)} (λ e g. g .0) (left T S (openingPlaces T S)) good);
         warpBeats = sm-warps-taken tempoBeats tempoValues stopBeats stopValues both .0;
         warpLengths = sm-warps-taken tempoBeats tempoValues stopBeats stopValues both .1;
       }
