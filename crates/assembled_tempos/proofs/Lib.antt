@@ -1,1 +1,4 @@
-
+pub mod RowsFit
+pub mod Ends
+pub mod ProcessedColumns
+pub mod WorkColumns
