@@ -1,0 +1,3 @@
+pub mod NarrowedSpeeds
+pub mod QuantizedTaken
+pub mod Outcomes
