@@ -10,11 +10,23 @@ use Rattle.ieee.specs.Narrowing.{narrow}
 use Rattle.order.specs.Order.{laid}
 use Rattle.order.specs.Entries.{entries, first, second}
 use Rattle.order.proofs.Columns.{length-entries, first-entries, second-entries}
+use Rattle.columns.specs.Each.{laidEach}
+use Rattle.columns.proofs.EachOverFront.{each-over-front}
 use Rattle.speeds.specs.Speed.{SpeedEntry, speedValues, speedEntries}
 use Rattle.speeds.specs.LaidSpeeds.{ratioOf, delayOf, unitOf, leastOf}
 use Rattle.speeds.proofs.SpeedColumns.{many-values, many-speeds}
 use Rattle.assembled_rows.proofs.NarrowedFront.{front-laid}
 use Rattle.assembled_speeds.specs.AssembledSpeeds.{narrowedSpeed, narrowedSpeeds}
+
+-- ---- rooms
+pub least-within : (a b c d : ℕ) (n : ℕ) → n ≤ leastOf a b c d → (n ≤ a) × (n ≤ b) × (n ≤ c) × (n ≤ d)
+least-within a b c d n h = (omega arith, omega arith, omega arith, omega arith)
+
+pub lesser-within : (count most n : ℕ) → n ≡ min count most → n ≤ most
+lesser-within count most n h = omega arith
+
+pub laid-front : {A B : Type 0} (f : A → B) (n : ℕ) (from : List A) (old : List B) → n ≤ length from → n ≤ length old → laidEach f (take n from) old ≡ laid (map f (take n from)) old
+laid-front f n from old h k = each-over-front f (take n from) old (omega (arith, length-take-le n from h))
 
 -- ---- fronts
 take-entries : {A B : Type 0} (n : ℕ) (firsts : List A) (seconds : List B) → entries (take n firsts) (take n seconds) ≡ take n (entries firsts seconds)
@@ -90,8 +102,8 @@ module _ (count n : ℕ) (beats ratios delays : List Float) (units : List ℕ) (
 
   pub front-length : length (narrowedSpeeds count beats ratios delays units) ≡ n
   front-length =
-      ap length is ∙ length-map front narrowedSpeed
-      ∙ omega (arith, many-speeds (take n ratios) (take n delays) (take n units) (take n beats), beats-long, with-ratios, with-delays, with-units)
+      ap length is ∙ length-map front narrowedSpeed ∙ sym (length-map front first)
+      ∙ ap length (beats-so (take n beats) (take n ratios) (take n delays) (take n units) with-ratios with-delays with-units) ∙ beats-long
 
   pub front-beats : map first (narrowedSpeeds count beats ratios delays units) ≡ map narrow (take n beats)
   front-beats =

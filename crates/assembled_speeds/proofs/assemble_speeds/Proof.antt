@@ -44,7 +44,8 @@ refused-requires : tie.Need-refused-requires
 refused-requires c κs = search needs
 
 returns-3 : tie.Need-returns-3
-returns-3 c = let given = c .before .before .before .before .before .before .before .before .before .before .before .args in
+returns-3 c =
+    let given = c .before .before .before .before .before .before .before .before .before .before .before .args in
     rw (c .refused .ensures) (long-refused (given .beats .now) (given .ratios .now) (given .delays .now) (given .units .now) (given .out-beats .now) (given .out-ratios .now) (given .out-delays .now) (given .out-units .now) (c .before .if2 .left))
 
 pub assemble-speeds-spec : {M : Type 1} → statement M

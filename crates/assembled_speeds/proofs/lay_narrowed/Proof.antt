@@ -2,17 +2,17 @@
 use Prim.Native.Nat.{ℕ, _≤_, min}
 use mathlib.Core.Path.{_≡_, sym, ap, _∙_}
 use mathlib.Core.List.{List, map-id}
+use native.Mathlib.Nat.{le-trans, le-of-eq}
 use native.Mathlib.Omega.{arith}
 use lib.ListN.{length, take}
 use lib.Seq.{length-take-le}
 use lib.Ieee.{Float}
 use Rattle.ieee.specs.Narrowing.{narrow}
 use Rattle.order.specs.Order.{laid}
-use Rattle.columns.proofs.EachOverFront.{each-over-front}
 use Rattle.speeds.specs.LaidSpeeds.{leastOf}
 use Rattle.speeds.proofs.Rooms.{refused-by-tests, refused-for-room, taken}
 use Rattle.assembled_speeds.specs.AssembledSpeeds.{narrowedSpeeds}
-use Rattle.assembled_speeds.proofs.NarrowedSpeeds.{front-length, front-beats, front-ratios, front-delays, front-units}
+use Rattle.assembled_speeds.proofs.NarrowedSpeeds.{least-within, lesser-within, laid-front, front-length, front-beats, front-ratios, front-delays, front-units}
 use borrow.Author.Needs.{needs}
 use Rattle.assembled_speeds.proofs.lay_narrowed.Statement.{statement}
 use Rattle.assembled_speeds.proofs.lay_narrowed.Tie as tie
@@ -21,7 +21,8 @@ refused-requires : tie.Need-refused-requires
 refused-requires c κs = search needs
 
 returns : tie.Need-returns
-returns c = let given = c .before .before .before .before .before .before .before .before .before .before .args in
+returns c =
+    let given = c .before .before .before .before .before .before .before .before .before .before .args in
     rw (c .refused .ensures) (refused-by-tests (given .number) (narrowedSpeeds (given .count) (given .beats .now) (given .ratios .now) (given .delays .now) (given .units .now)) (given .out-beats .now) (given .out-ratios .now) (given .out-delays .now) (given .out-units .now) (c .before .if1 .taken))
 
 least-of-requires : tie.Need-least-of-requires
@@ -37,7 +38,8 @@ refused-requires-2 : tie.Need-refused-requires-2
 refused-requires-2 c κs = search needs
 
 returns-2 : tie.Need-returns-2
-returns-2 c = let given = c .before .before .before .before .before .before .before .before .before .before .before .before .before .before .args in
+returns-2 c =
+    let given = c .before .before .before .before .before .before .before .before .before .before .before .before .before .before .args in
     let n = c .before .before .before .room-of .result in
     let few : n ≡ min (given .count) (leastOf (length (given .beats .now)) (length (given .ratios .now)) (length (given .delays .now)) (length (given .units .now))) = omega (arith, c .before .before .before .room-of .ensures, c .before .before .before .before .least-of .ensures) in
     rw (c .refused2 .ensures) (refused-for-room (given .number) (narrowedSpeeds (given .count) (given .beats .now) (given .ratios .now) (given .delays .now) (given .units .now)) (given .out-beats .now) (given .out-ratios .now) (given .out-delays .now) (given .out-units .now) (c .before .before .before .before .before .if1 .left) (omega (arith, c .before .if2 .taken, c .before .before .least-of2 .ensures, front-length (given .count) n (given .beats .now) (given .ratios .now) (given .delays .now) (given .units .now) few)))
@@ -79,23 +81,26 @@ same-length-4 : tie.Need-same-length-4
 same-length-4 c = search needs
 
 returns-3 : tie.Need-returns-3
-returns-3 c = let given = c .before .before .before .before .before .before .before .before .before .before .before .before .before .before .before .before .before .before .before .before .before .before .before .before .before .before .before .before .before .before .before .before .before .args in
+returns-3 c =
+    let given = c .before .before .before .before .before .before .before .before .before .before .before .before .before .before .before .before .before .before .before .before .before .before .before .before .before .before .before .before .before .before .before .before .before .args in
     let n = c .before .before .before .before .before .before .before .before .before .before .before .before .before .before .before .before .before .before .before .before .before .before .room-of .result in
     let few : n ≡ min (given .count) (leastOf (length (given .beats .now)) (length (given .ratios .now)) (length (given .delays .now)) (length (given .units .now))) = omega (arith, c .before .before .before .before .before .before .before .before .before .before .before .before .before .before .before .before .before .before .before .before .before .before .room-of .ensures, c .before .before .before .before .before .before .before .before .before .before .before .before .before .before .before .before .before .before .before .before .before .before .before .least-of .ensures) in
     let room : n ≤ leastOf (length (given .out-beats .now)) (length (given .out-ratios .now)) (length (given .out-delays .now)) (length (given .out-units .now)) = omega (arith, c .before .before .before .before .before .before .before .before .before .before .before .before .before .before .before .before .before .before .before .before .if2 .left, c .before .before .before .before .before .before .before .before .before .before .before .before .before .before .before .before .before .before .before .before .before .least-of2 .ensures) in
-    taken (given .number) (narrowedSpeeds (given .count) (given .beats .now) (given .ratios .now) (given .delays .now) (given .units .now)) (given .out-beats .now) (given .out-ratios .now) (given .out-delays .now) (given .out-units .now) n _ _ _ _ (c .before .before .before .before .before .before .before .before .before .before .before .before .before .before .before .before .before .before .before .before .before .before .before .before .if1 .left) (omega (arith, front-length (given .count) n (given .beats .now) (given .ratios .now) (given .delays .now) (given .units .now) few)) (sym (front-length (given .count) n (given .beats .now) (given .ratios .now) (given .delays .now) (given .units .now) few))
+    let out = least-within (length (given .out-beats .now)) (length (given .out-ratios .now)) (length (given .out-delays .now)) (length (given .out-units .now)) n room in
+    let own = least-within (length (given .beats .now)) (length (given .ratios .now)) (length (given .delays .now)) (length (given .units .now)) n (lesser-within (given .count) _ n few) in
+    taken (given .number) (narrowedSpeeds (given .count) (given .beats .now) (given .ratios .now) (given .delays .now) (given .units .now)) (given .out-beats .now) (given .out-ratios .now) (given .out-delays .now) (given .out-units .now) n _ _ _ _ (c .before .before .before .before .before .before .before .before .before .before .before .before .before .before .before .before .before .before .before .before .before .before .before .before .if1 .left) (le-trans (le-of-eq (front-length (given .count) n (given .beats .now) (given .ratios .now) (given .delays .now) (given .units .now) few)) room) (sym (front-length (given .count) n (given .beats .now) (given .ratios .now) (given .delays .now) (given .units .now) few))
     (record {
       beatsAre =
-          c .before .before .before .before .before .before .before .before .before .before .before .before .before .before .before .before .before .narrow-column .ensures ∙ each-over-front narrow (take n (given .beats .now)) (given .out-beats .now) (omega (arith, length-take-le n (given .beats .now) (omega arith)))
+          c .before .before .before .before .before .before .before .before .before .before .before .before .before .before .before .before .before .narrow-column .ensures ∙ laid-front narrow n (given .beats .now) (given .out-beats .now) (own .0) (out .0)
           ∙ ap (λ (l : List Float). laid l (given .out-beats .now)) (sym (front-beats (given .count) n (given .beats .now) (given .ratios .now) (given .delays .now) (given .units .now) few));
       ratiosAre =
-          c .before .before .before .before .before .before .before .before .before .before .before .before .narrow-column2 .ensures ∙ each-over-front narrow (take n (given .ratios .now)) (given .out-ratios .now) (omega (arith, length-take-le n (given .ratios .now) (omega arith)))
+          c .before .before .before .before .before .before .before .before .before .before .before .before .narrow-column2 .ensures ∙ laid-front narrow n (given .ratios .now) (given .out-ratios .now) (own .1) (out .1)
           ∙ ap (λ (l : List Float). laid l (given .out-ratios .now)) (sym (front-ratios (given .count) n (given .beats .now) (given .ratios .now) (given .delays .now) (given .units .now) few));
       delaysAre =
-          c .before .before .before .before .before .before .before .narrow-column3 .ensures ∙ each-over-front narrow (take n (given .delays .now)) (given .out-delays .now) (omega (arith, length-take-le n (given .delays .now) (omega arith)))
+          c .before .before .before .before .before .before .before .narrow-column3 .ensures ∙ laid-front narrow n (given .delays .now) (given .out-delays .now) (own .2) (out .2)
           ∙ ap (λ (l : List Float). laid l (given .out-delays .now)) (sym (front-delays (given .count) n (given .beats .now) (given .ratios .now) (given .delays .now) (given .units .now) few));
       unitsAre =
-          c .before .before .copy-units .ensures ∙ each-over-front (λ (unit : ℕ). unit) (take n (given .units .now)) (given .out-units .now) (omega (arith, length-take-le n (given .units .now) (omega arith)))
+          c .before .before .copy-units .ensures ∙ laid-front (λ (unit : ℕ). unit) n (given .units .now) (given .out-units .now) (own .3) (out .3)
           ∙ ap (λ (l : List ℕ). laid l (given .out-units .now)) (map-id (take n (given .units .now)) ∙ sym (front-units (given .count) n (given .beats .now) (given .ratios .now) (given .delays .now) (given .units .now) few));
     })
 
