@@ -4,3 +4,7 @@ pub mod QuantizedTaken
 pub mod RisingRows
 pub mod NarrowedFront
 pub mod Outcomes
+pub mod WrittenRises
+pub mod WrittenTaken
+pub mod FitsWhenTaken
+pub mod Unique

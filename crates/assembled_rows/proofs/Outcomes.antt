@@ -46,11 +46,11 @@ number-in-room tests count short room few e =
     ⊎-elim (λ h. rw (lt-leb count room h, lt-leb count short (omega arith))) (λ h. rw (le-leb count room h, le-leb count short (omega arith))) (below? room count)
 
 -- ---- under a refusal any two results are the same
-given-same : {A : Type 0} (number : ℕ) (one other : List A) → (number ≡ 0 → one ≡ other) → given number one ≡ given number other
+pub given-same : {A : Type 0} (number : ℕ) (one other : List A) → (number ≡ 0 → one ≡ other) → given number one ≡ given number other
 unfolding given
 given-same number one other same = ⊎-elim (λ e. rw (eq-eqb number 0 e) (same e)) (λ n. rw (ne-eqb number 0 n)) (same? number 0)
 
-room-same : (tests a b room : ℕ) → (tests ≡ 0 → a ≡ b) → roomNumber tests a room ≡ roomNumber tests b room
+pub room-same : (tests a b room : ℕ) → (tests ≡ 0 → a ≡ b) → roomNumber tests a room ≡ roomNumber tests b room
 room-same tests a b room same = ⊎-elim (λ e. ap (λ (n : ℕ). roomNumber tests n room) (same e)) (λ n. number-as-tests tests a room n ∙ sym (number-as-tests tests b room n)) (same? tests 0)
 
 -- a taken call's tests are passed

@@ -4,7 +4,7 @@ use limits::Kind;
 ghost use mathlib.Core.Path.{_≡_};
 ghost use mathlib.Core.Bool.{true};
 ghost use mathlib.Core.List.{map};
-ghost use Prim.Native.Nat.{_≤_, _<_, min};
+ghost use Prim.Native.Nat.{_≤_, _<_};
 ghost use lib.ListN.{length};
 ghost use lib.Ieee.{Float, lt};
 ghost use Rattle.ieee.specs.Narrowing.{narrow};
@@ -31,7 +31,7 @@ pub fn quantize_column(from: &[f64], to: &mut [f64])
 }
 
 // The same as f32, in which a quantised beat loses nothing.
-pub fn quantize_column_f32(from: &[f64], to: &mut [f32])
+fn quantize_column_f32(from: &[f64], to: &mut [f32])
     ensures { λ _. ⌜ now (to .exit) ≡ laidEach quantized (now (from .entry)) (now (to .entry)) ⌝ }
 {
     let n = columns::room_of(from.len(), to.len());
@@ -55,7 +55,7 @@ pub fn narrow_column(from: &[f64], to: &mut [f32])
 }
 
 // Each number as it is.
-pub fn copy_column(from: &[f64], to: &mut [f64])
+fn copy_column(from: &[f64], to: &mut [f64])
     ensures { λ _. ⌜ now (to .exit) ≡ laidEach (λ (x : Float). x) (now (from .entry)) (now (to .entry)) ⌝ }
 {
     let n = columns::room_of(from.len(), to.len());
@@ -140,7 +140,7 @@ fn above(beat: f64, next: f64) -> usize
 }
 
 // Whether each quantised beat is below the next.
-pub fn quantized_rise(beats: &[f64]) -> bool
+fn quantized_rise(beats: &[f64]) -> bool
     ensures { λ r. ⌜ r ≡ everyTwo lt (map quantized (now (beats .entry))) ⌝ }
 {
     let mut fail: usize = 0;

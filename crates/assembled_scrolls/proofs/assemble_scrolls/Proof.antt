@@ -32,7 +32,7 @@ refused-requires : tie.Need-refused-requires
 refused-requires c κs = search needs
 
 returns-3 : tie.Need-returns-3
-returns-3 c =     let given = c .before .before .before .before .before .before .before .args in
+returns-3 c = let given = c .before .before .before .before .before .before .before .args in
     rw (c .refused .ensures) (long-refused (given .beats .now) (given .values .now) (given .out-beats .now) (given .out-values .now) (c .before .if2 .left))
 
 pub assemble-scrolls-spec : {M : Type 1} → statement M
