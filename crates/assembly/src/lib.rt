@@ -208,14 +208,14 @@ pub fn compute_timing_segments_within(
     if processed.number != limits::TAKEN {
         return Assembled {
             number: processed.number,
-            tempos: 0,
-            stops: 0,
+            tempos: processed.tempos,
+            stops: processed.stops,
             delays: 0,
-            warps: 0,
+            warps: processed.warps,
             speeds: 0,
             scrolls: 0,
             fakes: 0,
-            offset: 0.0,
+            offset: processed.offset,
         };
     }
     let delays = assembled_rows::assemble_rows(
