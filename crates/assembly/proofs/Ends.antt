@@ -124,3 +124,28 @@ pub rows-laid : (whole : Bool) (beats values : List Float) {outcome : Outcome} {
 rows-laid whole beats values {outcome} {beatsOld} {beatsNew} {valuesOld} {valuesNew} taken fit q =
     let q′ : LaidPair 0 (assembledRows (changeBy whole) beats values) outcome beatsOld beatsNew valuesOld valuesNew = rw (quantized-taken beats values whole taken) at q in
     list-of-pair q′ (q′ .number ∙ fit)
+
+-- ---- what tempos, stops and warps answer is the number of all
+
+module _ (three other′ later′ : ℕ) {other later most : ℕ} {lists : Lists} {outcome : AssembledTempos} {tempoBeatsOld tempoBeatsNew tempoValuesOld tempoValuesNew stopBeatsOld stopBeatsNew stopValuesOld stopValuesNew warpBeatsOld warpBeatsNew warpLengthsOld warpLengthsNew : List Float} where
+  pub as-asked : other ≡ other′ → (other′ ≡ 0 → later ≡ later′)
+      → ThreeLaid (lower three other) later most lists outcome tempoBeatsOld tempoBeatsNew tempoValuesOld tempoValuesNew stopBeatsOld stopBeatsNew stopValuesOld stopValuesNew warpBeatsOld warpBeatsNew warpLengthsOld warpLengthsNew
+      → ThreeLaid (lower three other′) later′ most lists outcome tempoBeatsOld tempoBeatsNew tempoValuesOld tempoValuesNew stopBeatsOld stopBeatsNew stopValuesOld stopValuesNew warpBeatsOld warpBeatsNew warpLengthsOld warpLengthsNew
+  as-asked e h p = same-later (λ z. h (lower-none three other′ z .1)) (rw e at p)
+
+module _ {raw later most : ℕ} {lists : Lists} {outcome : AssembledTempos} {tempoBeatsOld tempoBeatsNew tempoValuesOld tempoValuesNew stopBeatsOld stopBeatsNew stopValuesOld stopValuesNew warpBeatsOld warpBeatsNew warpLengthsOld warpLengthsNew : List Float}
+    (p : ThreeLaid raw later most lists outcome tempoBeatsOld tempoBeatsNew tempoValuesOld tempoValuesNew stopBeatsOld stopBeatsNew stopValuesOld stopValuesNew warpBeatsOld warpBeatsNew warpLengthsOld warpLengthsNew) (taken : outcome .number ≡ 0) where
+  pub taken-part : ThreeLaid raw later most lists (record { number = 0; tempos = outcome .tempos; stops = outcome .stops; warps = outcome .warps; offset = outcome .offset }) tempoBeatsOld tempoBeatsNew tempoValuesOld tempoValuesNew stopBeatsOld stopBeatsNew stopValuesOld stopValuesNew warpBeatsOld warpBeatsNew warpLengthsOld warpLengthsNew
+  taken-part = record {
+    number = sym taken ∙ p .number;
+    temposLaid = rw taken at (p .temposLaid);
+    stopsLaid = rw taken at (p .stopsLaid);
+    warpsLaid = rw taken at (p .warpsLaid);
+    offsetIs = rw taken at (p .offsetIs);
+  }
+
+  pub all-passed : (raw ≡ 0) × (later ≡ 0)
+  all-passed =
+      let rooms = threeRooms lists (roomFor tempoBeatsOld tempoValuesOld) (roomFor stopBeatsOld stopValuesOld) (roomFor warpBeatsOld warpLengthsOld) in
+      let passed = none-refused raw (length (lists .warps)) most (lower later rooms) (sym (p .number) ∙ taken) in
+      (passed .rawTaken, lower-none later rooms (passed .laterTaken) .0)
