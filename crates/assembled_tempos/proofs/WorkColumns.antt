@@ -16,6 +16,7 @@ use Rattle.limits.proofs.ListTaken.{list-taken}
 use Rattle.order.specs.Entries.{entries, first, second}
 use Rattle.order.proofs.Columns.{length-entries, first-entries, second-entries, entries-columns}
 use Rattle.columns.specs.Laying.{roomNumber, given, LaidList}
+use Rattle.tidy_rows.specs.RowTidying.{rowsNumber}
 use Rattle.raw_lists.specs.declared.Processed as raw
 use Rattle.raw_lists.specs.RawLists.{rawNumbers, roomFor}
 use Rattle.raw_lists.proofs.BothTaken.{both-taken}
@@ -127,21 +128,35 @@ module _ (format : TimingFormat) (tempoBeats tempoValues stopBeats stopValues wa
       let made = processedLists format tempoBeats tempoValues stopBeats stopValues .warps in
       omega (arith, length-append (entries warpBeats warpLengths) made, length-entries warpBeats warpLengths (list-taken (two-taken .1) .even), lists .fewWarps)
 
-  pub processed-columns : {outcome : raw.Processed} {workTempoBeats workTempoValues workStopBeats workStopValues workWarpBeats workWarpLengths : List Float}
-      → Fronts (mergedLists format tempoBeats tempoValues stopBeats stopValues warpBeats warpLengths) outcome workTempoBeats workTempoValues workStopBeats workStopValues workWarpBeats workWarpLengths
-      → Processed (take (outcome .tempos) workTempoBeats) (take (outcome .tempos) workTempoValues) (take (outcome .stops) workStopBeats) (take (outcome .stops) workStopValues) (take (outcome .warps) workWarpBeats) (take (outcome .warps) workWarpLengths)
-  processed-columns f =
+  -- the stops are taken, and lie on rows
+  pub merged-stops : rowsNumber (map first (mergedLists format tempoBeats tempoValues stopBeats stopValues warpBeats warpLengths .stops)) (map second (mergedLists format tempoBeats tempoValues stopBeats stopValues warpBeats warpLengths .stops)) ≡ 0
+  merged-stops = lists .stops
+
+  pub stops-on-rows : map quantized (map first (mergedLists format tempoBeats tempoValues stopBeats stopValues warpBeats warpLengths .stops)) ≡ map first (mergedLists format tempoBeats tempoValues stopBeats stopValues warpBeats warpLengths .stops)
+  stops-on-rows = lists .onRows
+
+  -- as many warps as a list may have are taken
+  pub merged-warps : length (map first (mergedLists format tempoBeats tempoValues stopBeats stopValues warpBeats warpLengths .warps)) ≤ 1024
+      → rowsNumber (map first (mergedLists format tempoBeats tempoValues stopBeats stopValues warpBeats warpLengths .warps)) (map second (mergedLists format tempoBeats tempoValues stopBeats stopValues warpBeats warpLengths .warps)) ≡ 0
+  merged-warps few =
       let made = processedLists format tempoBeats tempoValues stopBeats stopValues .warps in
       let merged = entries warpBeats warpLengths ++ made in
       let is = list-taken (two-taken .1) in
       let beats : every (inRange (rangeOf Beat)) (map first merged) ≡ true = rw (map-append, first-entries warpBeats warpLengths (is .even)) (every-append (inRange (rangeOf Beat)) warpBeats (map first made) (is .beatsIn) (lists .warpBeats)) in
       let lengths : every (inRange (rangeOf Value)) (map second merged) ≡ true = rw (map-append, second-entries warpBeats warpLengths (is .even)) (every-append (inRange (rangeOf Value)) warpLengths (map second made) (is .valuesIn) (lists .warpLengths)) in
+      list-passes (rangeOf Beat) (rangeOf Value) (map first merged) (map second merged) few (same-columns merged) beats lengths
+
+  pub processed-columns : {outcome : raw.Processed} {workTempoBeats workTempoValues workStopBeats workStopValues workWarpBeats workWarpLengths : List Float}
+      → Fronts (mergedLists format tempoBeats tempoValues stopBeats stopValues warpBeats warpLengths) outcome workTempoBeats workTempoValues workStopBeats workStopValues workWarpBeats workWarpLengths
+      → Processed (take (outcome .tempos) workTempoBeats) (take (outcome .tempos) workTempoValues) (take (outcome .stops) workStopBeats) (take (outcome .stops) workStopValues) (take (outcome .warps) workWarpBeats) (take (outcome .warps) workWarpLengths)
+  processed-columns f =
+      let merged = mergedLists format tempoBeats tempoValues stopBeats stopValues warpBeats warpLengths .warps in
       record {
         tempos = rw (f .tempoBeatsAre, f .tempoValuesAre) (same-columns (processedLists format tempoBeats tempoValues stopBeats stopValues .tempos));
-        stops = rw (f .stopBeatsAre, f .stopValuesAre) (lists .stops);
-        onRows = rw (f .stopBeatsAre) (lists .onRows);
+        stops = rw (f .stopBeatsAre, f .stopValuesAre) merged-stops;
+        onRows = rw (f .stopBeatsAre) stops-on-rows;
         even = rw (f .warpBeatsAre, f .warpLengthsAre) (same-columns merged);
-        warps = λ few. rw (f .warpBeatsAre, f .warpLengthsAre) (list-passes (rangeOf Beat) (rangeOf Value) (map first merged) (map second merged) (rw (f .warpBeatsAre) at few) (same-columns merged) beats lengths);
+        warps = λ few. rw (f .warpBeatsAre, f .warpLengthsAre) (merged-warps (rw (f .warpBeatsAre) at few));
       }
 
 -- lists that are taken are short

@@ -13,8 +13,7 @@ use Rattle.order.specs.Entries.{first, second}
 use Rattle.columns.specs.Laying.{roomNumber, LaidList}
 use Rattle.tidy_rows.specs.RowTidying.{tidyRows}
 use Rattle.raw_lists.specs.RawLists.{roomFor}
-use Rattle.process_sm.specs.Sm.{zero}
-use Rattle.by_format.specs.ByFormat.{Lists}
+use Rattle.by_format.specs.ByFormat.{Lists, unmoved}
 use Rattle.assembled_rows.specs.AssembledRows.{narrowedEntry, changeBy, assembledRows}
 use Rattle.assembled_tempos.specs.declared.AssembledTempos.{AssembledTempos}
 
@@ -57,8 +56,8 @@ pub record ThreeLaid (raw later most : ℕ) (lists : Lists) (outcome : Assembled
   pub temposLaid : LaidList (outcome .number) (assembledTempos lists) (outcome .tempos) tempoBeatsOld tempoBeatsNew tempoValuesOld tempoValuesNew
   pub stopsLaid : LaidList (outcome .number) (assembledStops lists) (outcome .stops) stopBeatsOld stopBeatsNew stopValuesOld stopValuesNew
   pub warpsLaid : LaidList (outcome .number) (assembledWarps lists) (outcome .warps) warpBeatsOld warpBeatsNew warpLengthsOld warpLengthsNew
-  pub offsetIs : outcome .offset ≡ pick (eqb (outcome .number) 0) (narrow (lists .offset)) zero
+  pub offsetIs : outcome .offset ≡ pick (eqb (outcome .number) 0) (narrow (lists .offset)) unmoved
 
 -- the outcome of a refusal
 abbrev pub nothingAssembled : ℕ → AssembledTempos
-nothingAssembled number = record { number = number; tempos = 0; stops = 0; warps = 0; offset = zero }
+nothingAssembled number = record { number = number; tempos = 0; stops = 0; warps = 0; offset = unmoved }

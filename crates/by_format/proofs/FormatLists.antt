@@ -18,10 +18,9 @@ use Rattle.tidy_tempos.specs.TempoTidying.{beatZero, sixty}
 use Rattle.raw_lists.specs.declared.Processed.{Processed}
 use Rattle.raw_lists.specs.RawLists.{rawNumber, rawNumbers}
 use Rattle.process_ssc.specs.Ssc.{SscProcessed}
-use Rattle.process_sm.specs.Sm as sm
 use Rattle.by_format.specs.declared.TimingFormat.{TimingFormat}
 use Rattle.by_format.specs.declared.TimingFormat.the-variants.{Sm, Ssc}
-use Rattle.by_format.specs.ByFormat.{noneGiven, tempoBeatsOf, tempoValuesOf, listsBy, processedLists, ListsLaid, ProcessedBy}
+use Rattle.by_format.specs.ByFormat.{unmoved, noneGiven, tempoBeatsOf, tempoValuesOf, listsBy, processedLists, ListsLaid, ProcessedBy}
 
 -- ---- no warps: no number of their own, and nothing written
 
@@ -34,7 +33,7 @@ unfolding laid
 none-laid zero count e beats lengths = list-laid e refl refl
 none-laid (suc n) count e beats lengths = rw e (list-refused (λ z. omega arith))
 
-no-offset : (t : Bool) → sm.zero ≡ pick t sm.zero sm.zero
+no-offset : (t : Bool) → unmoved ≡ pick t unmoved unmoved
 no-offset true = refl
 no-offset false = refl
 

@@ -4,7 +4,8 @@ use mathlib.Core.Bool.{Bool, false}
 use mathlib.Core.List.{List, [], _∷_}
 use lib.Dec.{eqb}
 use lib.ListN.{length}
-use lib.Ieee.{Float}
+use lib.IntN.{pos}
+use lib.Ieee.{Float, fin}
 use Rattle.picks.specs.Pick.{pick}
 use Rattle.tidy_tempos.specs.TempoTidying.{beatZero, sixty}
 use Rattle.raw_lists.specs.declared.Processed.{Processed}
@@ -12,7 +13,7 @@ use Rattle.raw_lists.specs.RawLists.{rawNumbers}
 use Rattle.process_ssc.specs.Ssc as ssc
 use Rattle.sm_changes.specs.SmChanges.{smChanges}
 use Rattle.sm_walk.specs.Chart.{offsetOf}
-use Rattle.process_sm.specs.Sm.{zero, written, tidied, SmLaid}
+use Rattle.process_sm.specs.Sm.{written, tidied, SmLaid}
 use Rattle.by_format.specs.declared.TimingFormat.{TimingFormat}
 use Rattle.by_format.specs.declared.TimingFormat.the-variants.{Sm, Ssc}
 
@@ -35,6 +36,10 @@ pub record Lists : Type 0 where
   pub warps : List (Float × Float)
   pub offset : Float
 
+-- beat 0 stays where it is
+abbrev pub unmoved : Float
+unmoved = fin false 0 (pos 0)
+
 -- SSC makes no warps, and leaves beat 0 where it is
 abbrev pub listsBy : TimingFormat → (tempoBeats tempoValues stopBeats stopValues : List Float) → Lists
 listsBy Sm tempoBeats tempoValues stopBeats stopValues = record {
@@ -47,7 +52,7 @@ listsBy Ssc tempoBeats tempoValues stopBeats stopValues = record {
   tempos = ssc.sscTempos tempoBeats tempoValues;
   stops = ssc.stayed stopBeats stopValues;
   warps = [];
-  offset = zero;
+  offset = unmoved;
 }
 
 unfoldable pub processedLists : TimingFormat → (tempoBeats tempoValues stopBeats stopValues : List Float) → Lists
