@@ -1,21 +1,14 @@
 -- What the walk leaves in its columns is read back from their fronts; and work columns that are long enough have room for it. Assumes nothing.
-use Prim.Native.Nat.{ℕ, _+_, _≤_, max, min}
-use mathlib.Core.Path.{_≡_, refl, sym, ap, _∙_}
+use mathlib.Core.Path.{_≡_}
 use mathlib.Core.List.{List, map}
-use mathlib.Core.Logic.{⊎-elim}
 use native.Mathlib.Omega.{arith}
 use native.Mathlib.Nat.{le-max-left, le-max-right, max-le, min-le-left, min-le-right}
-use lib.ListN.{length, take, length-map}
+use lib.ListN.{length}
 use lib.Ieee.{Float}
-use Rattle.order.specs.Order.{laid}
 use Rattle.order.specs.Entries.{first, second}
-use Rattle.order.proofs.Compare.{same?}
-use Rattle.order.proofs.LaidOverFront.{laid-length}
-use Rattle.columns.specs.Laying.{given, roomNumber, LaidList}
-use Rattle.columns.proofs.Rooms.{number-of-tests, number-taken}
+use Rattle.columns.specs.Laying.{given}
 use Rattle.raw_lists.specs.RawLists.{rawNumbers}
 use Rattle.raw_lists.proofs.BothTaken.{both-taken}
-use Rattle.raw_lists.proofs.FrontRead.{front-read}
 use Rattle.sm_changes.specs.SmChanges.{smChanges}
 use Rattle.sm_walk.specs.declared.Walked.{Walked}
 use Rattle.sm_walk.specs.Chart.{processed, offsetOf}
@@ -25,36 +18,9 @@ use Rattle.sm_walk.specs.Inside.{Room}
 use Rattle.sm_walk.proofs.Lengths.{Bounded}
 use Rattle.process_sm.specs.Inside.{WorkRooms}
 use Rattle.sm_bounds.proofs.ChangesTaken.{few-changes}
+use Rattle.sm_raw.proofs.Fronts.{Front, front}
 
--- a room that is long enough adds no refusal
-pub number-given : (n count room : ℕ) → (n ≡ 0 → count ≤ room) → roomNumber n count room ≡ n
-number-given n count room fits = ⊎-elim (λ z. sym (number-taken n count room z (fits z)) ∙ sym z) (λ h. sym (number-of-tests n count room h)) (same? n 0)
-
--- a column with so much of a list laid over its front
-pub record Front (count : ℕ) (column : List Float) (is : List Float) : Type 0 where
-  pub inside : count ≤ length column
-  pub read : take count column ≡ is
-
-pub front : (field : Float × Float → Float) (list : List (Float × Float)) (old : List Float) {new : List Float} {count : ℕ} → length list ≤ length old → count ≡ length list → new ≡ laid (map field list) old → Front count new (map field list)
-front field list old {new} {count} room c e =
-    let fits : length (map field list) ≤ length old = simp length-map room in
-    record {
-      inside = omega (arith, c, room, ap length e ∙ laid-length (map field list) old fits);
-      read = ap (take count) e ∙ front-read (map field list) old count (c ∙ sym (length-map list field));
-    }
-
--- of a list that a call has laid
-module _ {number : ℕ} {result : List (Float × Float)} {count : ℕ} {firstOld firstNew secondOld secondNew : List Float} (p : LaidList number result count firstOld firstNew secondOld secondNew) (taken : number ≡ 0)
-    (room : length result ≤ min (length firstOld) (length secondOld)) where
-  pub first-front : Front count firstNew (map first result)
-  unfolding given
-  first-front = front first result firstOld (omega arith) (rw taken at (p .counted)) (rw taken at (p .firstIs))
-
-  pub second-front : Front count secondNew (map second result)
-  unfolding given
-  second-front = front second result secondOld (omega arith) (rw taken at (p .counted)) (rw taken at (p .secondIs))
-
--- of the walk
+-- what the walk has laid
 pub record Fronts (tempos stops : List (Float × Float)) (outcome : Walked) (new : Columns) : Type 0 where
   pub tempoBeats : Front (outcome .tempos) (new .tempoBeats) (map first (processed tempos stops .tempos))
   pub tempoValues : Front (outcome .tempos) (new .tempoValues) (map second (processed tempos stops .tempos))
@@ -80,9 +46,9 @@ walked-fronts {tempos} {stops} {outcome} {old} {new} w b r =
     }
 
 -- room for the walk
-pub room-for : (tb tv sb sv : List Float) {ctb ctv csb csv wtb wtv wsb wsv wwb wwl : List Float} → WorkRooms tb tv sb sv ctb ctv csb csv wtb wtv wsb wsv wwb wwl → rawNumbers tb tv sb sv ≡ 0
+pub room-for : (tb tv sb sv : List Float) {wtb wtv wsb wsv wwb wwl : List Float} → WorkRooms tb tv sb sv wtb wtv wsb wsv wwb wwl → rawNumbers tb tv sb sv ≡ 0
     → Room (most (length (smChanges tb tv)) (length (smChanges sb sv))) (columns wtb wtv wsb wsv wwb wwl)
-room-for tb tv sb sv {ctb} {ctv} {csb} {csv} {wtb} {wtv} {wsb} {wsv} {wwb} {wwl} w h =
+room-for tb tv sb sv {wtb} {wtv} {wsb} {wsv} {wwb} {wwl} w h =
     let both = both-taken h in
     let t = few-changes tb tv (both .tempos) in
     let s = few-changes sb sv (both .stops) in

@@ -1,8 +1,7 @@
 // SM: the processing of raw tempos and stops.
 use raw_lists::Processed;
-use sm_walk::Walked;
 ghost use mathlib.Core.Path.{_≡_};
-ghost use Prim.Native.Nat.{_≤_, min};
+ghost use Prim.Native.Nat.{_≤_};
 ghost use lib.ListN.{length};
 ghost use Rattle.limits.specs.declared.Kind.the-variants.{Beat, TidyTempo};
 ghost use Rattle.limits.specs.Numbers.{rangeOf};
@@ -10,10 +9,6 @@ ghost use Rattle.limits.specs.Refusals.{listNumber};
 ghost use Rattle.order.specs.Order.{laid};
 ghost use Rattle.order.specs.Entries.{entries};
 ghost use Rattle.tidy_tempos.specs.TempoTidying.{tidyTempos};
-ghost use Rattle.raw_lists.specs.RawLists.{rawNumbers};
-ghost use Rattle.sm_changes.specs.SmChanges.{smChanges};
-ghost use Rattle.sm_walk.specs.Columns.{columns};
-ghost use Rattle.sm_walk.specs.Walking.{WalkLaid};
 ghost use Rattle.process_sm.specs.Sm.{SmLaid, SmProcessed};
 ghost use Rattle.process_sm.specs.Inside.{WorkRooms};
 
@@ -80,73 +75,11 @@ fn lay_results(
 
 // ---- by way of work columns
 
-// Both lists as changes, and what the walk makes of them.
-fn walk_raw(
-    tempo_beats: &[f64],
-    tempo_values: &[f64],
-    stop_beats: &[f64],
-    stop_values: &[f64],
-    change_tempo_beats: &mut [f32],
-    change_tempo_values: &mut [f32],
-    change_stop_beats: &mut [f32],
-    change_stop_values: &mut [f32],
-    walked_tempo_beats: &mut [f64],
-    walked_tempo_values: &mut [f64],
-    walked_stop_beats: &mut [f64],
-    walked_stop_values: &mut [f64],
-    walked_warp_beats: &mut [f64],
-    walked_warp_lengths: &mut [f64],
-) -> Walked
-    requires { ⌜ WorkRooms (now «tempo_beats») (now «tempo_values») (now «stop_beats») (now «stop_values») (now «change_tempo_beats») (now «change_tempo_values») (now «change_stop_beats») (now «change_stop_values») (now «walked_tempo_beats») (now «walked_tempo_values») (now «walked_stop_beats») (now «walked_stop_values») (now «walked_warp_beats») (now «walked_warp_lengths») ⌝ }
-    ensures { λ r. ⌜ WalkLaid (smChanges (now («tempo_beats» .entry)) (now («tempo_values» .entry))) (smChanges (now («stop_beats» .entry)) (now («stop_values» .entry))) (rawNumbers (now («tempo_beats» .entry)) (now («tempo_values» .entry)) (now («stop_beats» .entry)) (now («stop_values» .entry))) r (columns (now («walked_tempo_beats» .entry)) (now («walked_tempo_values» .entry)) (now («walked_stop_beats» .entry)) (now («walked_stop_values» .entry)) (now («walked_warp_beats» .entry)) (now («walked_warp_lengths» .entry))) (columns (now («walked_tempo_beats» .exit)) (now («walked_tempo_values» .exit)) (now («walked_stop_beats» .exit)) (now («walked_stop_values» .exit)) (now («walked_warp_beats» .exit)) (now («walked_warp_lengths» .exit))) ⌝ }
-{
-    let tempos = sm_changes::sm_changes(
-        tempo_beats,
-        tempo_values,
-        change_tempo_beats,
-        change_tempo_values,
-    );
-    let stops = sm_changes::sm_changes(
-        stop_beats,
-        stop_values,
-        change_stop_beats,
-        change_stop_values,
-    );
-    let number = limits::lower_of(tempos.number, stops.number);
-    if number != 0 {
-        return Walked {
-            number: number,
-            tempos: 0,
-            stops: 0,
-            warps: 0,
-            offset: 0.0,
-        };
-    }
-    let tempo_count = tempos.count;
-    let stop_count = stops.count;
-    sm_walk::walk_changes(
-        &change_tempo_beats[..tempo_count],
-        &change_tempo_values[..tempo_count],
-        &change_stop_beats[..stop_count],
-        &change_stop_values[..stop_count],
-        walked_tempo_beats,
-        walked_tempo_values,
-        walked_stop_beats,
-        walked_stop_values,
-        walked_warp_beats,
-        walked_warp_lengths,
-    )
-}
-
 fn process_in(
     tempo_beats: &[f64],
     tempo_values: &[f64],
     stop_beats: &[f64],
     stop_values: &[f64],
-    change_tempo_beats: &mut [f32],
-    change_tempo_values: &mut [f32],
-    change_stop_beats: &mut [f32],
-    change_stop_values: &mut [f32],
     walked_tempo_beats: &mut [f64],
     walked_tempo_values: &mut [f64],
     walked_stop_beats: &mut [f64],
@@ -160,18 +93,14 @@ fn process_in(
     out_warp_beats: &mut [f64],
     out_warp_lengths: &mut [f64],
 ) -> Processed
-    requires { ⌜ WorkRooms (now «tempo_beats») (now «tempo_values») (now «stop_beats») (now «stop_values») (now «change_tempo_beats») (now «change_tempo_values») (now «change_stop_beats») (now «change_stop_values») (now «walked_tempo_beats») (now «walked_tempo_values») (now «walked_stop_beats») (now «walked_stop_values») (now «walked_warp_beats») (now «walked_warp_lengths») ⌝ }
+    requires { ⌜ WorkRooms (now «tempo_beats») (now «tempo_values») (now «stop_beats») (now «stop_values») (now «walked_tempo_beats») (now «walked_tempo_values») (now «walked_stop_beats») (now «walked_stop_values») (now «walked_warp_beats») (now «walked_warp_lengths») ⌝ }
     ensures { λ r. ⌜ SmProcessed (now («tempo_beats» .entry)) (now («tempo_values» .entry)) (now («stop_beats» .entry)) (now («stop_values» .entry)) r (now («out_tempo_beats» .entry)) (now («out_tempo_beats» .exit)) (now («out_tempo_values» .entry)) (now («out_tempo_values» .exit)) (now («out_stop_beats» .entry)) (now («out_stop_beats» .exit)) (now («out_stop_values» .entry)) (now («out_stop_values» .exit)) (now («out_warp_beats» .entry)) (now («out_warp_beats» .exit)) (now («out_warp_lengths» .entry)) (now («out_warp_lengths» .exit)) ⌝ }
 {
-    let walked = walk_raw(
+    let walked = sm_raw::walk_raw(
         tempo_beats,
         tempo_values,
         stop_beats,
         stop_values,
-        change_tempo_beats,
-        change_tempo_values,
-        change_stop_beats,
-        change_stop_values,
         walked_tempo_beats,
         walked_tempo_values,
         walked_stop_beats,
@@ -218,10 +147,6 @@ fn process_few(
     requires { ⌜ (length (now «tempo_beats») ≤ 64) × (length (now «stop_beats») ≤ 64) ⌝ }
     ensures { λ r. ⌜ SmProcessed (now («tempo_beats» .entry)) (now («tempo_values» .entry)) (now («stop_beats» .entry)) (now («stop_values» .entry)) r (now («out_tempo_beats» .entry)) (now («out_tempo_beats» .exit)) (now («out_tempo_values» .entry)) (now («out_tempo_values» .exit)) (now («out_stop_beats» .entry)) (now («out_stop_beats» .exit)) (now («out_stop_values» .entry)) (now («out_stop_values» .exit)) (now («out_warp_beats» .entry)) (now («out_warp_beats» .exit)) (now («out_warp_lengths» .entry)) (now («out_warp_lengths» .exit)) ⌝ }
 {
-    let mut change_tempo_beats = [0.0f32; 64];
-    let mut change_tempo_values = [0.0f32; 64];
-    let mut change_stop_beats = [0.0f32; 64];
-    let mut change_stop_values = [0.0f32; 64];
     let mut walked_tempo_beats = [0.0; 64];
     let mut walked_tempo_values = [0.0; 64];
     let mut walked_stop_beats = [0.0; 64];
@@ -233,59 +158,6 @@ fn process_few(
         tempo_values,
         stop_beats,
         stop_values,
-        &mut change_tempo_beats,
-        &mut change_tempo_values,
-        &mut change_stop_beats,
-        &mut change_stop_values,
-        &mut walked_tempo_beats,
-        &mut walked_tempo_values,
-        &mut walked_stop_beats,
-        &mut walked_stop_values,
-        &mut walked_warp_beats,
-        &mut walked_warp_lengths,
-        out_tempo_beats,
-        out_tempo_values,
-        out_stop_beats,
-        out_stop_values,
-        out_warp_beats,
-        out_warp_lengths,
-    )
-}
-
-// Columns for as many as are taken.
-fn process_many(
-    tempo_beats: &[f64],
-    tempo_values: &[f64],
-    stop_beats: &[f64],
-    stop_values: &[f64],
-    out_tempo_beats: &mut [f64],
-    out_tempo_values: &mut [f64],
-    out_stop_beats: &mut [f64],
-    out_stop_values: &mut [f64],
-    out_warp_beats: &mut [f64],
-    out_warp_lengths: &mut [f64],
-) -> Processed
-    ensures { λ r. ⌜ SmProcessed (now («tempo_beats» .entry)) (now («tempo_values» .entry)) (now («stop_beats» .entry)) (now («stop_values» .entry)) r (now («out_tempo_beats» .entry)) (now («out_tempo_beats» .exit)) (now («out_tempo_values» .entry)) (now («out_tempo_values» .exit)) (now («out_stop_beats» .entry)) (now («out_stop_beats» .exit)) (now («out_stop_values» .entry)) (now («out_stop_values» .exit)) (now («out_warp_beats» .entry)) (now («out_warp_beats» .exit)) (now («out_warp_lengths» .entry)) (now («out_warp_lengths» .exit)) ⌝ }
-{
-    let mut change_tempo_beats = [0.0f32; 1024];
-    let mut change_tempo_values = [0.0f32; 1024];
-    let mut change_stop_beats = [0.0f32; 1024];
-    let mut change_stop_values = [0.0f32; 1024];
-    let mut walked_tempo_beats = [0.0; 1024];
-    let mut walked_tempo_values = [0.0; 1024];
-    let mut walked_stop_beats = [0.0; 1024];
-    let mut walked_stop_values = [0.0; 1024];
-    let mut walked_warp_beats = [0.0; 2048];
-    let mut walked_warp_lengths = [0.0; 2048];
-    process_in(
-        tempo_beats,
-        tempo_values,
-        stop_beats,
-        stop_values,
-        &mut change_tempo_beats,
-        &mut change_tempo_values,
-        &mut change_stop_beats,
-        &mut change_stop_values,
         &mut walked_tempo_beats,
         &mut walked_tempo_values,
         &mut walked_stop_beats,
@@ -335,11 +207,24 @@ pub fn process_bpms_and_stops_sm(
             );
         }
     }
-    process_many(
+    // as many as are taken
+    let mut walked_tempo_beats = [0.0; 1024];
+    let mut walked_tempo_values = [0.0; 1024];
+    let mut walked_stop_beats = [0.0; 1024];
+    let mut walked_stop_values = [0.0; 1024];
+    let mut walked_warp_beats = [0.0; 2048];
+    let mut walked_warp_lengths = [0.0; 2048];
+    process_in(
         tempo_beats,
         tempo_values,
         stop_beats,
         stop_values,
+        &mut walked_tempo_beats,
+        &mut walked_tempo_values,
+        &mut walked_stop_beats,
+        &mut walked_stop_values,
+        &mut walked_warp_beats,
+        &mut walked_warp_lengths,
         out_tempo_beats,
         out_tempo_values,
         out_stop_beats,

@@ -1,40 +1,65 @@
 -- `process_sm::process_in` has both lists walked, and lays what the walk writes. Assumes nothing.
-use Prim.Native.Nat.{ℕ, _≤_, min}
-use mathlib.Core.Path.{_≡_, refl, sym, ap, _∙_}
-use mathlib.Core.List.{List, map}
-use native.Mathlib.Omega.{arith}
-use lib.ListN.{length, take}
+use mathlib.Core.Path.{_≡_, sym, ap, _∙_}
+use Prim.Native.Nat.{ℕ}
+use mathlib.Core.List.{List}
+use lib.ListN.{length}
 use lib.Seq.{length-take-le}
-use lib.Ieee.{Float, ofBits}
-use Rattle.order.specs.Entries.{entries, first, second}
-use Rattle.order.proofs.Columns.{entries-columns}
-use Rattle.limits.specs.Refusals.{lower}
-use Rattle.raw_lists.specs.RawLists.{rawNumber, rawNumbers, processedNothing}
-use Rattle.raw_lists.proofs.BothTaken.{BothTaken, both-taken}
+use lib.Ieee.{Float}
+use Rattle.raw_lists.specs.RawLists.{rawNumbers, processedNothing}
+use Rattle.raw_lists.proofs.BothTaken.{both-taken}
 use Rattle.sm_changes.specs.SmChanges.{smChanges}
 use Rattle.sm_walk.specs.Chart.{processed}
-use Rattle.sm_walk.specs.Columns.{columns, most}
+use Rattle.sm_walk.specs.Columns.{Columns, columns, most}
 use Rattle.sm_walk.specs.Inside.{Room}
-use Rattle.sm_walk.proofs.Outcomes.{refused-laid}
 use Rattle.sm_bounds.proofs.ChangesTaken.{few-written, same-columns}
 use Rattle.sm_bounds.proofs.AssemblyTakes.{sm-tempos-tidied}
-use Rattle.process_sm.proofs.WalkedColumns.{number-given, Front, first-front, second-front, Fronts, walked-fronts, room-for}
+use Rattle.sm_raw.proofs.Numbers.{number-with-room}
+use Rattle.process_sm.proofs.WalkedColumns.{Fronts, walked-fronts, room-for}
 use Rattle.process_sm.proofs.Ends.{by-tests, as-read}
 use borrow.Author.Needs.{needs}
 use Rattle.process_sm.proofs.process_in.Statement.{statement}
 use Rattle.process_sm.proofs.process_in.Tie as tie
 
-passed : (c : tie.Else1) → rawNumbers (c .before .before .before .before .before .before .before .before .before .before .before .before .before .before .before .before .before .before .before .before .before .before .before .before .before .before .before .before .before .before .before .before .before .before .before .before .before .before .before .before .before .before .before .before .before .before .before .before .before .before .before .before .before .args .tempo-beats .now) (c .before .before .before .before .before .before .before .before .before .before .before .before .before .before .before .before .before .before .before .before .before .before .before .before .before .before .before .before .before .before .before .before .before .before .before .before .before .before .before .before .before .before .before .before .before .before .before .before .before .before .before .before .before .args .tempo-values .now) (c .before .before .before .before .before .before .before .before .before .before .before .before .before .before .before .before .before .before .before .before .before .before .before .before .before .before .before .before .before .before .before .before .before .before .before .before .before .before .before .before .before .before .before .before .before .before .before .before .before .before .before .before .before .args .stop-beats .now) (c .before .before .before .before .before .before .before .before .before .before .before .before .before .before .before .before .before .before .before .before .before .before .before .before .before .before .before .before .before .before .before .before .before .before .before .before .before .before .before .before .before .before .before .before .before .before .before .before .before .before .before .before .before .args .stop-values .now) ≡ 0
-passed c = sym (c .before .before .before .before .before .before .before .before .before .before .before .before .before .before .before .before .before .before .before .before .before .before .walk-raw .ensures .number) ∙ c .if1 .left
+-- ---- the given lists, and where the walk has left its columns
+abbrev entered : tie.After-walk-raw → tie.Start
+entered c = c .before .before .before .before .before .before .before .before .before .before .before .before .before .before .before .before .before .before .before .before .before .before .before
 
-both : (c : tie.Else1) → BothTaken (c .before .before .before .before .before .before .before .before .before .before .before .before .before .before .before .before .before .before .before .before .before .before .before .before .before .before .before .before .before .before .before .before .before .before .before .before .before .before .before .before .before .before .before .before .before .before .before .before .before .before .before .before .before .args .tempo-beats .now) (c .before .before .before .before .before .before .before .before .before .before .before .before .before .before .before .before .before .before .before .before .before .before .before .before .before .before .before .before .before .before .before .before .before .before .before .before .before .before .before .before .before .before .before .before .before .before .before .before .before .before .before .before .before .args .tempo-values .now) (c .before .before .before .before .before .before .before .before .before .before .before .before .before .before .before .before .before .before .before .before .before .before .before .before .before .before .before .before .before .before .before .before .before .before .before .before .before .before .before .before .before .before .before .before .before .before .before .before .before .before .before .before .before .args .stop-beats .now) (c .before .before .before .before .before .before .before .before .before .before .before .before .before .before .before .before .before .before .before .before .before .before .before .before .before .before .before .before .before .before .before .before .before .before .before .before .before .before .before .before .before .before .before .before .before .before .before .before .before .before .before .before .before .args .stop-values .now)
-both c = both-taken (passed c)
+abbrev tempos : tie.Start → List (Float × Float)
+tempos c = smChanges (c .args .tempo-beats .now) (c .args .tempo-values .now)
 
-room : (c : tie.Else1) → Room (most (length (smChanges (c .before .before .before .before .before .before .before .before .before .before .before .before .before .before .before .before .before .before .before .before .before .before .before .before .before .before .before .before .before .before .before .before .before .before .before .before .before .before .before .before .before .before .before .before .before .before .before .before .before .before .before .before .before .args .tempo-beats .now) (c .before .before .before .before .before .before .before .before .before .before .before .before .before .before .before .before .before .before .before .before .before .before .before .before .before .before .before .before .before .before .before .before .before .before .before .before .before .before .before .before .before .before .before .before .before .before .before .before .before .before .before .before .before .args .tempo-values .now))) (length (smChanges (c .before .before .before .before .before .before .before .before .before .before .before .before .before .before .before .before .before .before .before .before .before .before .before .before .before .before .before .before .before .before .before .before .before .before .before .before .before .before .before .before .before .before .before .before .before .before .before .before .before .before .before .before .before .args .stop-beats .now) (c .before .before .before .before .before .before .before .before .before .before .before .before .before .before .before .before .before .before .before .before .before .before .before .before .before .before .before .before .before .before .before .before .before .before .before .before .before .before .before .before .before .before .before .before .before .before .before .before .before .before .before .before .before .args .stop-values .now)))) (columns (c .before .before .before .before .before .before .before .before .before .before .before .before .before .before .before .before .before .before .before .before .before .before .before .before .before .before .before .before .before .before .before .before .before .before .before .before .before .before .before .before .before .before .before .before .before .before .before .before .before .before .before .before .before .args .walked-tempo-beats .now) (c .before .before .before .before .before .before .before .before .before .before .before .before .before .before .before .before .before .before .before .before .before .before .before .before .before .before .before .before .before .before .before .before .before .before .before .before .before .before .before .before .before .before .before .before .before .before .before .before .before .before .before .before .before .args .walked-tempo-values .now) (c .before .before .before .before .before .before .before .before .before .before .before .before .before .before .before .before .before .before .before .before .before .before .before .before .before .before .before .before .before .before .before .before .before .before .before .before .before .before .before .before .before .before .before .before .before .before .before .before .before .before .before .before .before .args .walked-stop-beats .now) (c .before .before .before .before .before .before .before .before .before .before .before .before .before .before .before .before .before .before .before .before .before .before .before .before .before .before .before .before .before .before .before .before .before .before .before .before .before .before .before .before .before .before .before .before .before .before .before .before .before .before .before .before .before .args .walked-stop-values .now) (c .before .before .before .before .before .before .before .before .before .before .before .before .before .before .before .before .before .before .before .before .before .before .before .before .before .before .before .before .before .before .before .before .before .before .before .before .before .before .before .before .before .before .before .before .before .before .before .before .before .before .before .before .before .args .walked-warp-beats .now) (c .before .before .before .before .before .before .before .before .before .before .before .before .before .before .before .before .before .before .before .before .before .before .before .before .before .before .before .before .before .before .before .before .before .before .before .before .before .before .before .before .before .before .before .before .before .before .before .before .before .before .before .before .before .args .walked-warp-lengths .now))
-room c = room-for (c .before .before .before .before .before .before .before .before .before .before .before .before .before .before .before .before .before .before .before .before .before .before .before .before .before .before .before .before .before .before .before .before .before .before .before .before .before .before .before .before .before .before .before .before .before .before .before .before .before .before .before .before .before .args .tempo-beats .now) (c .before .before .before .before .before .before .before .before .before .before .before .before .before .before .before .before .before .before .before .before .before .before .before .before .before .before .before .before .before .before .before .before .before .before .before .before .before .before .before .before .before .before .before .before .before .before .before .before .before .before .before .before .before .args .tempo-values .now) (c .before .before .before .before .before .before .before .before .before .before .before .before .before .before .before .before .before .before .before .before .before .before .before .before .before .before .before .before .before .before .before .before .before .before .before .before .before .before .before .before .before .before .before .before .before .before .before .before .before .before .before .before .before .args .stop-beats .now) (c .before .before .before .before .before .before .before .before .before .before .before .before .before .before .before .before .before .before .before .before .before .before .before .before .before .before .before .before .before .before .before .before .before .before .before .before .before .before .before .before .before .before .before .before .before .before .before .before .before .before .before .before .before .args .stop-values .now) (c .before .before .before .before .before .before .before .before .before .before .before .before .before .before .before .before .before .before .before .before .before .before .before .before .before .before .before .before .before .before .before .before .before .before .before .before .before .before .before .before .before .before .before .before .before .before .before .before .before .before .before .before .before .pre) (passed c)
+abbrev stops : tie.Start → List (Float × Float)
+stops c = smChanges (c .args .stop-beats .now) (c .args .stop-values .now)
 
-fronts : (c : tie.Else1) → Fronts (smChanges (c .before .before .before .before .before .before .before .before .before .before .before .before .before .before .before .before .before .before .before .before .before .before .before .before .before .before .before .before .before .before .before .before .before .before .before .before .before .before .before .before .before .before .before .before .before .before .before .before .before .before .before .before .before .args .tempo-beats .now) (c .before .before .before .before .before .before .before .before .before .before .before .before .before .before .before .before .before .before .before .before .before .before .before .before .before .before .before .before .before .before .before .before .before .before .before .before .before .before .before .before .before .before .before .before .before .before .before .before .before .before .before .before .before .args .tempo-values .now)) (smChanges (c .before .before .before .before .before .before .before .before .before .before .before .before .before .before .before .before .before .before .before .before .before .before .before .before .before .before .before .before .before .before .before .before .before .before .before .before .before .before .before .before .before .before .before .before .before .before .before .before .before .before .before .before .before .args .stop-beats .now) (c .before .before .before .before .before .before .before .before .before .before .before .before .before .before .before .before .before .before .before .before .before .before .before .before .before .before .before .before .before .before .before .before .before .before .before .before .before .before .before .before .before .before .before .before .before .before .before .before .before .before .before .before .before .args .stop-values .now)) (c .before .before .before .before .before .before .before .before .before .before .before .before .before .before .before .before .before .before .before .before .before .before .walk-raw .result) (columns (c .before .before .before .before .before .before .before .before .before .before .before .before .before .before .before .before .before .before .before .before .before .before .walk-raw .last .1 .1 .1 .1 .1 .1 .1 .1 .0) (c .before .before .before .before .before .before .before .before .before .before .before .before .before .before .before .before .before .before .before .before .before .before .walk-raw .last .1 .1 .1 .1 .1 .1 .1 .1 .1 .0) (c .before .before .before .before .before .before .before .before .before .before .before .before .before .before .before .before .before .before .before .before .before .before .walk-raw .last .1 .1 .1 .1 .1 .1 .1 .1 .1 .1 .0) (c .before .before .before .before .before .before .before .before .before .before .before .before .before .before .before .before .before .before .before .before .before .before .walk-raw .last .1 .1 .1 .1 .1 .1 .1 .1 .1 .1 .1 .0) (c .before .before .before .before .before .before .before .before .before .before .before .before .before .before .before .before .before .before .before .before .before .before .walk-raw .last .1 .1 .1 .1 .1 .1 .1 .1 .1 .1 .1 .1 .0) (c .before .before .before .before .before .before .before .before .before .before .before .before .before .before .before .before .before .before .before .before .before .before .walk-raw .last .1 .1 .1 .1 .1 .1 .1 .1 .1 .1 .1 .1 .1 .0))
-fronts c = walked-fronts (rw (passed c) at (c .before .before .before .before .before .before .before .before .before .before .before .before .before .before .before .before .before .before .before .before .before .before .walk-raw .ensures)) (few-written (c .before .before .before .before .before .before .before .before .before .before .before .before .before .before .before .before .before .before .before .before .before .before .before .before .before .before .before .before .before .before .before .before .before .before .before .before .before .before .before .before .before .before .before .before .before .before .before .before .before .before .before .before .before .args .tempo-beats .now) (c .before .before .before .before .before .before .before .before .before .before .before .before .before .before .before .before .before .before .before .before .before .before .before .before .before .before .before .before .before .before .before .before .before .before .before .before .before .before .before .before .before .before .before .before .before .before .before .before .before .before .before .before .before .args .tempo-values .now) (c .before .before .before .before .before .before .before .before .before .before .before .before .before .before .before .before .before .before .before .before .before .before .before .before .before .before .before .before .before .before .before .before .before .before .before .before .before .before .before .before .before .before .before .before .before .before .before .before .before .before .before .before .before .args .stop-beats .now) (c .before .before .before .before .before .before .before .before .before .before .before .before .before .before .before .before .before .before .before .before .before .before .before .before .before .before .before .before .before .before .before .before .before .before .before .before .before .before .before .before .before .before .before .before .before .before .before .before .before .before .before .before .before .args .stop-values .now) (both c .tempos) (both c .stops)) (room c)
+abbrev numbered : tie.Start → ℕ
+numbered c = rawNumbers (c .args .tempo-beats .now) (c .args .tempo-values .now) (c .args .stop-beats .now) (c .args .stop-values .now)
+
+abbrev lent : tie.Start → Columns
+lent c = columns (c .args .walked-tempo-beats .now) (c .args .walked-tempo-values .now) (c .args .walked-stop-beats .now) (c .args .walked-stop-values .now) (c .args .walked-warp-beats .now) (c .args .walked-warp-lengths .now)
+
+abbrev left : tie.After-walk-raw → Columns
+left c = columns (c .walk-raw .last .1 .1 .1 .1 .0) (c .walk-raw .last .1 .1 .1 .1 .1 .0) (c .walk-raw .last .1 .1 .1 .1 .1 .1 .0) (c .walk-raw .last .1 .1 .1 .1 .1 .1 .1 .0) (c .walk-raw .last .1 .1 .1 .1 .1 .1 .1 .1 .0) (c .walk-raw .last .1 .1 .1 .1 .1 .1 .1 .1 .1 .0)
+
+abbrev walked : tie.Else1 → tie.After-walk-raw
+walked c = c .before .before .before .before .before .before .before .before .before .before .before .before .before .before
+
+-- the walk's room is enough
+room : (c : tie.Start) → numbered c ≡ 0 → Room (most (length (tempos c)) (length (stops c))) (lent c)
+room c h = room-for (c .args .tempo-beats .now) (c .args .tempo-values .now) (c .args .stop-beats .now) (c .args .stop-values .now) (c .pre) h
+
+number : (c : tie.After-walk-raw) → c .walk-raw .result .number ≡ numbered (entered c)
+number c =
+    let s = entered c in
+    c .walk-raw .ensures .number ∙ number-with-room (s .args .tempo-beats .now) (s .args .tempo-values .now) (s .args .stop-beats .now) (s .args .stop-values .now) (lent s) (room s)
+
+passed : (c : tie.Else1) → numbered (entered (walked c)) ≡ 0
+passed c = sym (number (walked c)) ∙ c .if1 .left
+
+fronts : (c : tie.Else1) → Fronts (tempos (entered (walked c))) (stops (entered (walked c))) (walked c .walk-raw .result) (left (walked c))
+fronts c =
+    let s = entered (walked c) in
+    let both = both-taken (passed c) in
+    walked-fronts (rw (number-with-room (s .args .tempo-beats .now) (s .args .tempo-values .now) (s .args .stop-beats .now) (s .args .stop-values .now) (lent s) (room s), passed c) at (walked c .walk-raw .ensures))
+    (few-written (s .args .tempo-beats .now) (s .args .tempo-values .now) (s .args .stop-beats .now) (s .args .stop-values .now) (both .tempos) (both .stops)) (room s (passed c))
 
 walk-raw-requires : tie.Need-walk-raw-requires
 walk-raw-requires c κs = search needs
@@ -60,20 +85,8 @@ same-length-5 c = search needs
 same-length-6 : tie.Need-same-length-6
 same-length-6 c = search needs
 
-same-length-7 : tie.Need-same-length-7
-same-length-7 c = search needs
-
-same-length-8 : tie.Need-same-length-8
-same-length-8 c = search needs
-
-same-length-9 : tie.Need-same-length-9
-same-length-9 c = search needs
-
-same-length-10 : tie.Need-same-length-10
-same-length-10 c = search needs
-
 returns : tie.Need-returns
-returns c = rw (c .refused .ensures ∙ ap processedNothing (c .before .before .before .before .before .before .before .before .before .before .before .before .before .before .before .before .before .before .before .before .before .before .before .walk-raw .ensures .number)) (by-tests (λ e. c .before .if1 .taken (c .before .before .before .before .before .before .before .before .before .before .before .before .before .before .before .before .before .before .before .before .before .before .before .walk-raw .ensures .number ∙ e)))
+returns c = let w = c .before .before .before .before .before .before .before .before .before .before .before .before .before .before .before in rw (c .refused .ensures ∙ ap processedNothing (number w)) (by-tests (λ e. c .before .if1 .taken (number w ∙ e)))
 
 slice-reshare-prefix-lay-results : tie.Need-slice-reshare-prefix-lay-results
 slice-reshare-prefix-lay-results c = fronts (c) .tempoBeats .inside
@@ -116,62 +129,57 @@ f32-to-f64-with-nan-requires c κs = search needs
 
 lay-results-requires : tie.Need-lay-results-requires
 lay-results-requires c κs =
-    let f = fronts (c .before .before .before .before .before .before .before .before .before .before .before .before .before) in
-    let out = processed (smChanges (c .before .before .before .before .before .before .before .before .before .before .before .before .before .before .before .before .before .before .before .before .before .before .before .before .before .before .before .before .before .before .before .before .before .before .before .before .before .before .before .before .before .before .before .before .before .before .before .before .before .before .before .before .before .before .before .before .before .before .before .before .before .before .before .before .before .before .args .tempo-beats .now) (c .before .before .before .before .before .before .before .before .before .before .before .before .before .before .before .before .before .before .before .before .before .before .before .before .before .before .before .before .before .before .before .before .before .before .before .before .before .before .before .before .before .before .before .before .before .before .before .before .before .before .before .before .before .before .before .before .before .before .before .before .before .before .before .before .before .before .args .tempo-values .now)) (smChanges (c .before .before .before .before .before .before .before .before .before .before .before .before .before .before .before .before .before .before .before .before .before .before .before .before .before .before .before .before .before .before .before .before .before .before .before .before .before .before .before .before .before .before .before .before .before .before .before .before .before .before .before .before .before .before .before .before .before .before .before .before .before .before .before .before .before .before .args .stop-beats .now) (c .before .before .before .before .before .before .before .before .before .before .before .before .before .before .before .before .before .before .before .before .before .before .before .before .before .before .before .before .before .before .before .before .before .before .before .before .before .before .before .before .before .before .before .before .before .before .before .before .before .before .before .before .before .before .before .before .before .before .before .before .before .before .before .before .before .before .args .stop-values .now)) in
-    (rw (f .tempoBeats .read, f .tempoValues .read) (sm-tempos-tidied (c .before .before .before .before .before .before .before .before .before .before .before .before .before .before .before .before .before .before .before .before .before .before .before .before .before .before .before .before .before .before .before .before .before .before .before .before .before .before .before .before .before .before .before .before .before .before .before .before .before .before .before .before .before .before .before .before .before .before .before .before .before .before .before .before .before .before .args .tempo-beats .now) (c .before .before .before .before .before .before .before .before .before .before .before .before .before .before .before .before .before .before .before .before .before .before .before .before .before .before .before .before .before .before .before .before .before .before .before .before .before .before .before .before .before .before .before .before .before .before .before .before .before .before .before .before .before .before .before .before .before .before .before .before .before .before .before .before .before .before .args .tempo-values .now) (c .before .before .before .before .before .before .before .before .before .before .before .before .before .before .before .before .before .before .before .before .before .before .before .before .before .before .before .before .before .before .before .before .before .before .before .before .before .before .before .before .before .before .before .before .before .before .before .before .before .before .before .before .before .before .before .before .before .before .before .before .before .before .before .before .before .before .args .stop-beats .now) (c .before .before .before .before .before .before .before .before .before .before .before .before .before .before .before .before .before .before .before .before .before .before .before .before .before .before .before .before .before .before .before .before .before .before .before .before .before .before .before .before .before .before .before .before .before .before .before .before .before .before .before .before .before .before .before .before .before .before .before .before .before .before .before .before .before .before .args .stop-values .now) (passed (c .before .before .before .before .before .before .before .before .before .before .before .before .before))), (rw (f .stopBeats .read, f .stopValues .read) (same-columns (out .stops)), rw (f .warpBeats .read, f .warpLengths .read) (same-columns (out .warps))))
+    let e = c .before .before .before .before .before .before .before .before .before .before .before .before .before in
+    let s = entered (walked e) in
+    let f = fronts e in
+    let out = processed (tempos s) (stops s) in (
+      rw (f .tempoBeats .read, f .tempoValues .read) (sm-tempos-tidied (s .args .tempo-beats .now) (s .args .tempo-values .now) (s .args .stop-beats .now) (s .args .stop-values .now) (passed e)),
+      (rw (f .stopBeats .read, f .stopValues .read) (same-columns (out .stops)), rw (f .warpBeats .read, f .warpLengths .read) (same-columns (out .warps))),
+    )
+
+same-length-7 : tie.Need-same-length-7
+same-length-7 c = c .before .before .before .before .before .before .before .before .before .before .before .before .before .before .before .before .before .before .before .before .before .before .before .before .before .before .before .before .before .before .before .before .before .before .before .before .before .before .before .walked-tempo-beats .given
+
+same-length-8 : tie.Need-same-length-8
+same-length-8 c = c .before .before .before .before .before .before .before .before .before .before .before .before .before .before .before .before .before .before .before .before .before .before .before .before .before .before .before .before .before .before .before .before .before .before .before .before .before .walked-tempo-values .given
+
+same-length-9 : tie.Need-same-length-9
+same-length-9 c = c .before .before .before .before .before .before .before .before .before .before .before .before .before .before .before .before .before .before .before .before .before .before .before .before .before .before .before .before .before .before .before .before .before .before .before .walked-stop-beats .given
+
+same-length-10 : tie.Need-same-length-10
+same-length-10 c = c .before .before .before .before .before .before .before .before .before .before .before .before .before .before .before .before .before .before .before .before .before .before .before .before .before .before .before .before .before .before .before .before .before .walked-stop-values .given
 
 same-length-11 : tie.Need-same-length-11
-same-length-11 c = c .before .before .before .before .before .before .before .before .before .before .before .before .before .before .before .before .before .before .before .before .before .before .before .before .before .before .before .before .before .before .before .before .before .before .before .before .before .before .before .before .before .before .before .before .before .before .before .change-tempo-beats .given
+same-length-11 c = c .before .before .before .before .before .before .before .before .before .before .before .before .before .before .before .before .before .before .before .before .before .before .before .before .before .before .before .before .before .before .before .walked-warp-beats .given
 
 same-length-12 : tie.Need-same-length-12
-same-length-12 c = c .before .before .before .before .before .before .before .before .before .before .before .before .before .before .before .before .before .before .before .before .before .before .before .before .before .before .before .before .before .before .before .before .before .before .before .before .before .before .before .before .before .before .before .before .before .change-tempo-values .given
+same-length-12 c = c .before .before .before .before .before .before .before .before .before .before .before .before .before .before .before .before .before .before .before .before .before .before .before .before .before .before .before .before .before .walked-warp-lengths .given
 
 same-length-13 : tie.Need-same-length-13
-same-length-13 c = c .before .before .before .before .before .before .before .before .before .before .before .before .before .before .before .before .before .before .before .before .before .before .before .before .before .before .before .before .before .before .before .before .before .before .before .before .before .before .before .before .before .before .before .change-stop-beats .given
+same-length-13 c = search needs
 
 same-length-14 : tie.Need-same-length-14
-same-length-14 c = c .before .before .before .before .before .before .before .before .before .before .before .before .before .before .before .before .before .before .before .before .before .before .before .before .before .before .before .before .before .before .before .before .before .before .before .before .before .before .before .before .before .change-stop-values .given
+same-length-14 c = search needs
 
 same-length-15 : tie.Need-same-length-15
-same-length-15 c = c .before .before .before .before .before .before .before .before .before .before .before .before .before .before .before .before .before .before .before .before .before .before .before .before .before .before .before .before .before .before .before .before .before .before .before .before .before .before .before .walked-tempo-beats .given
+same-length-15 c = search needs
 
 same-length-16 : tie.Need-same-length-16
-same-length-16 c = c .before .before .before .before .before .before .before .before .before .before .before .before .before .before .before .before .before .before .before .before .before .before .before .before .before .before .before .before .before .before .before .before .before .before .before .before .before .walked-tempo-values .given
+same-length-16 c = search needs
 
 same-length-17 : tie.Need-same-length-17
-same-length-17 c = c .before .before .before .before .before .before .before .before .before .before .before .before .before .before .before .before .before .before .before .before .before .before .before .before .before .before .before .before .before .before .before .before .before .before .before .walked-stop-beats .given
+same-length-17 c = search needs
 
 same-length-18 : tie.Need-same-length-18
-same-length-18 c = c .before .before .before .before .before .before .before .before .before .before .before .before .before .before .before .before .before .before .before .before .before .before .before .before .before .before .before .before .before .before .before .before .before .walked-stop-values .given
-
-same-length-19 : tie.Need-same-length-19
-same-length-19 c = c .before .before .before .before .before .before .before .before .before .before .before .before .before .before .before .before .before .before .before .before .before .before .before .before .before .before .before .before .before .before .before .walked-warp-beats .given
-
-same-length-20 : tie.Need-same-length-20
-same-length-20 c = search needs
-
-same-length-21 : tie.Need-same-length-21
-same-length-21 c = search needs
-
-same-length-22 : tie.Need-same-length-22
-same-length-22 c = search needs
-
-same-length-23 : tie.Need-same-length-23
-same-length-23 c = search needs
-
-same-length-24 : tie.Need-same-length-24
-same-length-24 c = search needs
-
-same-length-25 : tie.Need-same-length-25
-same-length-25 c = search needs
-
-same-length-26 : tie.Need-same-length-26
-same-length-26 c = search needs
+same-length-18 c = search needs
 
 returns-2 : tie.Need-returns-2
 returns-2 c =
-    let f = fronts (c .before .before .before .before .before .before .before .before .before .before .before .before .before .before .before .before .before .before .before .before .before .before .before .before .before .before) in
-    as-read (processed (smChanges (c .before .before .before .before .before .before .before .before .before .before .before .before .before .before .before .before .before .before .before .before .before .before .before .before .before .before .before .before .before .before .before .before .before .before .before .before .before .before .before .before .before .before .before .before .before .before .before .before .before .before .before .before .before .before .before .before .before .before .before .before .before .before .before .before .before .before .before .before .before .before .before .before .before .before .before .before .before .before .before .args .tempo-beats .now) (c .before .before .before .before .before .before .before .before .before .before .before .before .before .before .before .before .before .before .before .before .before .before .before .before .before .before .before .before .before .before .before .before .before .before .before .before .before .before .before .before .before .before .before .before .before .before .before .before .before .before .before .before .before .before .before .before .before .before .before .before .before .before .before .before .before .before .before .before .before .before .before .before .before .before .before .before .before .before .before .args .tempo-values .now)) (smChanges (c .before .before .before .before .before .before .before .before .before .before .before .before .before .before .before .before .before .before .before .before .before .before .before .before .before .before .before .before .before .before .before .before .before .before .before .before .before .before .before .before .before .before .before .before .before .before .before .before .before .before .before .before .before .before .before .before .before .before .before .before .before .before .before .before .before .before .before .before .before .before .before .before .before .before .before .before .before .before .before .args .stop-beats .now) (c .before .before .before .before .before .before .before .before .before .before .before .before .before .before .before .before .before .before .before .before .before .before .before .before .before .before .before .before .before .before .before .before .before .before .before .before .before .before .before .before .before .before .before .before .before .before .before .before .before .before .before .before .before .before .before .before .before .before .before .before .before .before .before .before .before .before .before .before .before .before .before .before .before .before .before .before .before .before .before .args .stop-values .now)) .tempos) (c .before .before .before .before .before .before .before .before .before .before .before .before .lay-results .ensures) (passed (c .before .before .before .before .before .before .before .before .before .before .before .before .before .before .before .before .before .before .before .before .before .before .before .before .before .before)) (f .tempoBeats .read) (f .tempoValues .read) (f .stopBeats .read) (f .stopValues .read) (f .warpBeats .read) (f .warpLengths .read) (c .before .before .before .before .before .before .before .before .before .before .before .before .before .before .before .before .before .before .before .f32-to-f64-with-nan .ensures ∙ f .offset)
+    let e = c .before .before .before .before .before .before .before .before .before .before .before .before .before .before .before .before .before .before .before .before .before .before .before .before .before .before in
+    let s = entered (walked e) in
+    let f = fronts e in
+    as-read (processed (tempos s) (stops s) .tempos) (c .before .before .before .before .before .before .before .before .before .before .before .before .lay-results .ensures) (passed e) (f .tempoBeats .read) (f .tempoValues .read) (f .stopBeats .read) (f .stopValues .read) (f .warpBeats .read) (f .warpLengths .read)
+    (c .before .before .before .before .before .before .before .before .before .before .before .before .before .before .before .before .before .before .before .f32-to-f64-with-nan .ensures ∙ f .offset)
 
 pub process-in-spec : {M : Type 1} → statement M
 process-in-spec =
@@ -185,10 +193,6 @@ process-in-spec =
     same-length-4
     same-length-5
     same-length-6
-    same-length-7
-    same-length-8
-    same-length-9
-    same-length-10
     returns
     slice-reshare-prefix-lay-results
     slice-aggregate-lay-results
@@ -204,6 +208,10 @@ process-in-spec =
     slice-aggregate-lay-results-6
     f32-to-f64-with-nan-requires
     lay-results-requires
+    same-length-7
+    same-length-8
+    same-length-9
+    same-length-10
     same-length-11
     same-length-12
     same-length-13
@@ -212,12 +220,4 @@ process-in-spec =
     same-length-16
     same-length-17
     same-length-18
-    same-length-19
-    same-length-20
-    same-length-21
-    same-length-22
-    same-length-23
-    same-length-24
-    same-length-25
-    same-length-26
     returns-2)
