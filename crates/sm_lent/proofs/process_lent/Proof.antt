@@ -1,24 +1,23 @@
--- `process_sm::process_in` has both lists walked, and lays what the walk writes. Assumes nothing.
+-- `sm_lent::process_lent` has both lists walked, and lays what the walk writes. Assumes nothing.
 use mathlib.Core.Path.{_≡_, sym, ap, _∙_}
 use Prim.Native.Nat.{ℕ}
 use mathlib.Core.List.{List}
-use lib.ListN.{length}
 use lib.Seq.{length-take-le}
 use lib.Ieee.{Float}
-use Rattle.raw_lists.specs.RawLists.{rawNumbers, processedNothing}
+use Rattle.raw_lists.specs.RawLists.{processedNothing}
 use Rattle.raw_lists.proofs.BothTaken.{both-taken}
 use Rattle.sm_changes.specs.SmChanges.{smChanges}
 use Rattle.sm_walk.specs.Chart.{processed}
-use Rattle.sm_walk.specs.Columns.{Columns, columns, most}
-use Rattle.sm_walk.specs.Inside.{Room}
+use Rattle.sm_walk.specs.Columns.{Columns, columns}
 use Rattle.sm_bounds.proofs.ChangesTaken.{few-written, same-columns}
 use Rattle.sm_bounds.proofs.AssemblyTakes.{sm-tempos-tidied}
-use Rattle.sm_raw.proofs.Numbers.{number-with-room}
-use Rattle.process_sm.proofs.WalkedColumns.{Fronts, walked-fronts, room-for}
-use Rattle.process_sm.proofs.Ends.{by-tests, as-read}
+use Rattle.sm_raw.specs.RawWalk.{walkedNumber}
+use Rattle.sm_lent.specs.Lent.{WorkLaid}
+use Rattle.sm_lent.proofs.WalkedColumns.{Fronts, walked-fronts, raw-taken, room-taken}
+use Rattle.sm_lent.proofs.Ends.{by-tests, as-read}
 use borrow.Author.Needs.{needs}
-use Rattle.process_sm.proofs.process_in.Statement.{statement}
-use Rattle.process_sm.proofs.process_in.Tie as tie
+use Rattle.sm_lent.proofs.process_lent.Statement.{statement}
+use Rattle.sm_lent.proofs.process_lent.Tie as tie
 
 -- ---- the given lists, and where the walk has left its columns
 abbrev entered : tie.After-walk-raw → tie.Start
@@ -30,11 +29,11 @@ tempos c = smChanges (c .args .tempo-beats .now) (c .args .tempo-values .now)
 abbrev stops : tie.Start → List (Float × Float)
 stops c = smChanges (c .args .stop-beats .now) (c .args .stop-values .now)
 
-abbrev numbered : tie.Start → ℕ
-numbered c = rawNumbers (c .args .tempo-beats .now) (c .args .tempo-values .now) (c .args .stop-beats .now) (c .args .stop-values .now)
-
 abbrev lent : tie.Start → Columns
 lent c = columns (c .args .walked-tempo-beats .now) (c .args .walked-tempo-values .now) (c .args .walked-stop-beats .now) (c .args .walked-stop-values .now) (c .args .walked-warp-beats .now) (c .args .walked-warp-lengths .now)
+
+abbrev numbered : tie.Start → ℕ
+numbered c = walkedNumber (c .args .tempo-beats .now) (c .args .tempo-values .now) (c .args .stop-beats .now) (c .args .stop-values .now) (lent c)
 
 abbrev left : tie.After-walk-raw → Columns
 left c = columns (c .walk-raw .last .1 .1 .1 .1 .0) (c .walk-raw .last .1 .1 .1 .1 .1 .0) (c .walk-raw .last .1 .1 .1 .1 .1 .1 .0) (c .walk-raw .last .1 .1 .1 .1 .1 .1 .1 .0) (c .walk-raw .last .1 .1 .1 .1 .1 .1 .1 .1 .0) (c .walk-raw .last .1 .1 .1 .1 .1 .1 .1 .1 .1 .0)
@@ -42,14 +41,8 @@ left c = columns (c .walk-raw .last .1 .1 .1 .1 .0) (c .walk-raw .last .1 .1 .1 
 abbrev walked : tie.Else1 → tie.After-walk-raw
 walked c = c .before .before .before .before .before .before .before .before .before .before .before .before .before .before
 
--- the walk's room is enough
-room : (c : tie.Start) → numbered c ≡ 0 → Room (most (length (tempos c)) (length (stops c))) (lent c)
-room c h = room-for (c .args .tempo-beats .now) (c .args .tempo-values .now) (c .args .stop-beats .now) (c .args .stop-values .now) (c .pre) h
-
 number : (c : tie.After-walk-raw) → c .walk-raw .result .number ≡ numbered (entered c)
-number c =
-    let s = entered c in
-    c .walk-raw .ensures .number ∙ number-with-room (s .args .tempo-beats .now) (s .args .tempo-values .now) (s .args .stop-beats .now) (s .args .stop-values .now) (lent s) (room s)
+number c = c .walk-raw .ensures .number
 
 passed : (c : tie.Else1) → numbered (entered (walked c)) ≡ 0
 passed c = sym (number (walked c)) ∙ c .if1 .left
@@ -57,9 +50,13 @@ passed c = sym (number (walked c)) ∙ c .if1 .left
 fronts : (c : tie.Else1) → Fronts (tempos (entered (walked c))) (stops (entered (walked c))) (walked c .walk-raw .result) (left (walked c))
 fronts c =
     let s = entered (walked c) in
-    let both = both-taken (passed c) in
-    walked-fronts (rw (number-with-room (s .args .tempo-beats .now) (s .args .tempo-values .now) (s .args .stop-beats .now) (s .args .stop-values .now) (lent s) (room s), passed c) at (walked c .walk-raw .ensures))
-    (few-written (s .args .tempo-beats .now) (s .args .tempo-values .now) (s .args .stop-beats .now) (s .args .stop-values .now) (both .tempos) (both .stops)) (room s (passed c))
+    let both = both-taken (raw-taken (s .args .tempo-beats .now) (s .args .tempo-values .now) (s .args .stop-beats .now) (s .args .stop-values .now) (lent s) (passed c)) in
+    walked-fronts (rw (passed c) at (walked c .walk-raw .ensures)) (few-written (s .args .tempo-beats .now) (s .args .tempo-values .now) (s .args .stop-beats .now) (s .args .stop-values .now) (both .tempos) (both .stops)) (room-taken (s .args .tempo-beats .now) (s .args .tempo-values .now) (s .args .stop-beats .now) (s .args .stop-values .now) (lent s) (passed c))
+
+work : (c : tie.After-walk-raw) → WorkLaid (numbered (entered c)) (processed (tempos (entered c)) (stops (entered c))) (lent (entered c)) (left c)
+work c =
+    let w = c .walk-raw .ensures in
+    record { tempoBeats = w .tempoBeats; tempoValues = w .tempoValues; stopBeats = w .stopBeats; stopValues = w .stopValues; warpBeats = w .warpBeats; warpLengths = w .warpLengths }
 
 walk-raw-requires : tie.Need-walk-raw-requires
 walk-raw-requires c κs = search needs
@@ -86,7 +83,7 @@ same-length-6 : tie.Need-same-length-6
 same-length-6 c = search needs
 
 returns : tie.Need-returns
-returns c = let w = c .before .before .before .before .before .before .before .before .before .before .before .before .before .before .before in rw (c .refused .ensures ∙ ap processedNothing (number w)) (by-tests (λ e. c .before .if1 .taken (number w ∙ e)))
+returns c = let w = c .before .before .before .before .before .before .before .before .before .before .before .before .before .before .before in record { lists = rw (c .refused .ensures ∙ ap processedNothing (number w)) (by-tests (λ e. c .before .if1 .taken (number w ∙ e))); work = work w }
 
 slice-reshare-prefix-lay-results : tie.Need-slice-reshare-prefix-lay-results
 slice-reshare-prefix-lay-results c = fronts (c) .tempoBeats .inside
@@ -133,7 +130,7 @@ lay-results-requires c κs =
     let s = entered (walked e) in
     let f = fronts e in
     let out = processed (tempos s) (stops s) in (
-      rw (f .tempoBeats .read, f .tempoValues .read) (sm-tempos-tidied (s .args .tempo-beats .now) (s .args .tempo-values .now) (s .args .stop-beats .now) (s .args .stop-values .now) (passed e)),
+      rw (f .tempoBeats .read, f .tempoValues .read) (sm-tempos-tidied (s .args .tempo-beats .now) (s .args .tempo-values .now) (s .args .stop-beats .now) (s .args .stop-values .now) (raw-taken (s .args .tempo-beats .now) (s .args .tempo-values .now) (s .args .stop-beats .now) (s .args .stop-values .now) (lent s) (passed e))),
       (rw (f .stopBeats .read, f .stopValues .read) (same-columns (out .stops)), rw (f .warpBeats .read, f .warpLengths .read) (same-columns (out .warps))),
     )
 
@@ -178,11 +175,14 @@ returns-2 c =
     let e = c .before .before .before .before .before .before .before .before .before .before .before .before .before .before .before .before .before .before .before .before .before .before .before .before .before .before in
     let s = entered (walked e) in
     let f = fronts e in
-    as-read (processed (tempos s) (stops s) .tempos) (c .before .before .before .before .before .before .before .before .before .before .before .before .lay-results .ensures) (passed e) (f .tempoBeats .read) (f .tempoValues .read) (f .stopBeats .read) (f .stopValues .read) (f .warpBeats .read) (f .warpLengths .read)
-    (c .before .before .before .before .before .before .before .before .before .before .before .before .before .before .before .before .before .before .before .f32-to-f64-with-nan .ensures ∙ f .offset)
+    record {
+      lists = as-read (processed (tempos s) (stops s) .tempos) (c .before .before .before .before .before .before .before .before .before .before .before .before .lay-results .ensures) (passed e) (f .tempoBeats .read) (f .tempoValues .read) (f .stopBeats .read) (f .stopValues .read) (f .warpBeats .read) (f .warpLengths .read)
+          (c .before .before .before .before .before .before .before .before .before .before .before .before .before .before .before .before .before .before .before .f32-to-f64-with-nan .ensures ∙ f .offset);
+      work = work (walked e);
+    }
 
-pub process-in-spec : {M : Type 1} → statement M
-process-in-spec =
+pub process-lent-spec : {M : Type 1} → statement M
+process-lent-spec =
     tie.close
     (tie.spec
     walk-raw-requires

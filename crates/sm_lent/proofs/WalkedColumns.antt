@@ -1,8 +1,14 @@
--- What the walk leaves in its columns is read back from their fronts; and work columns that are long enough have room for it. Assumes nothing.
-use mathlib.Core.Path.{_≡_}
+-- What the walk leaves in its columns is read back from their fronts. Assumes nothing.
 use mathlib.Core.List.{List, map}
 use native.Mathlib.Omega.{arith}
 use native.Mathlib.Nat.{le-max-left, le-max-right, max-le, min-le-left, min-le-right}
+use mathlib.Core.Path.{_≡_, sym, _∙_}
+use mathlib.Core.Logic.{⊎-elim}
+use lib.ListN.{length-map}
+use Rattle.order.proofs.Compare.{same?}
+use Rattle.sm_walk.proofs.Outcomes.{room-taken as Walk·room-taken}
+use Rattle.sm_raw.specs.RawWalk.{walkedNumber}
+use Rattle.sm_raw.proofs.Numbers.{number-refused, number-walked}
 use lib.ListN.{length}
 use lib.Ieee.{Float}
 use Rattle.order.specs.Entries.{first, second}
@@ -16,7 +22,6 @@ use Rattle.sm_walk.specs.Columns.{Columns, columns, most}
 use Rattle.sm_walk.specs.Walking.{WalkLaid}
 use Rattle.sm_walk.specs.Inside.{Room}
 use Rattle.sm_walk.proofs.Lengths.{Bounded}
-use Rattle.process_sm.specs.Inside.{WorkRooms}
 use Rattle.sm_bounds.proofs.ChangesTaken.{few-changes}
 use Rattle.sm_raw.proofs.Fronts.{Front, front}
 
@@ -45,20 +50,13 @@ walked-fronts {tempos} {stops} {outcome} {old} {new} w b r =
       offset = w .offset;
     }
 
--- room for the walk
-pub room-for : (tb tv sb sv : List Float) {wtb wtv wsb wsv wwb wwl : List Float} → WorkRooms tb tv sb sv wtb wtv wsb wsv wwb wwl → rawNumbers tb tv sb sv ≡ 0
-    → Room (most (length (smChanges tb tv)) (length (smChanges sb sv))) (columns wtb wtv wsb wsv wwb wwl)
-room-for tb tv sb sv {wtb} {wtv} {wsb} {wsv} {wwb} {wwl} w h =
-    let both = both-taken h in
-    let t = few-changes tb tv (both .tempos) in
-    let s = few-changes sb sv (both .stops) in
-    let rt = w .tempos h in let rs = w .stops h in let rw-room = w .warps h in
-    let l = le-max-left (length tb) 1 in let m = le-max-right (length tb) 1 in
-    record {
-      tempoBeats = max-le {a = length (smChanges tb tv)} {b = 1} {k = length wtb} (omega (arith, min-le-left (length wtb) (length wtv))) (omega (arith, min-le-left (length wtb) (length wtv)));
-      tempoValues = max-le {a = length (smChanges tb tv)} {b = 1} {k = length wtv} (omega (arith, min-le-right (length wtb) (length wtv))) (omega (arith, min-le-right (length wtb) (length wtv)));
-      stopBeats = omega (arith, min-le-left (length wsb) (length wsv));
-      stopValues = omega (arith, min-le-right (length wsb) (length wsv));
-      warpBeats = omega (arith, min-le-left (length wwb) (length wwl));
-      warpLengths = omega (arith, min-le-right (length wwb) (length wwl));
-    }
+-- where nothing is refused, both lists are taken and the walk has room
+module _ (tempoBeats tempoValues stopBeats stopValues : List Float) (into : Columns) (taken : walkedNumber tempoBeats tempoValues stopBeats stopValues into ≡ 0) where
+  pub raw-taken : rawNumbers tempoBeats tempoValues stopBeats stopValues ≡ 0
+  raw-taken = ⊎-elim (λ z. z) (λ h. sym (number-refused tempoBeats tempoValues stopBeats stopValues into h) ∙ taken) (same? (rawNumbers tempoBeats tempoValues stopBeats stopValues) 0)
+
+  pub room-taken : Room (most (length (smChanges tempoBeats tempoValues)) (length (smChanges stopBeats stopValues))) into
+  room-taken =
+      let T = smChanges tempoBeats tempoValues in
+      let S = smChanges stopBeats stopValues in
+      rw (length-map T first, length-map S first) at (Walk·room-taken (map first T) (map second T) (map first S) (map second S) into (number-walked tempoBeats tempoValues stopBeats stopValues into raw-taken ∙ taken))
