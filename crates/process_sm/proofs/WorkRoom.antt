@@ -1,21 +1,15 @@
 -- Work columns that are long enough have room for the walk, so that lists are refused by their own tests alone. Assumes nothing.
 use mathlib.Core.Path.{_≡_}
-use mathlib.Core.List.{List, map}
+use mathlib.Core.List.{List}
 use native.Mathlib.Omega.{arith}
 use native.Mathlib.Nat.{le-max-left, le-max-right, max-le, min-le-left, min-le-right}
 use lib.ListN.{length}
 use lib.Ieee.{Float}
-use Rattle.order.specs.Entries.{first, second}
-use Rattle.columns.specs.Laying.{given}
 use Rattle.raw_lists.specs.RawLists.{rawNumbers}
 use Rattle.raw_lists.proofs.BothTaken.{both-taken}
 use Rattle.sm_changes.specs.SmChanges.{smChanges}
-use Rattle.sm_walk.specs.declared.Walked.{Walked}
-use Rattle.sm_walk.specs.Chart.{processed, offsetOf}
 use Rattle.sm_walk.specs.Columns.{Columns, columns, most}
-use Rattle.sm_walk.specs.Walking.{WalkLaid}
 use Rattle.sm_walk.specs.Inside.{Room}
-use Rattle.sm_walk.proofs.Lengths.{Bounded}
 use Rattle.process_sm.specs.Inside.{WorkRooms}
 use Rattle.sm_bounds.proofs.ChangesTaken.{few-changes}
 use Rattle.raw_lists.specs.declared.Processed.{Processed}

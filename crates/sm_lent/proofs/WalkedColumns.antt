@@ -1,7 +1,6 @@
 -- What the walk leaves in its columns is read back from their fronts. Assumes nothing.
 use mathlib.Core.List.{List, map}
 use native.Mathlib.Omega.{arith}
-use native.Mathlib.Nat.{le-max-left, le-max-right, max-le, min-le-left, min-le-right}
 use mathlib.Core.Path.{_≡_, sym, _∙_}
 use mathlib.Core.Logic.{⊎-elim}
 use lib.ListN.{length-map}
@@ -14,15 +13,13 @@ use lib.Ieee.{Float}
 use Rattle.order.specs.Entries.{first, second}
 use Rattle.columns.specs.Laying.{given}
 use Rattle.raw_lists.specs.RawLists.{rawNumbers}
-use Rattle.raw_lists.proofs.BothTaken.{both-taken}
 use Rattle.sm_changes.specs.SmChanges.{smChanges}
 use Rattle.sm_walk.specs.declared.Walked.{Walked}
 use Rattle.sm_walk.specs.Chart.{processed, offsetOf}
-use Rattle.sm_walk.specs.Columns.{Columns, columns, most}
+use Rattle.sm_walk.specs.Columns.{Columns, most}
 use Rattle.sm_walk.specs.Walking.{WalkLaid}
 use Rattle.sm_walk.specs.Inside.{Room}
 use Rattle.sm_walk.proofs.Lengths.{Bounded}
-use Rattle.sm_bounds.proofs.ChangesTaken.{few-changes}
 use Rattle.sm_raw.proofs.Fronts.{Front, front}
 
 -- what the walk has laid
