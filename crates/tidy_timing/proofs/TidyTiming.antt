@@ -1,13 +1,14 @@
 -- What assembly writes is a tidy timing: the clock and the lookups take its lists; the clock refuses the offset that it writes exactly where it is beyond an offset's limit. Assumes nothing.
-use Prim.Native.Nat.{ℕ, _≤_}
+use Prim.Native.Nat.{ℕ, _%_, _≤_}
 use mathlib.Core.Path.{_≡_, refl, sym, ap, _∙_}
 use mathlib.Core.Bool.{Bool, true, false}
 use mathlib.Core.List.{List, map, map-id}
+use borrow.Author.Tests.{eq-eqb}
 use lib.ListN.{length, length-map}
 use lib.Ieee.{Float}
 use Rattle.picks.specs.Pick.{pick}
 use Rattle.ieee.specs.Narrowing.{narrow}
-use Rattle.limits.specs.declared.Kind.the-variants.{Value, Pause, Offset}
+use Rattle.limits.specs.declared.Kind.the-variants.{Beat, Value, Pause, Offset}
 use Rattle.limits.specs.Numbers.{rangeOf, inRange}
 use Rattle.order.specs.Entries.{first, second}
 use Rattle.limits.specs.Refusals.{lower}
@@ -16,6 +17,9 @@ use Rattle.raw_lists.specs.RawLists.{rawNumbers}
 use Rattle.walk.specs.Events.{timing}
 use Rattle.timing_tests.specs.TimingNumbers.{listsNumber, offsetNumber, offsetsNumber, orderNumber, timingNumber}
 use Rattle.lookup.specs.Lookups.{judgableNumber}
+use Rattle.sm_stops.specs.Merging.{sources}
+use Rattle.sm_stops.specs.Filling as filling
+use Rattle.sm_stops.specs.Filling.{flat}
 use Rattle.by_format.specs.declared.TimingFormat.{TimingFormat}
 use Rattle.by_format.specs.ByFormat.{Lists}
 use Rattle.merged_warps.specs.MergedWarps.{warpsNumber, threeNumber, mergedLists}
@@ -26,6 +30,7 @@ use Rattle.assembled_tempos.proofs.WorkColumns.{merged-stops, stops-on-rows, me
 use Rattle.assembly.specs.Assembly.{listOf, assembledDelays, assembledFakes}
 use Rattle.tidy_timing.proofs.RowLists.{TidyRows, lengths-tidy, pauses-tidy}
 use Rattle.tidy_timing.proofs.TidiedTempos.{TidyTempos}
+use Rattle.tidy_timing.proofs.FlatStops.{flat-taken}
 use Rattle.tidy_timing.proofs.ProcessedTempos as processed
 
 -- ---- lists that are assembled as they are given
@@ -76,6 +81,16 @@ module _ (format : TimingFormat) (tempoBeats tempoValues stopBeats stopValues wa
         let d = delays-tidy delayBeats delayValues delays in
         let w = warps-tidy few in
         rw (t .taken, s .taken, d .taken, w .taken, o, g, t .rising, s .rising, d .rising, w .rising, t .starts)
+
+    -- SM stops, with the stops in a flat list and a work list of even length
+    pub sm-stops-take : (size : ℕ) → size % 2 ≡ 0
+        → filling.listsNumber
+        (sources (map first (assembledTempos lists)) (map second (assembledTempos lists)) (flat (assembledStops lists)) (map first (assembledDelays delayBeats delayValues)) (map second (assembledDelays delayBeats delayValues)) (map first (assembledWarps lists)) (map second (assembledWarps lists)))
+        size
+        ≡ 0
+    unfolding filling.listsNumber lower
+    sm-stops-take size even =
+        rw (tempos-tidy .taken, flat-taken (rangeOf Beat) (rangeOf Pause) (assembledStops lists) (stops-tidy .taken), delays-tidy delayBeats delayValues delays .taken, warps-tidy few .taken, eq-eqb (size % 2) 0 even)
 
     -- the lookups, for any row or beat within the limit
     pub lookups-take : (fakeBeats fakeLengths : List Float) → listOf fakeBeats fakeLengths ≡ 0
