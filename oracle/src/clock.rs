@@ -4,6 +4,7 @@ use crate::cases::{LAST_ROW, Work, power};
 use crate::timings::{Chart, DELAYS, STOPS, TEMPOS, WARPS, beat_allowed};
 use crate::numbers::Number;
 use crate::random::Random;
+use crate::stored::{self, Case, Word};
 use crate::tally::Total;
 use crate::timing::{TimingData, get_time_for_beat, probe};
 use probe::{BeatCursor, Held};
@@ -389,16 +390,7 @@ impl Asked {
         let chart = &self.chart;
         let mut wanted = Columns::by_chance(rooms, random);
         let mut got = wanted.clone();
-        let room = if rooms.iter().any(|room| *room < beats.len()) { 7 } else { 0 };
-        let mut ran = Numbered { number: lowest([self.number, room, cursor.number(chart.lengths())]), cursor };
-        if ran.number == 0 {
-            for (place, beat) in beats.iter().enumerate() {
-                let answer = self.asked(ran.cursor, *beat);
-                (wanted.numbers[place], wanted.times[place], wanted.counts[place]) =
-                    (answer.number, answer.time, answer.count);
-                ran.cursor = answer.cursor;
-            }
-        }
+        let ran = self.expected_run(cursor, beats, rooms, &mut wanted);
         let answer = run(cursor, chart, beats, &mut got, rooms);
         let same = answer.number == ran.number && answer.cursor.same(ran.cursor) && got.same(&wanted);
         found.check(same, || {
@@ -408,18 +400,105 @@ impl Asked {
         });
     }
 
-    fn fresh(&self, beat: f64, found: &mut Found) {
+    /// What is expected of a run, and what its columns are left as.
+    fn expected_run(&self, cursor: Cursor, beats: &[f64], rooms: [usize; 3], wanted: &mut Columns) -> Numbered {
+        let room = if rooms.iter().any(|room| *room < beats.len()) { 7 } else { 0 };
+        let mut ran = Numbered { number: lowest([self.number, room, cursor.number(self.chart.lengths())]), cursor };
+        if ran.number == 0 {
+            for (place, beat) in beats.iter().enumerate() {
+                let answer = self.asked(ran.cursor, *beat);
+                (wanted.numbers[place], wanted.times[place], wanted.counts[place]) =
+                    (answer.number, answer.time, answer.count);
+                ran.cursor = answer.cursor;
+            }
+        }
+        ran
+    }
+
+    /// What is expected of a question to a fresh cursor.
+    fn fresh_answer(&self, beat: f64) -> Answer {
         let chart = &self.chart;
-        let wanted = match (lowest([self.number, if beat_allowed(beat) { 0 } else { 3 }]), &self.timing) {
+        match (lowest([self.number, if beat_allowed(beat) { 0 } else { 3 }]), &self.timing) {
             (0, Some(timing)) => {
                 let wanted = expected(chart, timing, Cursor::fresh(chart.offset, chart.global), beat);
                 Answer { time: get_time_for_beat(timing, beat), ..wanted }
             }
             (number, _) => Answer::refused(number, Cursor::fresh(chart.offset, chart.global)),
-        };
+        }
+    }
+
+    fn fresh(&self, beat: f64, found: &mut Found) {
+        let chart = &self.chart;
+        let wanted = self.fresh_answer(beat);
         let got = fresh_time_for_beat(chart, beat);
         found.check(wanted.same(&got), || format!("{chart:?}, beat {beat:?}: {wanted:?}, port {got:?}"));
     }
+}
+
+impl Cursor {
+    fn words(self) -> [u64; 9] {
+        let State { tempos, stops, delays, warps, row, warping, time, end } = self.state;
+        let places = [tempos, stops, delays, warps].map(|place| place as u64);
+        let [tempos, stops, delays, warps] = places;
+        [tempos, stops, delays, warps, row.word(), warping.into(), time.word(), end.word(), self.asked.word()]
+    }
+}
+
+impl Answer {
+    fn words(self) -> impl Iterator<Item = u64> {
+        [self.number.into(), self.time.word(), self.count as u64].into_iter().chain(self.cursor.words())
+    }
+}
+
+/// Cases of one question, and of runs.
+pub fn stored_cases(cases: &mut Vec<Case>) {
+    let begun = |call: u64, chart: &Chart| {
+        let mut case = Case::new(call);
+        chart.lists.iter().flat_map(|(beats, values)| [beats, values]).for_each(|column| case.column(column));
+        case
+    };
+    let from = |chart: &Chart, random: &mut Random| {
+        if random.below(3) == 0 { Cursor::fresh(chart.offset, chart.global) } else { Cursor::made_up(chart.lengths(), random) }
+    };
+    let mut random = Random::new(1, "stored questions");
+    let question = |turn: u64| {
+        let asked = Asked::new(Chart::by_chance(turn, &mut random));
+        let chart = &asked.chart;
+        let (cursor, beat) = (from(chart, &mut random), chart.asked(1, &mut random)[0]);
+        let mut case = begun(11, chart);
+        case.words([chart.offset.word(), chart.global.word(), beat.word()]);
+        case.words(cursor.words());
+        case.words([asked.number.into()]);
+        case.words(asked.answer(cursor, beat).words());
+        case.words(asked.fresh_answer(beat).words());
+        case.if_short()
+    };
+    cases.extend((0..).filter_map(question).take(3 * stored::EACH));
+    let mut random = Random::new(1, "stored runs");
+    let run = |turn: u64| {
+        let asked = Asked::new(Chart::by_chance(turn, &mut random));
+        let chart = &asked.chart;
+        let cursor = from(chart, &mut random);
+        let beats = chart.asked(random.below(16) as usize, &mut random);
+        let mut columns = Columns {
+            numbers: vec![stored::UNTOUCHED_BYTE.into(); stored::ROOM],
+            times: vec![stored::UNTOUCHED; stored::ROOM],
+            counts: vec![stored::UNTOUCHED_BYTE.into(); stored::ROOM],
+        };
+        let ran = asked.expected_run(cursor, &beats, [stored::ROOM; 3], &mut columns);
+        let written = if ran.number == 0 { beats.len() } else { 0 };
+        let mut case = begun(12, chart);
+        case.column(&beats);
+        case.column(&columns.numbers[..written]);
+        case.column(&columns.times[..written]);
+        case.column(&columns.counts[..written]);
+        case.words([chart.offset.word(), chart.global.word()]);
+        case.words(cursor.words());
+        case.words([ran.number.into()]);
+        case.words(ran.cursor.words());
+        case.if_short()
+    };
+    cases.extend((0..).filter_map(run).take(stored::EACH));
 }
 
 pub fn compare_all(work: Work, total: &mut Total) {

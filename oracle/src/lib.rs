@@ -32,6 +32,7 @@ pub mod random;
 pub mod sm_stops;
 #[cfg(feature = "port")]
 pub mod speeds;
+pub mod stored;
 #[cfg(feature = "port")]
 pub mod tally;
 #[cfg(feature = "port")]

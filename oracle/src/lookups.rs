@@ -3,6 +3,7 @@
 use crate::cases::{LAST_ROW, Work, power};
 use crate::lists;
 use crate::random::Random;
+use crate::stored::{self, Case, Word};
 use crate::tally::Total;
 use crate::tidying::Outcome;
 use crate::timing::{Segment, TimingData, probe};
@@ -196,9 +197,8 @@ fn row_allowed(row: i32) -> bool {
 /// How many places past a room are looked at too.
 const PAST: usize = 4;
 
-fn store_differs(lists: &Lists, room: usize, random: &mut Random) -> Option<String> {
-    let before: Vec<i32> = (0..room + PAST).map(|_| random.bits() as i32).collect();
-    let (mut wanted, mut got) = (before.clone(), before);
+/// What is expected of a room, and what it is left as.
+fn expected_store(lists: &Lists, room: usize, wanted: &mut [i32]) -> Stored {
     let mut outcome = Stored { number: lists.number(&[0, 1, 2, 3], false, true), parts: [0; 4] };
     if outcome.number == 0 {
         let [stops, delays, warps, fakes] = lists.segments();
@@ -210,11 +210,19 @@ fn store_differs(lists: &Lists, room: usize, random: &mut Random) -> Option<Stri
             wanted[..rows.len()].copy_from_slice(&rows);
         }
     }
+    outcome
+}
+
+fn store_differs(lists: &Lists, room: usize, random: &mut Random) -> Option<String> {
+    let before: Vec<i32> = (0..room + PAST).map(|_| random.bits() as i32).collect();
+    let (mut wanted, mut got) = (before.clone(), before);
+    let outcome = expected_store(lists, room, &mut wanted);
     let answer = store(lists, &mut got[..room]);
     (answer != outcome || wanted != got).then(|| format!("{lists:?}, room {room}: {outcome:?}, port {answer:?}"))
 }
 
-fn lookups_differ(lists: &Lists, timing: Option<&TimingData>, row: i32, beat: f64) -> Option<String> {
+/// What the six lookups are expected to answer.
+fn expected_lookups(lists: &Lists, timing: Option<&TimingData>, row: i32, beat: f64) -> [Looked; 6] {
     let beat_allowed = beat.is_finite() && beat.abs() <= 65_536.0;
     let ask = |which: &[usize], allowed: bool, original: &dyn Fn(&TimingData) -> bool| match lists
         .number(which, true, allowed)
@@ -223,22 +231,28 @@ fn lookups_differ(lists: &Lists, timing: Option<&TimingData>, row: i32, beat: f6
         0 => Looked { number: 0, yes: timing.map_or_else(|| original(&lists.only(which).timing()), original) },
         number => Looked::refused(number),
     };
-    let pairs = [
-        (ask(&[0, 1, 2], row_allowed(row), &|timing| probe::is_warp_at_row(timing, row)), warp_at_row(lists, row)),
-        (ask(&[0, 1, 2], beat_allowed, &|timing| probe::is_warp_at_beat(timing, beat)), warp_at_beat(lists, beat)),
-        (ask(&[3], row_allowed(row), &|timing| probe::is_fake_at_row(timing, row)), fake_at_row(lists, row)),
-        (ask(&[3], beat_allowed, &|timing| probe::is_fake_at_beat(timing, beat)), fake_at_beat(lists, beat)),
-        (
-            ask(&[0, 1, 2, 3], row_allowed(row), &|timing| probe::is_judgable_at_row(timing, row)),
-            judgable_at_row(lists, row),
-        ),
-        (
-            ask(&[0, 1, 2, 3], beat_allowed, &|timing| probe::is_judgable_at_beat(timing, beat)),
-            judgable_at_beat(lists, beat),
-        ),
+    [
+        ask(&[0, 1, 2], row_allowed(row), &|timing| probe::is_warp_at_row(timing, row)),
+        ask(&[0, 1, 2], beat_allowed, &|timing| probe::is_warp_at_beat(timing, beat)),
+        ask(&[3], row_allowed(row), &|timing| probe::is_fake_at_row(timing, row)),
+        ask(&[3], beat_allowed, &|timing| probe::is_fake_at_beat(timing, beat)),
+        ask(&[0, 1, 2, 3], row_allowed(row), &|timing| probe::is_judgable_at_row(timing, row)),
+        ask(&[0, 1, 2, 3], beat_allowed, &|timing| probe::is_judgable_at_beat(timing, beat)),
+    ]
+}
+
+fn lookups_differ(lists: &Lists, timing: Option<&TimingData>, row: i32, beat: f64) -> Option<String> {
+    let wanted = expected_lookups(lists, timing, row, beat);
+    let got = [
+        warp_at_row(lists, row),
+        warp_at_beat(lists, beat),
+        fake_at_row(lists, row),
+        fake_at_beat(lists, beat),
+        judgable_at_row(lists, row),
+        judgable_at_beat(lists, beat),
     ];
-    let place = pairs.iter().position(|(wanted, got)| wanted != got)?;
-    Some(format!("{lists:?}, row {row}, beat {beat:?}, call {place}: {:?}, port {:?}", pairs[place].0, pairs[place].1))
+    let place = wanted.iter().zip(&got).position(|(wanted, got)| wanted != got)?;
+    Some(format!("{lists:?}, row {row}, beat {beat:?}, call {place}: {:?}, port {:?}", wanted[place], got[place]))
 }
 
 fn batch_differs(
@@ -250,17 +264,115 @@ fn batch_differs(
 ) -> Option<String> {
     let before: Vec<u8> = (0..room + PAST).map(|_| random.bits() as u8).collect();
     let (mut wanted, mut got) = (before.clone(), before);
-    let outcome = match lists.number(&[0, 1, 2, 3], true, rows.iter().all(|row| row_allowed(*row))) {
-        0 if rows.len() > room => Outcome::refused(7),
-        0 => {
-            probe::judgable_rows(timing.expect("lists that are taken"), rows, &mut wanted);
-            Outcome { number: 0, count: rows.len() }
-        }
-        number => Outcome::refused(number),
-    };
+    let outcome = expected_batch(lists, timing, rows, room, &mut wanted);
     let answer = judge(lists, rows, &mut got[..room]);
     (answer != outcome || wanted != got)
         .then(|| format!("{lists:?}, rows {rows:?}, room {room}: {outcome:?}, port {answer:?}"))
+}
+
+/// What is expected of many rows, and what their room is left as.
+fn expected_batch(
+    lists: &Lists,
+    timing: Option<&TimingData>,
+    rows: &[i32],
+    room: usize,
+    wanted: &mut [u8],
+) -> Outcome {
+    match lists.number(&[0, 1, 2, 3], true, rows.iter().all(|row| row_allowed(*row))) {
+        0 if rows.len() > room => Outcome::refused(7),
+        0 => {
+            probe::judgable_rows(timing.expect("lists that are taken"), rows, wanted);
+            Outcome { number: 0, count: rows.len() }
+        }
+        number => Outcome::refused(number),
+    }
+}
+
+/// The original's timing, where the lists' numbers are taken.
+fn timing_if_sound(lists: &Lists) -> Option<TimingData> {
+    let sound = (0..4).all(|list| matches!(list_number(list, &lists.columns[list], true), 0 | 5));
+    sound.then(|| lists.timing())
+}
+
+fn asked_beat(lists: &Lists, random: &mut Random) -> f64 {
+    match random.below(10) {
+        0 => f64::from_bits(random.bits()),
+        1 => 65_536.0 * random.sign(),
+        _ => (f64::from(lists.asked_row(random)) + random.part() - 0.5) / 48.0,
+    }
+}
+
+fn asked_rows(lists: &Lists, random: &mut Random) -> Vec<i32> {
+    let mut rows: Vec<i32> = (0..random.below(60)).map(|_| lists.asked_row(random)).collect();
+    if random.below(10) != 0 {
+        rows.retain(|row| row_allowed(*row));
+    }
+    if random.below(2) == 0 {
+        rows.sort_unstable();
+    }
+    rows
+}
+
+/// The longest part of the lists' rows, or some where they are refused; then a room about as long.
+fn store_room(lists: &Lists, random: &mut Random) -> usize {
+    let most = match lists.number(&[0, 1, 2, 3], false, true) {
+        0 => {
+            let [stops, delays, warps, fakes] = lists.segments();
+            probe::build_segment_row_storage(&stops, &delays, &warps, &fakes).0.len()
+        }
+        _ => 20,
+    };
+    match random.below(5) {
+        0 => most.saturating_sub(1),
+        1 => random.below(most as u64 + 1) as usize,
+        2 => most + random.below(9) as usize,
+        3 => 4_096,
+        _ => most,
+    }
+}
+
+/// Cases for the row store, the lookups and many rows.
+pub fn stored_cases(cases: &mut Vec<Case>) {
+    let begun = |call: u64, lists: &Lists| {
+        let mut case = Case::new(call);
+        lists.columns.iter().flat_map(|(beats, values)| [beats, values]).for_each(|column| case.column(column));
+        case
+    };
+    let mut random = Random::new(1, "stored row store");
+    let store = |turn: u64| {
+        let lists = if turn % 3 == 0 { Lists::near(&mut random) } else { Lists::any(turn, &mut random) };
+        let mut rows = vec![i32::from(stored::UNTOUCHED_BYTE); stored::ROOM];
+        let outcome = expected_store(&lists, stored::ROOM, &mut rows);
+        let mut case = begun(8, &lists);
+        case.column(&rows[..outcome.parts.iter().sum()]);
+        case.words([u64::from(outcome.number)].into_iter().chain(outcome.parts.map(|part| part as u64)));
+        case.if_short()
+    };
+    cases.extend((0..).filter_map(store).take(stored::EACH));
+    let mut random = Random::new(1, "stored lookups");
+    let lookups = |turn: u64| {
+        let lists = if turn % 8 == 0 { Lists::any(turn, &mut random) } else { Lists::near(&mut random) };
+        let (row, beat) = (lists.asked_row(&mut random), asked_beat(&lists, &mut random));
+        let mut case = begun(9, &lists);
+        case.words([row.word(), beat.word()]);
+        let looked = expected_lookups(&lists, timing_if_sound(&lists).as_ref(), row, beat);
+        case.words(looked.into_iter().flat_map(|looked| [looked.number.into(), looked.yes.into()]));
+        case.if_short()
+    };
+    cases.extend((0..).filter_map(lookups).take(2 * stored::EACH));
+    let mut random = Random::new(1, "stored judgable rows");
+    let judged = |turn: u64| {
+        let lists = if turn % 8 == 0 { Lists::any(turn, &mut random) } else { Lists::near(&mut random) };
+        let rows = asked_rows(&lists, &mut random);
+        let mut out = vec![stored::UNTOUCHED_BYTE; stored::ROOM];
+        let outcome = expected_batch(&lists, timing_if_sound(&lists).as_ref(), &rows, stored::ROOM, &mut out);
+        let mut case = begun(10, &lists);
+        case.column(&rows);
+        case.column(&out[..outcome.count]);
+        case.words([outcome.number.into(), outcome.count as u64]);
+        case.if_short()
+    };
+    cases.extend((0..).filter_map(judged).take(stored::EACH));
 }
 
 pub fn compare_all(work: Work, total: &mut Total) {
@@ -268,20 +380,7 @@ pub fn compare_all(work: Work, total: &mut Total) {
     let (mut compared, mut shown) = (0, Vec::new());
     for turn in 0..work.lists() {
         let lists = if turn % 3 == 0 { Lists::near(&mut random) } else { Lists::any(turn, &mut random) };
-        let most: usize = match lists.number(&[0, 1, 2, 3], false, true) {
-            0 => {
-                let [stops, delays, warps, fakes] = lists.segments();
-                probe::build_segment_row_storage(&stops, &delays, &warps, &fakes).0.len()
-            }
-            _ => 20,
-        };
-        let room = match random.below(5) {
-            0 => most.saturating_sub(1),
-            1 => random.below(most as u64 + 1) as usize,
-            2 => most + random.below(9) as usize,
-            3 => 4_096,
-            _ => most,
-        };
+        let room = store_room(&lists, &mut random);
         compared += 1;
         shown.extend(store_differs(&lists, room, &mut random));
     }
@@ -291,25 +390,14 @@ pub fn compare_all(work: Work, total: &mut Total) {
     let (mut compared, mut shown, mut many, mut many_shown) = (0, Vec::new(), 0, Vec::new());
     for turn in 0..work.lists() {
         let lists = if turn % 8 == 0 { Lists::any(turn, &mut random) } else { Lists::near(&mut random) };
-        let sound = (0..4).all(|list| matches!(list_number(list, &lists.columns[list], true), 0 | 5));
-        let timing = sound.then(|| lists.timing());
+        let timing = timing_if_sound(&lists);
         for _ in 0..20 {
             let row = lists.asked_row(&mut random);
-            let beat = match random.below(10) {
-                0 => f64::from_bits(random.bits()),
-                1 => 65_536.0 * random.sign(),
-                _ => (f64::from(lists.asked_row(&mut random)) + random.part() - 0.5) / 48.0,
-            };
+            let beat = asked_beat(&lists, &mut random);
             compared += 6;
             shown.extend(lookups_differ(&lists, timing.as_ref(), row, beat));
         }
-        let mut rows: Vec<i32> = (0..random.below(60)).map(|_| lists.asked_row(&mut random)).collect();
-        if random.below(10) != 0 {
-            rows.retain(|row| row_allowed(*row));
-        }
-        if random.below(2) == 0 {
-            rows.sort_unstable();
-        }
+        let rows = asked_rows(&lists, &mut random);
         let room = (rows.len() + random.below(4) as usize).saturating_sub(1);
         many += 1;
         many_shown.extend(batch_differs(&lists, timing.as_ref(), &rows, room, &mut random));

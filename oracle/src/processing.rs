@@ -4,6 +4,7 @@ use crate::cases::{Work, power};
 use crate::charts::{self, Lists};
 use crate::numbers::Number;
 use crate::random::Random;
+use crate::stored::{self, Case};
 use crate::tally::Total;
 use crate::timing::{Segment, probe};
 
@@ -275,7 +276,10 @@ impl Asked {
 
     /// By the original where the lists are taken and each result has room.
     fn expected<F: Format>(&self) -> Left {
-        let mut rooms = self.rooms();
+        self.expected_over::<F>(self.rooms())
+    }
+
+    fn expected_over<F: Format>(&self, mut rooms: Rooms) -> Left {
         let number = number(&self.lists);
         if number != 0 {
             return Left { answer: Processed::refused(number), rooms };
@@ -295,6 +299,20 @@ impl Asked {
         }
         let answer = Processed { number: 0, tempos: counts[0], stops: counts[1], warps: counts[2], offset };
         Left { answer, rooms }
+    }
+
+    /// A case to be replayed.
+    fn stored<F: Format>(&self, call: u64) -> Case {
+        let asked = Self { rooms: [stored::ROOM; 6], ..self.clone() };
+        let rooms = [(); 6].map(|()| vec![stored::UNTOUCHED; stored::ROOM]);
+        let Left { answer, rooms } = asked.expected_over::<F>(rooms);
+        let counts = [answer.tempos, answer.stops, answer.warps];
+        let mut case = Case::new(call);
+        self.lists.columns.iter().for_each(|column| case.column(column));
+        (0..F::ROOMS).for_each(|room| case.column(&rooms[room][..counts[room / 2]]));
+        case.words([answer.number.into(), answer.tempos as u64, answer.stops as u64, answer.warps as u64]);
+        case.words([answer.offset.answer()]);
+        case
     }
 
     fn differs<F: Format>(&self) -> bool {
@@ -374,6 +392,16 @@ pub fn compare<F: Format>(work: Work) -> Found {
     }
     found.plainest = found.plainest.map(Asked::plainest::<F>);
     found
+}
+
+/// Cases for both formats, from the call's number on.
+pub fn stored_cases(cases: &mut Vec<Case>) {
+    fn add<F: Format>(call: u64, cases: &mut Vec<Case>) {
+        let mut random = Random::new(1, F::NAME);
+        stored::add(cases, |turn| Asked::by_chance::<F>(turn, &mut random).stored::<F>(call));
+    }
+    add::<Ssc>(5, cases);
+    add::<Sm>(6, cases);
 }
 
 pub fn compare_all(work: Work, total: &mut Total) {

@@ -3,6 +3,7 @@
 use crate::cases::{Work, power};
 use crate::lists;
 use crate::random::Random;
+use crate::stored::{self, Case};
 use crate::tally::Total;
 use crate::timing::convert_warps_and_delays_to_sm_stops;
 
@@ -169,34 +170,66 @@ impl Lists {
 /// How many places past the work list are looked at too.
 const PAST: usize = 4;
 
-fn differs(lists: &Lists, size: usize, random: &mut Random) -> Option<String> {
-    let before: Vec<f32> = (0..size + PAST).map(|_| f32::from_bits(random.bits() as u32 & 0x7F7F_FFFF)).collect();
-    let mut after = before.clone();
-    let filled = lists.port(&mut after[..size]);
-    let refused = |number| Filled { number, count: 0, own: false };
-    let (expected, flat) = match lists.number(size) {
+/// What is expected of a work list of a size: the answer, and what its front is filled with.
+fn expected(lists: &Lists, size: usize) -> (Filled, Vec<f32>) {
+    let refused = |number| (Filled { number, count: 0, own: false }, Vec::new());
+    match lists.number(size) {
         0 => {
             let [tempos, stops, delays, warps] = lists.pairs();
             if delays.is_empty() && warps.is_empty() {
                 (Filled { number: 0, count: 0, own: true }, Vec::new())
             } else if tempos.is_empty() && !warps.is_empty() {
-                (refused(8), Vec::new())
+                refused(8)
             } else {
                 let result = convert_warps_and_delays_to_sm_stops(&tempos, &stops, &delays, &warps);
                 if result.len() > size / 2 {
-                    (refused(7), Vec::new())
+                    refused(7)
                 } else {
                     let flat: Vec<f32> = result.iter().flat_map(|(beat, value)| [*beat, *value]).collect();
                     (Filled { number: 0, count: result.len(), own: false }, flat)
                 }
             }
         }
-        number => (refused(number), Vec::new()),
-    };
+        number => refused(number),
+    }
+}
+
+fn differs(lists: &Lists, size: usize, random: &mut Random) -> Option<String> {
+    let before: Vec<f32> = (0..size + PAST).map(|_| f32::from_bits(random.bits() as u32 & 0x7F7F_FFFF)).collect();
+    let mut after = before.clone();
+    let filled = lists.port(&mut after[..size]);
+    let (expected, flat) = expected(lists, size);
     let bits = |list: &[f32]| list.iter().map(|number| number.to_bits()).collect::<Vec<_>>();
     let expected_after = [&flat[..], &before[flat.len()..]].concat();
     (filled != expected || bits(&after) != bits(&expected_after))
         .then(|| format!("{lists:?} in {size}: {filled:?}, not {expected:?}; {after:?}, not {expected_after:?}"))
+}
+
+/// A size for the work list: mostly right, sometimes short, odd or larger.
+fn work_size(lists: &Lists, random: &mut Random) -> usize {
+    let entries = lists.stops.len() / 2 + lists.delays.0.len() + lists.warps.0.len();
+    match random.below(8) {
+        0 => 0,
+        1 => 2 * entries.saturating_sub(1),
+        2 => 2 * random.below(entries as u64 + 1) as usize,
+        3 => 2 * entries + 1,
+        4 => 2 * entries + 6,
+        _ => 2 * entries,
+    }
+}
+
+fn stored_case(lists: &Lists) -> Option<Case> {
+    let (filled, work) = expected(lists, stored::ROOM);
+    let Lists { tempos, stops, delays, warps } = lists;
+    let mut case = Case::new(7);
+    [&tempos.0, &tempos.1, stops, &delays.0, &delays.1, &warps.0, &warps.1, &work].into_iter().for_each(|column| case.column(column));
+    case.words([filled.number.into(), filled.count as u64, filled.own.into()]);
+    case.if_short()
+}
+
+pub fn stored_cases(cases: &mut Vec<Case>) {
+    let mut random = Random::new(1, "convert_warps_and_delays_to_sm_stops");
+    cases.extend((0..).filter_map(|turn| stored_case(&Lists::any(turn, &mut random))).take(stored::EACH));
 }
 
 pub fn compare_all(work: Work, total: &mut Total) {
@@ -204,15 +237,7 @@ pub fn compare_all(work: Work, total: &mut Total) {
     let (mut compared, mut shown) = (0, Vec::new());
     for turn in 0..work.lists() {
         let lists = Lists::any(turn, &mut random);
-        let entries = lists.stops.len() / 2 + lists.delays.0.len() + lists.warps.0.len();
-        let size = match random.below(8) {
-            0 => 0,
-            1 => 2 * entries.saturating_sub(1),
-            2 => 2 * random.below(entries as u64 + 1) as usize,
-            3 => 2 * entries + 1,
-            4 => 2 * entries + 6,
-            _ => 2 * entries,
-        };
+        let size = work_size(&lists, &mut random);
         compared += 1;
         if let Some(difference) = differs(&lists, size, &mut random) {
             shown.push(difference);

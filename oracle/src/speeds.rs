@@ -4,6 +4,7 @@ use crate::cases::{Work, power};
 use crate::lists;
 use crate::numbers::Number;
 use crate::random::Random;
+use crate::stored::{self, Case};
 use crate::tally::Total;
 use crate::tidying::Outcome;
 use crate::timing::{SpeedSegment, SpeedUnit, probe};
@@ -197,7 +198,10 @@ impl Asked {
 
     /// By the original where the list is taken and its result has room.
     fn expected(&self) -> Left {
-        let mut rooms = self.rooms();
+        self.expected_over(self.rooms())
+    }
+
+    fn expected_over(&self, mut rooms: Columns) -> Left {
         let number = self.list.number();
         if number != 0 {
             return Left { outcome: Outcome::refused(number), rooms };
@@ -212,6 +216,21 @@ impl Asked {
             rooms.units[place] = matches!(entry.unit, SpeedUnit::Seconds).into();
         }
         Left { outcome: Outcome { number: 0, count: result.len() }, rooms }
+    }
+
+    /// A case to be replayed.
+    fn stored(&self) -> Case {
+        let asked = Self { rooms: [stored::ROOM; 4], ..self.clone() };
+        let numbers = [(); 3].map(|()| vec![stored::UNTOUCHED; stored::ROOM]);
+        let units = vec![stored::UNTOUCHED_BYTE; stored::ROOM];
+        let Left { outcome, rooms } = asked.expected_over(Columns { numbers, units });
+        let mut case = Case::new(4);
+        self.list.numbers.iter().for_each(|column| case.column(column));
+        case.column(&self.list.units);
+        rooms.numbers.iter().for_each(|room| case.column(&room[..outcome.count]));
+        case.column(&rooms.units[..outcome.count]);
+        case.words([outcome.number.into(), outcome.count as u64]);
+        case
     }
 
     fn differs(&self, port: Port) -> bool {
@@ -288,6 +307,11 @@ pub fn compare(work: Work, port: Port) -> Found {
     }
     found.plainest = found.plainest.map(|asked| asked.plainest(port));
     found
+}
+
+pub fn stored_cases(cases: &mut Vec<Case>) {
+    let mut random = Random::new(1, NAME);
+    stored::add(cases, |turn| Asked::by_chance(turn, &mut random).stored());
 }
 
 pub fn compare_all(work: Work, total: &mut Total) {

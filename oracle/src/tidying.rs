@@ -4,6 +4,7 @@ use crate::cases::{Work, power};
 use crate::lists;
 use crate::numbers::Number;
 use crate::random::Random;
+use crate::stored::{self, Case};
 use crate::tally::Total;
 use crate::timing::{Segment, probe};
 
@@ -234,7 +235,10 @@ impl Asked {
 
     /// By the original where the list is taken and its result has room.
     fn expected<T: Tidying>(&self) -> Left {
-        let mut rooms = self.rooms();
+        self.expected_over::<T>(self.rooms())
+    }
+
+    fn expected_over<T: Tidying>(&self, mut rooms: [Vec<f64>; 2]) -> Left {
         let number = list_number::<T>(&self.beats, &self.values);
         if number != 0 {
             return Left { outcome: Outcome::refused(number), rooms };
@@ -247,6 +251,17 @@ impl Asked {
             (rooms[0][place], rooms[1][place]) = T::beat_and_value(entry);
         }
         Left { outcome: Outcome { number: 0, count: result.len() }, rooms }
+    }
+
+    /// A case to be replayed.
+    fn stored<T: Tidying>(&self, call: u64) -> Case {
+        let asked = Self { rooms: [stored::ROOM; 2], ..self.clone() };
+        let Left { outcome, rooms } = asked.expected_over::<T>([(); 2].map(|()| vec![stored::UNTOUCHED; stored::ROOM]));
+        let mut case = Case::new(call);
+        [&self.beats, &self.values].into_iter().for_each(|column| case.column(column));
+        rooms.iter().for_each(|room| case.column(&room[..outcome.count]));
+        case.words([outcome.number.into(), outcome.count as u64]);
+        case
     }
 
     fn differs<T: Tidying>(&self) -> bool {
@@ -326,6 +341,17 @@ pub fn compare<T: Tidying>(work: Work) -> Found {
     }
     found.plainest = found.plainest.map(Asked::plainest::<T>);
     found
+}
+
+/// Cases for each call, from its number on.
+pub fn stored_cases(cases: &mut Vec<Case>) {
+    fn add<T: Tidying>(call: u64, cases: &mut Vec<Case>) {
+        let mut random = Random::new(1, T::NAME);
+        stored::add(cases, |turn| Asked::by_chance::<T>(turn, &mut random).stored::<T>(call));
+    }
+    add::<Rows>(1, cases);
+    add::<Tempos>(2, cases);
+    add::<Scrolls>(3, cases);
 }
 
 pub fn compare_all(work: Work, total: &mut Total) {

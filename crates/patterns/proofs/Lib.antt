@@ -1,1 +1,2 @@
 pub mod Nan
+pub mod WordRead

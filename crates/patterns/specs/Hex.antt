@@ -16,3 +16,16 @@ hexValue byte =
 -- the digit of a number below 16, as a byte
 unfoldable pub hexDigit : ℕ → ℕ
 hexDigit value = pick (ltb value 10) (value + 48) (value + 55)
+
+-- what a place's digit stands for; 0 where there is no digit
+abbrev pub digitAt : List ℕ → ℕ → ℕ
+digitAt text at = hexValue (getD text at 0) % 16
+
+-- so many digits from a place on, behind a number of which the last fifteen digits are kept
+unfoldable pub digitsFrom : ℕ → List ℕ → ℕ → ℕ → ℕ
+digitsFrom zero text at number = number
+digitsFrom (suc left) text at number = digitsFrom left text (suc at) (number % 0x1000000000000000 * 16 + digitAt text at)
+
+-- the number of the sixteen digits from a place on
+abbrev pub wordAt : List ℕ → ℕ → ℕ
+wordAt text at = digitsFrom 16 text at 0

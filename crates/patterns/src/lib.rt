@@ -2,7 +2,8 @@
 ghost use mathlib.Core.Path.{_≡_};
 ghost use Prim.Native.Nat.{_%_};
 ghost use lib.Ieee.{ofBits, toBits, binary32, binary64};
-ghost use Rattle.patterns.specs.Hex.{hexValue, hexDigit};
+ghost use Rattle.patterns.specs.Hex.{hexValue, hexDigit, wordAt};
+ghost use lib.ListN.{getD};
 
 // The f64 of a pattern; every NaN pattern gives the one NaN.
 pub fn f64_of_bits(bits: u64) -> f64
@@ -74,4 +75,28 @@ pub fn hex_digit(value: u8) -> u8
         return low + 48;
     }
     low + 55
+}
+
+// The byte at a place; past the end 0, which is no digit.
+fn byte_at(text: &[u8], at: usize) -> u8
+    ensures { λ r. ⌜ r ≡ getD (now (text .entry)) at 0 ⌝ }
+{
+    if at < text.len() { text[at] } else { 0 }
+}
+
+// The number of the sixteen digits from a place on; what is no digit, or past the end, counts as 0.
+pub fn hex_word(text: &[u8], at: usize) -> u64
+    ensures { λ r. ⌜ r ≡ wordAt (now (text .entry)) at ⌝ }
+{
+    if at >= text.len() {
+        return 0;
+    }
+    let mut number: u64 = 0;
+    let mut i = 0;
+    while i < 16 {
+        let digit = hex_value(byte_at(text, at + i)) % 16;
+        number = (number % 0x1000_0000_0000_0000) * 16 + digit as u64;
+        i += 1;
+    }
+    number
 }

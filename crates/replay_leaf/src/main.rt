@@ -58,20 +58,6 @@ fn same(call: u8, bits: u64, stored: u64) -> bool {
     }
 }
 
-// The number of the 16 digits from a place on; a byte that is no digit counts as 0.
-fn number_at(text: &[u8], at: usize) -> u64
-    requires { ⌜ at + 16 ≤ length (now text) ⌝ }
-{
-    let mut number: u64 = 0;
-    let mut i = 0;
-    while i < 16 {
-        let digit = patterns::hex_value(text[at + i]) % 16;
-        number = (number % 0x1000_0000_0000_0000) * 16 + digit as u64;
-        i += 1;
-    }
-    number
-}
-
 fn one_if(different: bool) -> u64
     ensures { λ r. ⌜ r ≤ 1 ⌝ }
 {
@@ -84,8 +70,8 @@ fn replay(text: &[u8]) -> Tally {
     let mut different: u64 = 0;
     let mut at = 0;
     while text.len() - at >= LINE {
-        let bits = number_at(text, at + 2);
-        let stored = number_at(text, at + 19);
+        let bits = patterns::hex_word(text, at + 2);
+        let stored = patterns::hex_word(text, at + 19);
         different += one_if(!same(text[at], bits, stored));
         replayed += 1;
         at += LINE;

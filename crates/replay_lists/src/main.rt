@@ -1,0 +1,993 @@
+// Replays the original's stored answers for the calls that take lists, from standard input: words of 16 hexadecimal digits, one a line.
+// The first says how many cases follow. A case is the call's number, then columns, each with its length before it, and the answer.
+// A room for results has 300 places, each of which holds the same number before the call; what the call has to write is stored.
+use clock::Answer;
+use clock::Cursor;
+use columns::Outcome;
+use libc::STDIN_FILENO;
+use libc::STDOUT_FILENO;
+use lookup::Looked;
+use raw_lists::Processed;
+use walk::State;
+ghost use Prim.Native.Nat.{_≤_};
+ghost use lib.ListN.{length};
+
+// The most numbers of a stored column, and the bytes of a line.
+const MOST: usize = 1100;
+
+const LINE: usize = 17;
+
+// Whether a case's call answered as stored, and where the next case begins.
+struct Replayed {
+    same: bool,
+    next: usize,
+}
+
+// ---- words
+
+fn both(one: bool, other: bool) -> bool {
+    if one {
+        return other;
+    }
+    false
+}
+
+// A place so many further on; places far past every text are one.
+fn further(at: usize, more: usize) -> usize {
+    if at >= 0x4000_0000 {
+        return 0x4000_0000;
+    }
+    if more >= 0x4000_0000 {
+        return 0x4000_0000;
+    }
+    at + more
+}
+
+// Past the end 0.
+fn word_at(words: &[u64], at: usize) -> u64 {
+    if at < words.len() { words[at] } else { 0 }
+}
+
+// A column's length, held at the most.
+fn size_at(words: &[u64], at: usize) -> usize {
+    let size = word_at(words, at);
+    if size > 1100 {
+        return MOST;
+    }
+    size as usize
+}
+
+// The place behind a column.
+fn behind(words: &[u64], at: usize) -> usize {
+    further(at, further(1, size_at(words, at)))
+}
+
+fn entry_at(words: &[u64], column: usize, i: usize) -> u64 {
+    word_at(words, further(column, further(1, i)))
+}
+
+fn f32_of_word(word: u64) -> f32 {
+    patterns::f32_of_bits((word % 0x1_0000_0000) as u32)
+}
+
+// The whole number whose two's complement stands in the lower half.
+fn row_of_word(word: u64) -> i32 {
+    let low = (word % 0x1_0000_0000) as u32;
+    if low < 0x8000_0000 {
+        return ieee::lrint_f64(low as f64);
+    }
+    ieee::lrint_f64((low as f64) - 4294967296.0)
+}
+
+fn is_f64(x: f64, word: u64) -> bool {
+    patterns::bits_of_f64(x) == word
+}
+
+fn is_row(row: i32, word: u64) -> bool {
+    row == row_of_word(word)
+}
+
+fn is_byte(byte: u8, word: u64) -> bool {
+    byte as u64 == word
+}
+
+fn is_u32(number: u32, word: u64) -> bool {
+    number as u64 == word
+}
+
+fn is_yes(yes: bool, word: u64) -> bool {
+    if yes {
+        return word == 1;
+    }
+    word == 0
+}
+
+// ---- columns: parts of the words read as numbers, and held against what is stored
+
+// All words as numbers of each kind that a column has.
+fn read_f64s(words: &[u64], to: &mut [f64]) {
+    let mut i = 0;
+    while i < to.len() {
+        to[i] = patterns::f64_of_bits(word_at(words, i));
+        i += 1;
+    }
+}
+
+fn read_f32s(words: &[u64], to: &mut [f32]) {
+    let mut i = 0;
+    while i < to.len() {
+        to[i] = f32_of_word(word_at(words, i));
+        i += 1;
+    }
+}
+
+fn read_rows(words: &[u64], to: &mut [i32]) {
+    let mut i = 0;
+    while i < to.len() {
+        to[i] = row_of_word(word_at(words, i));
+        i += 1;
+    }
+}
+
+fn read_bytes(words: &[u64], to: &mut [u8]) {
+    let mut i = 0;
+    while i < to.len() {
+        to[i] = (word_at(words, i) % 256) as u8;
+        i += 1;
+    }
+}
+
+// The column at a place; none where it would reach past the end.
+fn f64_column<'a>(numbers: &'a [f64], words: &[u64], at: usize) -> &'a [f64] {
+    let from = further(at, 1);
+    let size = size_at(words, at);
+    if from > numbers.len() {
+        return &numbers[..0];
+    }
+    if size > numbers.len() - from {
+        return &numbers[..0];
+    }
+    &numbers[from..from + size]
+}
+
+// The column at a place; none where it would reach past the end.
+fn f32_column<'a>(numbers: &'a [f32], words: &[u64], at: usize) -> &'a [f32] {
+    let from = further(at, 1);
+    let size = size_at(words, at);
+    if from > numbers.len() {
+        return &numbers[..0];
+    }
+    if size > numbers.len() - from {
+        return &numbers[..0];
+    }
+    &numbers[from..from + size]
+}
+
+// The column at a place; none where it would reach past the end.
+fn row_column<'a>(numbers: &'a [i32], words: &[u64], at: usize) -> &'a [i32] {
+    let from = further(at, 1);
+    let size = size_at(words, at);
+    if from > numbers.len() {
+        return &numbers[..0];
+    }
+    if size > numbers.len() - from {
+        return &numbers[..0];
+    }
+    &numbers[from..from + size]
+}
+
+// The column at a place; none where it would reach past the end.
+fn byte_column<'a>(numbers: &'a [u8], words: &[u64], at: usize) -> &'a [u8] {
+    let from = further(at, 1);
+    let size = size_at(words, at);
+    if from > numbers.len() {
+        return &numbers[..0];
+    }
+    if size > numbers.len() - from {
+        return &numbers[..0];
+    }
+    &numbers[from..from + size]
+}
+
+// What a place has to hold: what is stored, and past that what was there before.
+fn entry_or(words: &[u64], column: usize, size: usize, i: usize, untouched: u64) -> u64 {
+    if i < size {
+        return entry_at(words, column, i);
+    }
+    untouched
+}
+
+fn same_f64s(words: &[u64], column: usize, found: &[f64]) -> bool {
+    let size = size_at(words, column);
+    let mut same = true;
+    let mut i = 0;
+    while i < found.len() {
+        let stored = entry_or(words, column, size, i, 0x3FF8_0000_0000_0000);
+        same = both(same, is_f64(found[i], stored));
+        i += 1;
+    }
+    same
+}
+
+fn same_f32s(words: &[u64], column: usize, found: &[f32]) -> bool {
+    let size = size_at(words, column);
+    let mut same = true;
+    let mut i = 0;
+    while i < found.len() {
+        let stored = entry_or(words, column, size, i, 0x3FC0_0000);
+        same = both(same, patterns::bits_of_f32(found[i]) as u64 == stored);
+        i += 1;
+    }
+    same
+}
+
+fn same_rows(words: &[u64], column: usize, found: &[i32]) -> bool {
+    let size = size_at(words, column);
+    let mut same = true;
+    let mut i = 0;
+    while i < found.len() {
+        let stored = entry_or(words, column, size, i, 77);
+        same = both(same, is_row(found[i], stored));
+        i += 1;
+    }
+    same
+}
+
+fn same_bytes(words: &[u64], column: usize, found: &[u8]) -> bool {
+    let size = size_at(words, column);
+    let mut same = true;
+    let mut i = 0;
+    while i < found.len() {
+        let stored = entry_or(words, column, size, i, 77);
+        same = both(same, is_byte(found[i], stored));
+        i += 1;
+    }
+    same
+}
+
+fn same_u32s(words: &[u64], column: usize, found: &[u32]) -> bool {
+    let size = size_at(words, column);
+    let mut same = true;
+    let mut i = 0;
+    while i < found.len() {
+        let stored = entry_or(words, column, size, i, 77);
+        same = both(same, is_u32(found[i], stored));
+        i += 1;
+    }
+    same
+}
+
+fn same_counts(words: &[u64], column: usize, found: &[usize]) -> bool {
+    let size = size_at(words, column);
+    let mut same = true;
+    let mut i = 0;
+    while i < found.len() {
+        let stored = entry_or(words, column, size, i, 77);
+        same = both(same, found[i] as u64 == stored);
+        i += 1;
+    }
+    same
+}
+
+fn same_outcome(words: &[u64], at: usize, outcome: Outcome) -> bool {
+    both(
+        is_u32(outcome.number, word_at(words, at)),
+        outcome.count as u64 == word_at(words, further(at, 1)),
+    )
+}
+
+// ---- tidying
+
+fn tidy(
+    call: u64,
+    beats: &[f64],
+    values: &[f64],
+    out_beats: &mut [f64],
+    out_values: &mut [f64],
+) -> Outcome {
+    if call == 1 {
+        return tidy_rows::tidy_row_segments(beats, values, out_beats, out_values);
+    }
+    if call == 2 {
+        return tidy_tempos::tidy_bpms(beats, values, out_beats, out_values);
+    }
+    tidy_scrolls::tidy_scroll_segments(beats, values, out_beats, out_values)
+}
+
+// Rows, tempos and scrolls: two columns in, two out.
+fn replay_pair(words: &[u64], numbers: &[f64], at: usize) -> Replayed {
+    let beats_at = further(at, 1);
+    let values_at = behind(words, beats_at);
+    let out_beats_at = behind(words, values_at);
+    let out_values_at = behind(words, out_beats_at);
+    let answer_at = behind(words, out_values_at);
+    let mut out_beats_room = [1.5; 300];
+    let mut out_values_room = [1.5; 300];
+    let outcome = tidy(
+        word_at(words, at),
+        f64_column(numbers, words, beats_at),
+        f64_column(numbers, words, values_at),
+        &mut out_beats_room,
+        &mut out_values_room,
+    );
+    let mut same = same_outcome(words, answer_at, outcome);
+    same = both(same, same_f64s(words, out_beats_at, &out_beats_room));
+    same = both(same, same_f64s(words, out_values_at, &out_values_room));
+    Replayed {
+        same: same,
+        next: further(answer_at, 2),
+    }
+}
+
+// Speeds.
+fn replay_speeds(words: &[u64], numbers: &[f64], bytes: &[u8], at: usize) -> Replayed {
+    let beats_at = further(at, 1);
+    let ratios_at = behind(words, beats_at);
+    let delays_at = behind(words, ratios_at);
+    let units_at = behind(words, delays_at);
+    let out_beats_at = behind(words, units_at);
+    let out_ratios_at = behind(words, out_beats_at);
+    let out_delays_at = behind(words, out_ratios_at);
+    let out_units_at = behind(words, out_delays_at);
+    let answer_at = behind(words, out_units_at);
+    let mut out_beats_room = [1.5; 300];
+    let mut out_ratios_room = [1.5; 300];
+    let mut out_delays_room = [1.5; 300];
+    let mut out_units_room = [77u8; 300];
+    let outcome = tidy_speeds::tidy_speed_segments(
+        f64_column(numbers, words, beats_at),
+        f64_column(numbers, words, ratios_at),
+        f64_column(numbers, words, delays_at),
+        byte_column(bytes, words, units_at),
+        &mut out_beats_room,
+        &mut out_ratios_room,
+        &mut out_delays_room,
+        &mut out_units_room,
+    );
+    let mut same = same_outcome(words, answer_at, outcome);
+    same = both(same, same_f64s(words, out_beats_at, &out_beats_room));
+    same = both(same, same_f64s(words, out_ratios_at, &out_ratios_room));
+    same = both(same, same_f64s(words, out_delays_at, &out_delays_room));
+    same = both(same, same_bytes(words, out_units_at, &out_units_room));
+    Replayed {
+        same: same,
+        next: further(answer_at, 2),
+    }
+}
+
+// ---- processing
+
+fn same_processed(words: &[u64], at: usize, processed: Processed) -> bool {
+    let same = both(
+        is_u32(processed.number, word_at(words, at)),
+        processed.tempos as u64 == word_at(words, further(at, 1)),
+    );
+    let same = both(
+        same,
+        processed.stops as u64 == word_at(words, further(at, 2)),
+    );
+    let same = both(
+        same,
+        processed.warps as u64 == word_at(words, further(at, 3)),
+    );
+    both(
+        same,
+        is_f64(processed.offset, word_at(words, further(at, 4))),
+    )
+}
+
+// SSC.
+fn replay_ssc(words: &[u64], numbers: &[f64], at: usize) -> Replayed {
+    let tempo_beats_at = further(at, 1);
+    let tempo_values_at = behind(words, tempo_beats_at);
+    let stop_beats_at = behind(words, tempo_values_at);
+    let stop_values_at = behind(words, stop_beats_at);
+    let out_tempo_beats_at = behind(words, stop_values_at);
+    let out_tempo_values_at = behind(words, out_tempo_beats_at);
+    let out_stop_beats_at = behind(words, out_tempo_values_at);
+    let out_stop_values_at = behind(words, out_stop_beats_at);
+    let answer_at = behind(words, out_stop_values_at);
+    let mut out_tempo_beats_room = [1.5; 300];
+    let mut out_tempo_values_room = [1.5; 300];
+    let mut out_stop_beats_room = [1.5; 300];
+    let mut out_stop_values_room = [1.5; 300];
+    let processed = process_ssc::process_bpms_and_stops_ssc(
+        f64_column(numbers, words, tempo_beats_at),
+        f64_column(numbers, words, tempo_values_at),
+        f64_column(numbers, words, stop_beats_at),
+        f64_column(numbers, words, stop_values_at),
+        &mut out_tempo_beats_room,
+        &mut out_tempo_values_room,
+        &mut out_stop_beats_room,
+        &mut out_stop_values_room,
+    );
+    let mut same = same_processed(words, answer_at, processed);
+    same = both(
+        same,
+        same_f64s(words, out_tempo_beats_at, &out_tempo_beats_room),
+    );
+    same = both(
+        same,
+        same_f64s(words, out_tempo_values_at, &out_tempo_values_room),
+    );
+    same = both(
+        same,
+        same_f64s(words, out_stop_beats_at, &out_stop_beats_room),
+    );
+    same = both(
+        same,
+        same_f64s(words, out_stop_values_at, &out_stop_values_room),
+    );
+    Replayed {
+        same: same,
+        next: further(answer_at, 5),
+    }
+}
+
+// SM.
+fn replay_sm(words: &[u64], numbers: &[f64], at: usize) -> Replayed {
+    let tempo_beats_at = further(at, 1);
+    let tempo_values_at = behind(words, tempo_beats_at);
+    let stop_beats_at = behind(words, tempo_values_at);
+    let stop_values_at = behind(words, stop_beats_at);
+    let out_tempo_beats_at = behind(words, stop_values_at);
+    let out_tempo_values_at = behind(words, out_tempo_beats_at);
+    let out_stop_beats_at = behind(words, out_tempo_values_at);
+    let out_stop_values_at = behind(words, out_stop_beats_at);
+    let out_warp_beats_at = behind(words, out_stop_values_at);
+    let out_warp_lengths_at = behind(words, out_warp_beats_at);
+    let answer_at = behind(words, out_warp_lengths_at);
+    let mut out_tempo_beats_room = [1.5; 300];
+    let mut out_tempo_values_room = [1.5; 300];
+    let mut out_stop_beats_room = [1.5; 300];
+    let mut out_stop_values_room = [1.5; 300];
+    let mut out_warp_beats_room = [1.5; 300];
+    let mut out_warp_lengths_room = [1.5; 300];
+    let processed = process_sm::process_bpms_and_stops_sm(
+        f64_column(numbers, words, tempo_beats_at),
+        f64_column(numbers, words, tempo_values_at),
+        f64_column(numbers, words, stop_beats_at),
+        f64_column(numbers, words, stop_values_at),
+        &mut out_tempo_beats_room,
+        &mut out_tempo_values_room,
+        &mut out_stop_beats_room,
+        &mut out_stop_values_room,
+        &mut out_warp_beats_room,
+        &mut out_warp_lengths_room,
+    );
+    let mut same = same_processed(words, answer_at, processed);
+    same = both(
+        same,
+        same_f64s(words, out_tempo_beats_at, &out_tempo_beats_room),
+    );
+    same = both(
+        same,
+        same_f64s(words, out_tempo_values_at, &out_tempo_values_room),
+    );
+    same = both(
+        same,
+        same_f64s(words, out_stop_beats_at, &out_stop_beats_room),
+    );
+    same = both(
+        same,
+        same_f64s(words, out_stop_values_at, &out_stop_values_room),
+    );
+    same = both(
+        same,
+        same_f64s(words, out_warp_beats_at, &out_warp_beats_room),
+    );
+    same = both(
+        same,
+        same_f64s(words, out_warp_lengths_at, &out_warp_lengths_room),
+    );
+    Replayed {
+        same: same,
+        next: further(answer_at, 5),
+    }
+}
+
+// ---- SM stops, row store, lookups
+
+// The stops of an SM chart.
+fn replay_sm_stops(words: &[u64], floats: &[f32], at: usize) -> Replayed {
+    let tempo_beats_at = further(at, 1);
+    let tempo_values_at = behind(words, tempo_beats_at);
+    let stops_at = behind(words, tempo_values_at);
+    let delay_beats_at = behind(words, stops_at);
+    let delay_values_at = behind(words, delay_beats_at);
+    let warp_beats_at = behind(words, delay_values_at);
+    let warp_lengths_at = behind(words, warp_beats_at);
+    let work_at = behind(words, warp_lengths_at);
+    let answer_at = behind(words, work_at);
+    let mut work_room = [1.5f32; 300];
+    let filled = sm_stops::convert_warps_and_delays_to_sm_stops(
+        f32_column(floats, words, tempo_beats_at),
+        f32_column(floats, words, tempo_values_at),
+        f32_column(floats, words, stops_at),
+        f32_column(floats, words, delay_beats_at),
+        f32_column(floats, words, delay_values_at),
+        f32_column(floats, words, warp_beats_at),
+        f32_column(floats, words, warp_lengths_at),
+        &mut work_room,
+    );
+    let mut same = both(
+        is_u32(filled.number, word_at(words, answer_at)),
+        filled.count as u64 == word_at(words, further(answer_at, 1)),
+    );
+    same = both(
+        same,
+        is_yes(filled.own, word_at(words, further(answer_at, 2))),
+    );
+    same = both(same, same_f32s(words, work_at, &work_room));
+    Replayed {
+        same: same,
+        next: further(answer_at, 3),
+    }
+}
+
+// The row store.
+fn replay_row_store(words: &[u64], floats: &[f32], at: usize) -> Replayed {
+    let stop_beats_at = further(at, 1);
+    let stop_values_at = behind(words, stop_beats_at);
+    let delay_beats_at = behind(words, stop_values_at);
+    let delay_values_at = behind(words, delay_beats_at);
+    let warp_beats_at = behind(words, delay_values_at);
+    let warp_lengths_at = behind(words, warp_beats_at);
+    let fake_beats_at = behind(words, warp_lengths_at);
+    let fake_lengths_at = behind(words, fake_beats_at);
+    let stored_at = behind(words, fake_lengths_at);
+    let answer_at = behind(words, stored_at);
+    let mut stored_room = [77i32; 300];
+    let stored = row_store::build_segment_row_storage(
+        f32_column(floats, words, stop_beats_at),
+        f32_column(floats, words, stop_values_at),
+        f32_column(floats, words, delay_beats_at),
+        f32_column(floats, words, delay_values_at),
+        f32_column(floats, words, warp_beats_at),
+        f32_column(floats, words, warp_lengths_at),
+        f32_column(floats, words, fake_beats_at),
+        f32_column(floats, words, fake_lengths_at),
+        &mut stored_room,
+    );
+    let mut same = both(
+        is_u32(stored.number, word_at(words, answer_at)),
+        stored.stops as u64 == word_at(words, further(answer_at, 1)),
+    );
+    same = both(
+        same,
+        stored.delays as u64 == word_at(words, further(answer_at, 2)),
+    );
+    same = both(
+        same,
+        stored.warps as u64 == word_at(words, further(answer_at, 3)),
+    );
+    same = both(
+        same,
+        stored.fakes as u64 == word_at(words, further(answer_at, 4)),
+    );
+    same = both(same, same_rows(words, stored_at, &stored_room));
+    Replayed {
+        same: same,
+        next: further(answer_at, 5),
+    }
+}
+
+fn same_looked(words: &[u64], at: usize, looked: Looked) -> bool {
+    both(
+        is_u32(looked.number, word_at(words, at)),
+        is_yes(looked.yes, word_at(words, further(at, 1))),
+    )
+}
+
+// All six lookups, of a row and of a beat.
+fn replay_lookups(words: &[u64], floats: &[f32], at: usize) -> Replayed {
+    let stop_beats_at = further(at, 1);
+    let stop_values_at = behind(words, stop_beats_at);
+    let delay_beats_at = behind(words, stop_values_at);
+    let delay_values_at = behind(words, delay_beats_at);
+    let warp_beats_at = behind(words, delay_values_at);
+    let warp_lengths_at = behind(words, warp_beats_at);
+    let fake_beats_at = behind(words, warp_lengths_at);
+    let fake_lengths_at = behind(words, fake_beats_at);
+    let answer_at = behind(words, fake_lengths_at);
+    let row = row_of_word(word_at(words, answer_at));
+    let beat = patterns::f64_of_bits(word_at(words, further(answer_at, 1)));
+    let warped = lookup::is_warp_at_row(
+        f32_column(floats, words, stop_beats_at),
+        f32_column(floats, words, stop_values_at),
+        f32_column(floats, words, delay_beats_at),
+        f32_column(floats, words, delay_values_at),
+        f32_column(floats, words, warp_beats_at),
+        f32_column(floats, words, warp_lengths_at),
+        row,
+    );
+    let warped_beat = lookup::is_warp_at_beat(
+        f32_column(floats, words, stop_beats_at),
+        f32_column(floats, words, stop_values_at),
+        f32_column(floats, words, delay_beats_at),
+        f32_column(floats, words, delay_values_at),
+        f32_column(floats, words, warp_beats_at),
+        f32_column(floats, words, warp_lengths_at),
+        beat,
+    );
+    let fake = lookup::is_fake_at_row(
+        f32_column(floats, words, fake_beats_at),
+        f32_column(floats, words, fake_lengths_at),
+        row,
+    );
+    let fake_beat = lookup::is_fake_at_beat(
+        f32_column(floats, words, fake_beats_at),
+        f32_column(floats, words, fake_lengths_at),
+        beat,
+    );
+    let judgable = lookup::is_judgable_at_row(
+        f32_column(floats, words, stop_beats_at),
+        f32_column(floats, words, stop_values_at),
+        f32_column(floats, words, delay_beats_at),
+        f32_column(floats, words, delay_values_at),
+        f32_column(floats, words, warp_beats_at),
+        f32_column(floats, words, warp_lengths_at),
+        f32_column(floats, words, fake_beats_at),
+        f32_column(floats, words, fake_lengths_at),
+        row,
+    );
+    let judgable_beat = lookup::is_judgable_at_beat(
+        f32_column(floats, words, stop_beats_at),
+        f32_column(floats, words, stop_values_at),
+        f32_column(floats, words, delay_beats_at),
+        f32_column(floats, words, delay_values_at),
+        f32_column(floats, words, warp_beats_at),
+        f32_column(floats, words, warp_lengths_at),
+        f32_column(floats, words, fake_beats_at),
+        f32_column(floats, words, fake_lengths_at),
+        beat,
+    );
+    let same = same_looked(words, further(answer_at, 2), warped);
+    let same = both(same, same_looked(words, further(answer_at, 4), warped_beat));
+    let same = both(same, same_looked(words, further(answer_at, 6), fake));
+    let same = both(same, same_looked(words, further(answer_at, 8), fake_beat));
+    let same = both(same, same_looked(words, further(answer_at, 10), judgable));
+    let same = both(
+        same,
+        same_looked(words, further(answer_at, 12), judgable_beat),
+    );
+    Replayed {
+        same: same,
+        next: further(answer_at, 14),
+    }
+}
+
+// Many rows after one test.
+fn replay_judgable_rows(words: &[u64], floats: &[f32], rows: &[i32], at: usize) -> Replayed {
+    let stop_beats_at = further(at, 1);
+    let stop_values_at = behind(words, stop_beats_at);
+    let delay_beats_at = behind(words, stop_values_at);
+    let delay_values_at = behind(words, delay_beats_at);
+    let warp_beats_at = behind(words, delay_values_at);
+    let warp_lengths_at = behind(words, warp_beats_at);
+    let fake_beats_at = behind(words, warp_lengths_at);
+    let fake_lengths_at = behind(words, fake_beats_at);
+    let asked_at = behind(words, fake_lengths_at);
+    let out_at = behind(words, asked_at);
+    let answer_at = behind(words, out_at);
+    let mut out_room = [77u8; 300];
+    let outcome = lookup::judgable_rows(
+        f32_column(floats, words, stop_beats_at),
+        f32_column(floats, words, stop_values_at),
+        f32_column(floats, words, delay_beats_at),
+        f32_column(floats, words, delay_values_at),
+        f32_column(floats, words, warp_beats_at),
+        f32_column(floats, words, warp_lengths_at),
+        f32_column(floats, words, fake_beats_at),
+        f32_column(floats, words, fake_lengths_at),
+        row_column(rows, words, asked_at),
+        &mut out_room,
+    );
+    let mut same = same_outcome(words, answer_at, outcome);
+    same = both(same, same_bytes(words, out_at, &out_room));
+    Replayed {
+        same: same,
+        next: further(answer_at, 2),
+    }
+}
+
+// ---- the clock
+
+fn same_cursor(words: &[u64], at: usize, cursor: Cursor) -> bool {
+    let state = cursor.state;
+    let same = both(
+        state.tempos as u64 == word_at(words, at),
+        state.stops as u64 == word_at(words, further(at, 1)),
+    );
+    let same = both(same, state.delays as u64 == word_at(words, further(at, 2)));
+    let same = both(same, state.warps as u64 == word_at(words, further(at, 3)));
+    let same = both(same, is_row(state.row, word_at(words, further(at, 4))));
+    let same = both(same, is_yes(state.warping, word_at(words, further(at, 5))));
+    let same = both(same, is_f64(state.time, word_at(words, further(at, 6))));
+    let same = both(same, is_f64(state.end, word_at(words, further(at, 7))));
+    both(same, is_row(cursor.asked, word_at(words, further(at, 8))))
+}
+
+fn cursor_of_words(words: &[u64], at: usize) -> Cursor {
+    Cursor {
+        state: State {
+            tempos: word_at(words, at) as usize,
+            stops: word_at(words, further(at, 1)) as usize,
+            delays: word_at(words, further(at, 2)) as usize,
+            warps: word_at(words, further(at, 3)) as usize,
+            row: row_of_word(word_at(words, further(at, 4))),
+            warping: word_at(words, further(at, 5)) == 1,
+            time: patterns::f64_of_bits(word_at(words, further(at, 6))),
+            end: patterns::f64_of_bits(word_at(words, further(at, 7))),
+        },
+        asked: row_of_word(word_at(words, further(at, 8))),
+    }
+}
+
+// What is asked only of a timing that is taken.
+fn if_taken(number: u32, same: bool) -> bool {
+    if number == 0 {
+        return same;
+    }
+    true
+}
+
+// A question's answer, and the cursor that it hands back.
+fn same_answer(words: &[u64], at: usize, answer: Answer) -> bool {
+    let same = both(
+        is_u32(answer.number, word_at(words, at)),
+        is_f64(answer.time, word_at(words, further(at, 1))),
+    );
+    let same = both(same, answer.count as u64 == word_at(words, further(at, 2)));
+    both(same, same_cursor(words, further(at, 3), answer.cursor))
+}
+
+// What the timing answers, a question to a lent cursor in both forms, and the same of a fresh one.
+fn replay_question(words: &[u64], floats: &[f32], at: usize) -> Replayed {
+    let tempo_beats_at = further(at, 1);
+    let tempo_values_at = behind(words, tempo_beats_at);
+    let stop_beats_at = behind(words, tempo_values_at);
+    let stop_values_at = behind(words, stop_beats_at);
+    let delay_beats_at = behind(words, stop_values_at);
+    let delay_values_at = behind(words, delay_beats_at);
+    let warp_beats_at = behind(words, delay_values_at);
+    let warp_lengths_at = behind(words, warp_beats_at);
+    let answer_at = behind(words, warp_lengths_at);
+    let offset = patterns::f64_of_bits(word_at(words, answer_at));
+    let global = patterns::f64_of_bits(word_at(words, further(answer_at, 1)));
+    let beat = patterns::f64_of_bits(word_at(words, further(answer_at, 2)));
+    let cursor = cursor_of_words(words, further(answer_at, 3));
+    let number = timing_tests::check_timing(
+        f32_column(floats, words, tempo_beats_at),
+        f32_column(floats, words, tempo_values_at),
+        f32_column(floats, words, stop_beats_at),
+        f32_column(floats, words, stop_values_at),
+        f32_column(floats, words, delay_beats_at),
+        f32_column(floats, words, delay_values_at),
+        f32_column(floats, words, warp_beats_at),
+        f32_column(floats, words, warp_lengths_at),
+        offset,
+        global,
+    );
+    let answer = cursor.time_for_beat(
+        f32_column(floats, words, tempo_beats_at),
+        f32_column(floats, words, tempo_values_at),
+        f32_column(floats, words, stop_beats_at),
+        f32_column(floats, words, stop_values_at),
+        f32_column(floats, words, delay_beats_at),
+        f32_column(floats, words, delay_values_at),
+        f32_column(floats, words, warp_beats_at),
+        f32_column(floats, words, warp_lengths_at),
+        offset,
+        global,
+        beat,
+    );
+    let fresh = clock::get_time_for_beat(
+        f32_column(floats, words, tempo_beats_at),
+        f32_column(floats, words, tempo_values_at),
+        f32_column(floats, words, stop_beats_at),
+        f32_column(floats, words, stop_values_at),
+        f32_column(floats, words, delay_beats_at),
+        f32_column(floats, words, delay_values_at),
+        f32_column(floats, words, warp_beats_at),
+        f32_column(floats, words, warp_lengths_at),
+        offset,
+        global,
+        beat,
+    );
+    let same = is_u32(number, word_at(words, further(answer_at, 12)));
+    let same = both(same, same_answer(words, further(answer_at, 13), answer));
+    let same = both(same, same_answer(words, further(answer_at, 25), fresh));
+    let player = cursor.time_for_beat_checked(
+        f32_column(floats, words, tempo_beats_at),
+        f32_column(floats, words, tempo_values_at),
+        f32_column(floats, words, stop_beats_at),
+        f32_column(floats, words, stop_values_at),
+        f32_column(floats, words, delay_beats_at),
+        f32_column(floats, words, delay_values_at),
+        f32_column(floats, words, warp_beats_at),
+        f32_column(floats, words, warp_lengths_at),
+        offset,
+        global,
+        beat,
+    );
+    let same = both(
+        same,
+        if_taken(number, same_answer(words, further(answer_at, 13), player)),
+    );
+    Replayed {
+        same: same,
+        next: further(answer_at, 37),
+    }
+}
+
+// A run from a lent cursor.
+fn replay_run(words: &[u64], floats: &[f32], numbers: &[f64], at: usize) -> Replayed {
+    let tempo_beats_at = further(at, 1);
+    let tempo_values_at = behind(words, tempo_beats_at);
+    let stop_beats_at = behind(words, tempo_values_at);
+    let stop_values_at = behind(words, stop_beats_at);
+    let delay_beats_at = behind(words, stop_values_at);
+    let delay_values_at = behind(words, delay_beats_at);
+    let warp_beats_at = behind(words, delay_values_at);
+    let warp_lengths_at = behind(words, warp_beats_at);
+    let beats_at = behind(words, warp_lengths_at);
+    let numbers_at = behind(words, beats_at);
+    let times_at = behind(words, numbers_at);
+    let counts_at = behind(words, times_at);
+    let answer_at = behind(words, counts_at);
+    let mut numbers_room = [77u32; 300];
+    let mut times_room = [1.5; 300];
+    let mut counts_room = [77usize; 300];
+    let offset = patterns::f64_of_bits(word_at(words, answer_at));
+    let global = patterns::f64_of_bits(word_at(words, further(answer_at, 1)));
+    let cursor = cursor_of_words(words, further(answer_at, 2));
+    let ran = clock_run::run(
+        cursor,
+        f32_column(floats, words, tempo_beats_at),
+        f32_column(floats, words, tempo_values_at),
+        f32_column(floats, words, stop_beats_at),
+        f32_column(floats, words, stop_values_at),
+        f32_column(floats, words, delay_beats_at),
+        f32_column(floats, words, delay_values_at),
+        f32_column(floats, words, warp_beats_at),
+        f32_column(floats, words, warp_lengths_at),
+        offset,
+        global,
+        f64_column(numbers, words, beats_at),
+        &mut numbers_room,
+        &mut times_room,
+        &mut counts_room,
+    );
+    let mut same = both(
+        is_u32(ran.number, word_at(words, further(answer_at, 11))),
+        same_cursor(words, further(answer_at, 12), ran.cursor),
+    );
+    same = both(same, same_u32s(words, numbers_at, &numbers_room));
+    same = both(same, same_f64s(words, times_at, &times_room));
+    same = both(same, same_counts(words, counts_at, &counts_room));
+    Replayed {
+        same: same,
+        next: further(answer_at, 21),
+    }
+}
+
+// ---- all cases
+
+// A call's number that names none differs, and nothing can follow it.
+fn replay_case(
+    words: &[u64],
+    numbers: &[f64],
+    floats: &[f32],
+    rows: &[i32],
+    bytes: &[u8],
+    at: usize,
+) -> Replayed {
+    match word_at(words, at) {
+        1 => replay_pair(words, numbers, at),
+        2 => replay_pair(words, numbers, at),
+        3 => replay_pair(words, numbers, at),
+        4 => replay_speeds(words, numbers, bytes, at),
+        5 => replay_ssc(words, numbers, at),
+        6 => replay_sm(words, numbers, at),
+        7 => replay_sm_stops(words, floats, at),
+        8 => replay_row_store(words, floats, at),
+        9 => replay_lookups(words, floats, at),
+        10 => replay_judgable_rows(words, floats, rows, at),
+        11 => replay_question(words, floats, at),
+        12 => replay_run(words, floats, numbers, at),
+        _ => Replayed {
+            same: false,
+            next: words.len(),
+        },
+    }
+}
+
+fn one_if(different: bool) -> u64
+    ensures { λ r. ⌜ r ≤ 1 ⌝ }
+{
+    if different { 1 } else { 0 }
+}
+
+fn case_count(words: &[u64]) -> u64
+    ensures { λ r. ⌜ r ≤ 0xFFFF_FFFF ⌝ }
+{
+    word_at(words, 0) % 0x1_0000_0000
+}
+
+// How many of the cases differ; one more where they do not end with the last of the words read.
+fn count_different(
+    words: &[u64],
+    read: usize,
+    numbers: &[f64],
+    floats: &[f32],
+    rows: &[i32],
+    bytes: &[u8],
+) -> u64 {
+    let cases = case_count(words);
+    let mut different: u64 = 0;
+    let mut at: usize = 1;
+    let mut i: u64 = 0;
+    while i < cases {
+        let replayed = replay_case(words, numbers, floats, rows, bytes, at);
+        at = replayed.next;
+        different += one_if(!replayed.same);
+        i += 1;
+    }
+    different + one_if(at != read)
+}
+
+// The words of a text, one a line, as far as there are places for them; the count of those read.
+fn read_words(text: &[u8], words: &mut [u64]) -> usize
+    ensures { λ r. ⌜ r ≤ length (now (words .entry)) ⌝ }
+{
+    let mut i = 0;
+    let mut at = 0;
+    while i < words.len() {
+        if text.len() - at < LINE {
+            return i;
+        }
+        words[i] = patterns::hex_word(text, at);
+        at += LINE;
+        i += 1;
+    }
+    i
+}
+
+// The words of standard input, 4,096 lines at a time.
+fn read_input(words: &mut [u64]) -> usize
+    ensures { λ r. ⌜ r ≤ length (now (words .entry)) ⌝ }
+{
+    let mut text = [0u8; 69632];
+    let mut count = 0;
+    while count < words.len() {
+        let read = io::read_full(STDIN_FILENO, &mut text);
+        let more = read_words(&text[..read], &mut words[count..]);
+        if more == 0 {
+            return count;
+        }
+        count += more;
+    }
+    count
+}
+
+fn replay(words: &[u64], read: usize) -> u64 {
+    let mut numbers = [0.0; 61440];
+    let mut floats = [0.0f32; 61440];
+    let mut rows = [0i32; 61440];
+    let mut bytes = [0u8; 61440];
+    read_f64s(words, &mut numbers);
+    read_f32s(words, &mut floats);
+    read_rows(words, &mut rows);
+    read_bytes(words, &mut bytes);
+    count_different(words, read, &numbers, &floats, &rows, &bytes)
+}
+
+fn main() {
+    let mut words = [0u64; 61440];
+    let read = read_input(&mut words);
+    io::print_decimal(STDOUT_FILENO, case_count(&words));
+    io::write_all(STDOUT_FILENO, b" replayed, ");
+    io::print_decimal(STDOUT_FILENO, replay(&words, read));
+    io::write_all(STDOUT_FILENO, b" different\n");
+}

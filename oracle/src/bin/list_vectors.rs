@@ -1,0 +1,14 @@
+//! list_vectors: the original's answers to a sample of lists, charts and timings, for the program `replay_lists`.
+
+use oracle::{clock, lookups, processing, sm_stops, speeds, stored, tidying};
+
+fn main() {
+    let mut cases = Vec::new();
+    tidying::stored_cases(&mut cases);
+    speeds::stored_cases(&mut cases);
+    processing::stored_cases(&mut cases);
+    sm_stops::stored_cases(&mut cases);
+    lookups::stored_cases(&mut cases);
+    clock::stored_cases(&mut cases);
+    stored::print(&cases);
+}
