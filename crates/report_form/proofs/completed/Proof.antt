@@ -1,0 +1,25 @@
+-- `report_form::completed` meets its contract, test by test. Assumes nothing.
+use borrow.Author.Needs.{needs}
+use Rattle.picks.proofs.Rules.{flags}
+use Rattle.report_form.specs.Stores.{storeOf}
+use Rattle.report_form.proofs.completed.Statement.{statement}
+use Rattle.report_form.proofs.completed.Tie as tie
+
+returns : tie.Need-returns
+unfolding storeOf
+returns c = search flags depth 12
+
+returns-2 : tie.Need-returns-2
+unfolding storeOf
+returns-2 c = search flags depth 12
+
+returns-3 : tie.Need-returns-3
+unfolding storeOf
+returns-3 c = search flags depth 12
+
+returns-4 : tie.Need-returns-4
+unfolding storeOf
+returns-4 c = search flags depth 12
+
+pub completed-spec : {M : Type 1} → statement M
+completed-spec = tie.close (tie.spec returns returns-2 returns-3 returns-4)
