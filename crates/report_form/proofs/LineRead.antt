@@ -204,7 +204,7 @@ speed-hex : (ssc : Bool) (part count : ℕ) → 1 ≤ part → part ≤ 3 → (j
 unfolding characterOf
 speed-hex ssc part count low high j m byte = rw (ne-eqb part 0 (λ (e : part ≡ 0). omega arith), ne-eqb part 4 (λ (e : part ≡ 4). omega arith))
 
-pair-named : (of : Pair) → eqb (pairList of) 0 ≡ false
+pub pair-named : (of : Pair) → eqb (pairList of) 0 ≡ false
 pair-named bpm = refl
 pair-named stop = refl
 pair-named delay = refl
@@ -218,7 +218,7 @@ unfolding stepOf commaOf storeOf
 comma-read ssc list part count N h k =
     reads-store (At ssc list part count 16 N) (At ssc list (part + 1) count 0 0) 44 (Stored list part count N count) (rw (lt-ltb part (widthOf list) h)) refl k
 
-pair-width : (of : Pair) → widthOf (pairList of) ≡ 2
+pub pair-width : (of : Pair) → widthOf (pairList of) ≡ 2
 unfolding widthOf
 pair-width bpm = refl
 pair-width stop = refl
@@ -238,6 +238,7 @@ pair-end of ssc count N = reads-store _ _ 10 _ (ends of) stores (pair-named of)
     ends warp = refl
     ends scroll = refl
     ends fake = refl
+
     stores : storeOf (At ssc (pairList of) 2 count 16 N) 10 (Between ssc (pairList of) (more count)) ≡ Stored (pairList of) 2 count N (more count)
     stores = refl
 

@@ -39,7 +39,7 @@ reads-store from to byte store e g h =
     record {
       state = λ rest. ap (λ (s : Reading). after s rest) e;
       made = λ rest. ap (λ (s : Reading). listed (storeOf from byte s) (storesOf s rest)) e ∙ ap (λ (d : Store). listed d (storesOf to rest)) g
-        ∙ ap (λ (t : Bool). pick t (storesOf to rest) (store ∷ storesOf to rest)) h;
+          ∙ ap (λ (t : Bool). pick t (storesOf to rest) (store ∷ storesOf to rest)) h;
     }
 
 -- with nothing after them
@@ -61,6 +61,7 @@ by-stores change idle reading (byte ∷ bytes) column =
   where
     store : Store
     store = storeOf reading byte (stepOf reading byte)
+
     by-case : (t : Bool) → eqb (store .list) 0 ≡ t → applied change (storesOf (stepOf reading byte) bytes) (change store column) ≡ applied change (listed store (storesOf (stepOf reading byte) bytes)) column
     by-case true e = rw (e, idle store column e)
     by-case false e = rw e

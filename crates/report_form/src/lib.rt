@@ -87,7 +87,10 @@ fn letter(reading: Reading, byte: u8) -> Reading
     if reading.digits >= 6 {
         return refuse(reading);
     }
-    grow(reading, reading.number % 0x100_0000_0000_0000 * 256 + wide(byte))
+    grow(
+        reading,
+        reading.number % 0x100_0000_0000_0000 * 256 + wide(byte),
+    )
 }
 
 fn hex(reading: Reading, byte: u8) -> Reading
@@ -100,7 +103,10 @@ fn hex(reading: Reading, byte: u8) -> Reading
     if value >= 16 {
         return refuse(reading);
     }
-    grow(reading, reading.number % 0x1000_0000_0000_0000 * 16 + wide(value))
+    grow(
+        reading,
+        reading.number % 0x1000_0000_0000_0000 * 16 + wide(value),
+    )
 }
 
 fn unit(reading: Reading, byte: u8) -> Reading
