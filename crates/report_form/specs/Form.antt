@@ -142,7 +142,7 @@ after reading (byte ∷ bytes) = after (stepOf reading byte) bytes
 
 -- the input is of the form: its format line is there, and its last line is ended
 unfoldable pub whole : Reading → Bool
-whole reading = pick (reading .fine) (pick (eqb (reading .list) 0) false (pick (eqb (reading .part) 0) (eqb (reading .digits) 0) false)) false
+whole reading = pick (reading .fine) (pick (eqb (reading .list) 0) false (pick (ltb 0 (reading .part)) false (eqb (reading .digits) 0))) false
 
 -- one of the lists has more than 256 entries
 unfoldable pub over : List ℕ → Bool

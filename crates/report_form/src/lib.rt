@@ -2,7 +2,7 @@
 ghost use mathlib.Core.Path.{_≡_};
 ghost use Prim.Native.Nat.{_<_};
 ghost use Rattle.report_form.specs.Form.{start, broken, grown, letterOf, hexOf, unitOf, characterOf, listOf, follows, opened, namedOf, widthOf, lastDigits, commaOf, more, closed, formatOf, entryOf, endedOf, stepOf, whole, over, answerOf};
-ghost use Rattle.report_form.specs.Stores.{storeOf};
+ghost use Rattle.report_form.specs.Stores.{nothing, complete, storeOf};
 
 // How far the input is read: whether it is of the form so far, its format, the list of the last line, the part of the line that is being
 // read (0: the word before the equals sign), that part's characters and what they make, and how many entries of the list stand before.
@@ -343,37 +343,9 @@ pub fn step(reading: Reading, byte: u8) -> Reading
     character(reading, byte)
 }
 
-// What the byte completed that led from one state to the next.
-pub fn completed(reading: Reading, byte: u8, next: Reading) -> Store
-    ensures { λ r. ⌜ r ≡ storeOf reading byte next ⌝ }
+fn no_store() -> Store
+    ensures { λ r. ⌜ r ≡ nothing ⌝ }
 {
-    if !next.fine {
-        return Store {
-            list: 0,
-            part: 0,
-            at: 0,
-            number: 0,
-            count: 0,
-        };
-    }
-    if byte == b'\n' {
-        return Store {
-            list: reading.list,
-            part: reading.part,
-            at: reading.count,
-            number: reading.number,
-            count: next.count,
-        };
-    }
-    if byte == b',' {
-        return Store {
-            list: reading.list,
-            part: reading.part,
-            at: reading.count,
-            number: reading.number,
-            count: next.count,
-        };
-    }
     Store {
         list: 0,
         part: 0,
@@ -381,6 +353,34 @@ pub fn completed(reading: Reading, byte: u8, next: Reading) -> Store
         number: 0,
         count: 0,
     }
+}
+
+fn store_of(reading: Reading, next: Reading) -> Store
+    ensures { λ r. ⌜ r ≡ complete reading next ⌝ }
+{
+    Store {
+        list: reading.list,
+        part: reading.part,
+        at: reading.count,
+        number: reading.number,
+        count: next.count,
+    }
+}
+
+// What the byte completed that led from one state to the next.
+pub fn completed(reading: Reading, byte: u8, next: Reading) -> Store
+    ensures { λ r. ⌜ r ≡ storeOf reading byte next ⌝ }
+{
+    if !next.fine {
+        return no_store();
+    }
+    if byte == b'\n' {
+        return store_of(reading, next);
+    }
+    if byte == b',' {
+        return store_of(reading, next);
+    }
+    no_store()
 }
 
 // Whether what is read so far is a whole input.
@@ -393,7 +393,7 @@ pub fn is_whole(reading: Reading) -> bool
     if reading.list == 0 {
         return false;
     }
-    if reading.part != 0 {
+    if 0 < reading.part {
         return false;
     }
     reading.digits == 0
