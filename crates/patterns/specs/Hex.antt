@@ -1,8 +1,7 @@
 -- A number as upper-case hexadecimal digits. Definitions only.
-use Prim.Native.Nat.{ℕ, zero, suc, _+_, _-_, _*_, _%_}
-use mathlib.Core.List.{List}
+use Prim.Native.Nat.{ℕ, zero, suc, _+_, _-_, _^_, _/_, _%_}
+use mathlib.Core.List.{List, [], _∷_}
 use lib.Dec.{ltb, leb}
-use lib.ListN.{getD}
 use Rattle.picks.specs.Pick.{pick}
 
 -- what a byte stands for: '0' to '9' and 'A' to 'F' are 0 to 15, and 16 says that it is no digit
@@ -16,3 +15,8 @@ hexValue byte =
 -- the digit of a number below 16, as a byte
 unfoldable pub hexDigit : ℕ → ℕ
 hexDigit value = pick (ltb value 10) (value + 48) (value + 55)
+
+-- the last k digits of a number, the highest first
+unfoldable pub hexText : ℕ → ℕ → List ℕ
+hexText zero number = []
+hexText (suc k) number = hexDigit (number / 16 ^ k % 16) ∷ hexText k number

@@ -8,12 +8,12 @@ use native.Mathlib.Nat.{div-add-mod', div-div-eq-div-mul, div-le-self, div-one, 
 use borrow.Author.Tests.{lt-ltb, le-ltb, le-leb, lt-leb, ne-eqb, ltb-true, ltb-false}
 use lib.Dec.{ltb, leb, eqb}
 use Rattle.picks.specs.Pick.{pick}
-use Rattle.patterns.specs.Hex.{hexValue, hexDigit}
+use Rattle.patterns.specs.Hex.{hexValue, hexDigit, hexText}
 use Rattle.report_form.specs.declared.Reading.{Reading}
 use Rattle.report_form.specs.declared.Store.{Store}
 use Rattle.report_form.specs.Form.{hexOf, unitOf, letterOf, characterOf, listOf, follows, begun, opened, namedOf, widthOf, lastDigits, commaOf, more, entryOf, endedOf, stepOf, after}
 use Rattle.report_form.specs.Stores.{nothing, storeOf, listed, storesOf}
-use Rattle.report_form.specs.Text.{hexText, Pair, bpm, stop, delay, warp, scroll, fake, Entry, pair, speed, pairList, entryList, pairWord, speedWord, entryLine}
+use Rattle.report_form.specs.Text.{Pair, bpm, stop, delay, warp, scroll, fake, Entry, pair, speed, pairList, entryList, pairWord, speedWord, entryLine}
 use Rattle.report_form.proofs.Pieces.{Reads, reads-none, reads-join, reads-byte, reads-store}
 
 -- a byte that is no separator

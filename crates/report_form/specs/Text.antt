@@ -1,14 +1,9 @@
 -- The text of entries, as the form has it: what reading is held against. Definitions only.
-use Prim.Native.Nat.{ℕ, zero, suc, _+_, _^_, _/_, _%_, _<_}
+use Prim.Native.Nat.{ℕ, _+_}
 use mathlib.Core.Bool.{Bool, true, false}
 use mathlib.Core.List.{List, [], _∷_, _++_}
 use Rattle.picks.specs.Pick.{pick}
-use Rattle.patterns.specs.Hex.{hexDigit}
-
--- the last k hexadecimal digits of a number, the highest first
-unfoldable pub hexText : ℕ → ℕ → List ℕ
-hexText zero number = []
-hexText (suc k) number = hexDigit (number / 16 ^ k % 16) ∷ hexText k number
+use Rattle.patterns.specs.Hex.{hexText}
 
 -- the lists whose entries are a beat and a value
 pub data Pair : Type 0 where
