@@ -1,9 +1,8 @@
 -- The report: what is written for an input, by what its bytes left in the columns. Definitions only.
 use Prim.Native.Nat.{ℕ}
-use mathlib.Core.Bool.{Bool, true, false}
 use mathlib.Core.List.{List, [], map, _++_}
 use lib.Dec.{eqb}
-use lib.ListN.{length, take, getD}
+use lib.ListN.{length, take}
 use lib.Ieee.{Float}
 use Rattle.picks.specs.Pick.{pick}
 use Rattle.ieee.specs.Narrowing.{narrow}
@@ -11,20 +10,14 @@ use Rattle.limits.specs.Refusals.{lower}
 use Rattle.order.specs.Entries.{first, second}
 use Rattle.speeds.specs.LaidSpeeds.{ratioOf, delayOf, unitOf}
 use Rattle.by_format.specs.declared.TimingFormat.{TimingFormat}
-use Rattle.by_format.specs.declared.TimingFormat.the-variants.{Sm, Ssc}
 use Rattle.by_format.specs.ByFormat.{Lists}
 use Rattle.merged_warps.specs.MergedWarps.{threeNumber, mergedLists}
 use Rattle.assembled_tempos.specs.AssembledTempos.{assembledTempos, assembledStops, assembledWarps, verdict, threeRooms}
 use Rattle.assembled_scrolls.specs.AssembledScrolls.{assembledScrolls}
 use Rattle.assembled_speeds.specs.AssembledSpeeds.{assembledSpeeds}
+use Rattle.assembly.specs.declared.Assembled.{Assembled}
 use Rattle.assembly.specs.Assembly.{assembledDelays, assembledFakes, othersNumber, othersLater}
-use Rattle.report_form.specs.declared.Reading.{Reading}
-use Rattle.report_form.specs.Form.{answerOf}
 use Rattle.report_text.specs.Output.{answerLine, listsText}
-
-abbrev pub formatBy : Bool → TimingFormat
-formatBy true = Ssc
-formatBy false = Sm
 
 -- ---- lists of at most 256 entries
 module _ (format : TimingFormat) (tempoBeats tempoValues stopBeats stopValues delayBeats delayValues warpBeats warpLengths speedBeats speedRatios speedDelays : List Float) (speedUnits : List ℕ)
@@ -60,14 +53,15 @@ module _ (format : TimingFormat) (tempoBeats tempoValues stopBeats stopValues de
   unfoldable pub takenText : List ℕ
   takenText = answerLine takenNumber ++ pick (eqb takenNumber 0) takenLists []
 
--- ---- THE REPORT: the input's own number, or the answer to the entries that its counts say
-unfoldable pub reportText : Reading → List ℕ → List Float → List Float → List Float → List Float → List Float → List Float → List Float → List Float
+-- ---- what is written of what assembly left: its number, and the first entries of its columns
+unfoldable pub doneText : Assembled → List Float → List Float → List Float → List Float → List Float → List Float → List Float → List Float
     → List Float → List Float → List Float → List ℕ → List Float → List Float → List Float → List Float → List ℕ
-reportText reading counts tempoBeats tempoValues stopBeats stopValues delayBeats delayValues warpBeats warpLengths speedBeats speedRatios speedDelays speedUnits scrollBeats scrollValues fakeBeats fakeLengths =
-    pick (eqb (answerOf reading counts) 0)
-    (takenText (formatBy (reading .ssc))
-    (take (getD counts 2 0) tempoBeats) (take (getD counts 2 0) tempoValues) (take (getD counts 3 0) stopBeats) (take (getD counts 3 0) stopValues)
-    (take (getD counts 4 0) delayBeats) (take (getD counts 4 0) delayValues) (take (getD counts 5 0) warpBeats) (take (getD counts 5 0) warpLengths)
-    (take (getD counts 6 0) speedBeats) (take (getD counts 6 0) speedRatios) (take (getD counts 6 0) speedDelays) (take (getD counts 6 0) speedUnits)
-    (take (getD counts 7 0) scrollBeats) (take (getD counts 7 0) scrollValues) (take (getD counts 8 0) fakeBeats) (take (getD counts 8 0) fakeLengths))
-    (answerLine (answerOf reading counts))
+doneText done tempoBeats tempoValues stopBeats stopValues delayBeats delayValues warpBeats warpLengths speedBeats speedRatios speedDelays speedUnits scrollBeats scrollValues fakeBeats fakeLengths =
+    answerLine (done .number)
+    ++ pick (eqb (done .number) 0)
+    (listsText (done .offset)
+    (take (done .tempos) tempoBeats) (take (done .tempos) tempoValues) (take (done .stops) stopBeats) (take (done .stops) stopValues)
+    (take (done .delays) delayBeats) (take (done .delays) delayValues) (take (done .warps) warpBeats) (take (done .warps) warpLengths)
+    (take (done .speeds) speedBeats) (take (done .speeds) speedRatios) (take (done .speeds) speedDelays) (take (done .speeds) speedUnits)
+    (take (done .scrolls) scrollBeats) (take (done .scrolls) scrollValues) (take (done .fakes) fakeBeats) (take (done .fakes) fakeLengths))
+    []
