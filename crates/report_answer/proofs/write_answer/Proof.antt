@@ -12,7 +12,7 @@ same-length : tie.Need-same-length
 same-length c = wrote-length (c .before .before .write-done .ensures)
 
 returns : tie.Need-returns
-returns c = 
+returns c =
     let wrote = c .before .before .write-done .ensures in
     (wrote, wrote-counts wrote)
 

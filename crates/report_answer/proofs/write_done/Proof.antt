@@ -69,7 +69,7 @@ put-lists-requires c κs = search needs
 
 returns-2 : tie.Need-returns-2
 unfolding doneText
-returns-2 c = 
+returns-2 c =
     let lists = same-lists _ (c .before .before .before .before .before .before .before .before .before .before .before .before .before .before .before .before .before .before .front .ensures) (c .before .before .before .before .before .before .before .before .before .before .before .before .before .before .before .before .before .front2 .ensures) (c .before .before .before .before .before .before .before .before .before .before .before .before .before .before .before .before .front3 .ensures) (c .before .before .before .before .before .before .before .before .before .before .before .before .before .before .before .front4 .ensures) (c .before .before .before .before .before .before .before .before .before .before .before .before .before .before .front5 .ensures) (c .before .before .before .before .before .before .before .before .before .before .before .before .before .front6 .ensures) (c .before .before .before .before .before .before .before .before .before .before .before .before .front7 .ensures) (c .before .before .before .before .before .before .before .before .before .before .before .front8 .ensures) (c .before .before .before .before .before .before .before .before .before .before .front9 .ensures) (c .before .before .before .before .before .before .before .before .before .front10 .ensures) (c .before .before .before .before .before .before .before .before .front11 .ensures) (c .before .before .before .before .before .before .before .front-units .ensures) (c .before .before .before .before .before .before .front12 .ensures) (c .before .before .before .before .before .front13 .ensures) (c .before .before .before .before .front14 .ensures) (c .before .before .before .front15 .ensures) in
     wrote-join (c .before .before .before .before .before .before .before .before .before .before .before .before .before .before .before .before .before .before .before .before .before .before .before .before .put-answer .ensures) (wrote-as (taken-lists _ _ (c .before .before .before .before .before .before .before .before .before .before .before .before .before .before .before .before .before .before .before .before .if1 .left)) (wrote-as lists (c .before .before .put-lists .ensures)))
 

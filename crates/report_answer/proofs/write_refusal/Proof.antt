@@ -11,7 +11,7 @@ same-length : tie.Need-same-length
 same-length c = search needs
 
 returns : tie.Need-returns
-returns c = 
+returns c =
     let wrote = c .before .before .put-answer .ensures in
     (wrote, wrote-counts wrote)
 
