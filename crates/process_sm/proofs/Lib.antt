@@ -1,3 +1,2 @@
 pub mod Ends
-pub mod ChangesTaken
 pub mod WalkedColumns

@@ -24,7 +24,7 @@ use Rattle.sm_walk.specs.Walking.{WalkLaid}
 use Rattle.sm_walk.specs.Inside.{Room}
 use Rattle.sm_walk.proofs.Lengths.{Bounded}
 use Rattle.process_sm.specs.Inside.{WorkRooms}
-use Rattle.process_sm.proofs.ChangesTaken.{few-changes}
+use Rattle.sm_bounds.proofs.ChangesTaken.{few-changes}
 
 -- a room that is long enough adds no refusal
 pub number-given : (n count room : ℕ) → (n ≡ 0 → count ≤ room) → roomNumber n count room ≡ n

@@ -1,25 +1,24 @@
--- What stays of a list that is taken, narrowed: beats are allowed f32, and values are such as tempo tidying takes. Assumes nothing.
-use Prim.Native.Nat.{ℕ, _+_, _*_, _≤_, _<_}
-use mathlib.Core.Path.{_≡_, refl, sym, ap, _∙_, subst}
+-- What stays of a list that is taken, narrowed: beats are allowed f32, and values have the size of a tempo. Assumes nothing.
+use Prim.Native.Nat.{ℕ, _+_, _*_, _<_}
+use mathlib.Core.Path.{_≡_, refl, sym, _∙_, subst}
 use mathlib.Core.Bool.{Bool, true, false, not}
-use mathlib.Core.List.{List, [], _∷_}
-use mathlib.Core.Logic.{_⊎_, inl, inr, ⊎-elim}
+use mathlib.Core.Logic.{⊎-elim}
 use native.Mathlib.Omega.{arith}
 use borrow.Author.Tests.{ltb-true, ltb-false, eq-eqb, ne-eqb}
 use lib.Ieee.Fits.{down-pos}
 use Rattle.order.proofs.Compare.{same?}
-use lib.Dec.{T, ltb, eqb}
+use lib.Dec.{T}
 use lib.IntN.{ℤ, pos, negsuc}
-use lib.Ieee.{Float, nan, inf, fin, binary32, up, down, neg, lt, eq, le, fits, isNan}
+use lib.Ieee.{Float, nan, inf, fin, up, down, neg, lt, eq, le, fits}
 use lib.Ieee.Bits.{is-true}
 use lib.Ieee.Scale.{finite}
 use Rattle.picks.specs.Pick.{pick}
 use Rattle.ieee.specs.Narrowing.{narrow, withSign}
-use Rattle.ieee.proofs.Narrow.{narrow-fits, narrow-own, narrow-keeps-order, narrow-signed}
+use Rattle.ieee.proofs.Narrow.{narrow-own, narrow-keeps-order, narrow-signed}
 use Rattle.ieee.proofs.FloatOrder.{le-sizes}
 use Rattle.rows.specs.Rows.{allowedBeat}
 use Rattle.rows.proofs.Quantizing.{narrow-allowed}
-use Rattle.limits.specs.declared.Kind.the-variants.{Beat, RawBeat, RawTempo, TidyTempo}
+use Rattle.limits.specs.declared.Kind.the-variants.{RawBeat, RawTempo, TidyTempo}
 use Rattle.limits.specs.Numbers.{rangeOf, inRange, sizeOf, nothing, power, upTo, tempo}
 use Rattle.limits.proofs.TakenWithin.{taken-within, finite-taken}
 use Rattle.sm_changes.specs.SmChanges.{zero, staysSm}
@@ -76,13 +75,14 @@ narrow-between x b = record {
   most = subst (λ (p : Float). T (le (narrow x) p)) (narrow-own (power (pos 30)) tt) (narrow-keeps-order x (power (pos 30)) (b .most));
 }
 
-between-taken : (s : Bool) (y : Float) → Between y → inRange (rangeOf TidyTempo) (withSign s y) ≡ true
+-- so that it is taken whether 0 is or not
+between-taken : (zeroToo : Bool) (s : Bool) (y : Float) → Between y → inRange (tempo zeroToo) (withSign s y) ≡ true
 unfolding withSign inRange le lt eq
-between-taken s nan b = absurd (b .least)
-between-taken s (inf true) b = absurd (b .least)
-between-taken s (inf false) b = absurd (b .most)
-between-taken s (fin true n d) b = absurd (omega (arith, down-pos d, le-sizes (power (negsuc 19)) (fin true n d) false true 1 1048576 (n * up d) (down d) (refl, refl) (refl, refl) (b .least) .0))
-between-taken s (fin false n d) b =
+between-taken zeroToo s nan b = absurd (b .least)
+between-taken zeroToo s (inf true) b = absurd (b .least)
+between-taken zeroToo s (inf false) b = absurd (b .most)
+between-taken zeroToo s (fin true n d) b = absurd (omega (arith, down-pos d, le-sizes (power (negsuc 19)) (fin true n d) false true 1 1048576 (n * up d) (down d) (refl, refl) (refl, refl) (b .least) .0))
+between-taken zeroToo s (fin false n d) b =
     let some-left : 0 < n * up d = omega (arith, down-pos d, le-sizes (power (negsuc 19)) (fin false n d) false false 1 1048576 (n * up d) (down d) (refl, refl) (refl, refl) (b .least)) in
     rw (size-is s n d some-left, is-true (le (fin false n d) (power (pos 30))) (b .most), is-true (le (power (negsuc 19)) (fin false n d)) (b .least))
 
@@ -107,12 +107,12 @@ signed : (s : Bool) (m : ℕ) (e : ℤ) → narrow (fin s m e) ≡ withSign s (n
 unfolding withSign
 signed s m e = narrow-signed s (fin false m e)
 
--- a value that stays
-pub value-taken : (value : Float) → T (finite value) → eq value zero ≡ false → inRange (rangeOf RawTempo) value ≡ true → inRange (rangeOf TidyTempo) (narrow value) ≡ true
-value-taken nan f o h = absurd f
-value-taken (inf s) f o h = absurd f
-value-taken (fin s m e) f o h =
+-- a value that stays: one that tempo tidying takes, and one that is not 0
+pub value-taken : (zeroToo : Bool) (value : Float) → T (finite value) → eq value zero ≡ false → inRange (rangeOf RawTempo) value ≡ true → inRange (tempo zeroToo) (narrow value) ≡ true
+value-taken zeroToo nan f o h = absurd f
+value-taken zeroToo (inf s) f o h = absurd f
+value-taken zeroToo (fin s m e) f o h =
     let p = some s m e o in
     let y = narrow (fin false m e) in
     let is : narrow (fin s m e) ≡ withSign s y = signed s m e in
-    rw is (between-taken s y (narrow-between (fin false m e) (between s m e p (sym (finite-taken (tempo true) (fin s m e) f) ∙ h))))
+    rw is (between-taken zeroToo s y (narrow-between (fin false m e) (between s m e p (sym (finite-taken (tempo true) (fin s m e) f) ∙ h))))

@@ -55,11 +55,11 @@ module _ (f : Format) (P : Float → Type 0) where
   abbrev Values : List (Float × Float) → Type 0
   Values list = Each (beatKey binary32) (λ (e : Float × Float). P (e .1)) list
 
-  first-in : (tempos : List (Float × Float)) → P sixty → Values tempos → P (firstTempo tempos)
+  pub first-in : (tempos : List (Float × Float)) → P sixty → Values tempos → P (firstTempo tempos)
   first-in [] s v = s
   first-in (tempo ∷ tempos) s v = v .0
 
-  last-in : (tempos : List (Float × Float)) (other : Float) → P other → Values tempos → P (lastTempo other tempos)
+  pub last-in : (tempos : List (Float × Float)) (other : Float) → P other → Values tempos → P (lastTempo other tempos)
   unfolding lastTempo
   last-in [] other p v = p
   last-in (tempo ∷ tempos) other p v = by (le (tempo .0) naught) (last-in tempos (tempo .1) (v .0) (v .1))

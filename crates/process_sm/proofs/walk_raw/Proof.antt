@@ -16,7 +16,7 @@ use Rattle.sm_walk.specs.Chart.{processed}
 use Rattle.sm_walk.specs.Columns.{columns, most}
 use Rattle.sm_walk.specs.Inside.{Room}
 use Rattle.sm_walk.proofs.Outcomes.{refused-laid}
-use Rattle.process_sm.proofs.ChangesTaken.{few-changes, walk-takes, tidying-takes, few-written, same-columns}
+use Rattle.sm_bounds.proofs.ChangesTaken.{few-changes, walk-takes, same-columns}
 use Rattle.process_sm.proofs.WalkedColumns.{number-given, Front, first-front, second-front, Fronts, walked-fronts, room-for}
 use Rattle.process_sm.proofs.Ends.{by-tests}
 use borrow.Author.Needs.{needs}

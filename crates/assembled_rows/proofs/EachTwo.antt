@@ -1,0 +1,47 @@
+-- A loop that counts the neighbours which fail a test, of a list whose entries are changed on the way: none fails exactly where each two pass. Assumes nothing.
+use Prim.Native.Nat.{ℕ, zero, suc, _+_, _-_, _≤_, _<_}
+use mathlib.Core.Path.{_≡_, refl, sym, ap, ap₂, _∙_}
+use mathlib.Core.Bool.{Bool}
+use mathlib.Core.List.{List, [], _∷_, map}
+use native.Mathlib.Numerals.{add-one}
+use native.Mathlib.Omega.{arith}
+use lib.Dec.{eqb}
+use lib.ListN.{length, getD, length-map, List·getD-map}
+use Rattle.limits.specs.Numbers.{miss}
+use Rattle.limits.proofs.Every.{Counted, counted-turn, counted-end}
+use Rattle.order.specs.Entries.{entries}
+use Rattle.assembled_rows.specs.Neighbours.{neighbours, everyTwo}
+
+module _ {A : Type 0} where
+  neighbours-length : (xs : List A) → length (neighbours xs) ≡ length xs - 1
+  unfolding entries
+  neighbours-length [] = refl
+  neighbours-length (x ∷ []) = refl
+  neighbours-length (x ∷ y ∷ l) = omega (arith, neighbours-length (y ∷ l))
+
+  neighbour-at : (none : A) (xs : List A) (i : ℕ) → suc i < length xs → getD (neighbours xs) i (none, none) ≡ (getD xs i none, getD xs (suc i) none)
+  unfolding entries
+  neighbour-at none [] i h = absurd (omega arith)
+  neighbour-at none (x ∷ []) i h = absurd (omega arith)
+  neighbour-at none (x ∷ y ∷ l) zero h = refl
+  neighbour-at none (x ∷ y ∷ l) (suc i) h = neighbour-at none (y ∷ l) i (omega arith)
+
+module _ {A B : Type 0} (f : A → B) (test : B → B → Bool) where
+  abbrev pub passes : B × B → Bool
+  passes e = test (e .0) (e .1)
+
+  -- after i neighbours, of which so many failed
+  abbrev pub CountedTwo : List A → ℕ → ℕ → Type 0
+  CountedTwo xs i fail = Counted passes (neighbours (map f xs)) i fail
+
+  pub two-turn : (none : A) (xs : List A) {i fail : ℕ} (one : ℕ) → i + 1 < length xs → one ≡ miss passes (f (getD xs i none), f (getD xs (i + 1) none))
+      → CountedTwo xs i fail → CountedTwo xs (i + 1) (fail + one)
+  two-turn none xs {i} {fail} one h e c =
+      let long : length (map f xs) ≡ length xs = length-map xs f in
+      let inside : i < length (neighbours (map f xs)) = omega (arith, neighbours-length (map f xs)) in
+      let here : getD (neighbours (map f xs)) i (f none, f none) ≡ (f (getD xs i none), f (getD xs (i + 1) none)) =
+      neighbour-at (f none) (map f xs) i (omega arith) ∙ rw (add-one i) (ap₂ (λ (a b : B). (a, b)) (List·getD-map f xs i none) (List·getD-map f xs (suc i) none)) in
+      counted-turn passes one (f none, f none) inside (e ∙ ap (miss passes) (sym here)) c
+
+  pub two-end : (xs : List A) {i fail : ℕ} → length xs ≤ i + 1 → CountedTwo xs i fail → eqb fail 0 ≡ everyTwo test (map f xs)
+  two-end xs h c = counted-end passes (omega (arith, neighbours-length (map f xs), length-map xs f)) c

@@ -1,0 +1,10 @@
+pub mod EachTwo
+pub mod InRowOrder
+pub mod QuantizedTaken
+pub mod RisingRows
+pub mod NarrowedFront
+pub mod Outcomes
+pub mod WrittenRises
+pub mod WrittenTaken
+pub mod FitsWhenTaken
+pub mod Unique

@@ -1,0 +1,47 @@
+-- Assembly of a list whose entries are a beat and a value: stops, delays, warps and fakes. Definitions only.
+use Prim.Native.Nat.{ℕ}
+use mathlib.Core.Bool.{Bool, true}
+use mathlib.Core.List.{List, map}
+use lib.Dec.{leb, eqb}
+use lib.ListN.{length, take}
+use lib.Ieee.{Float}
+use Rattle.picks.specs.Pick.{pick}
+use Rattle.ieee.specs.Narrowing.{narrow}
+use Rattle.rows.specs.Rows.{quantized}
+use Rattle.order.specs.Entries.{entries}
+use Rattle.columns.specs.declared.Outcome.{Outcome}
+use Rattle.columns.specs.Laying.{roomNumber, LaidPair}
+use Rattle.tidy_rows.specs.RowTidying.{tidyRows, rowsNumber}
+
+-- the f32 of a beat and of its value
+abbrev pub narrowedEntry : Float × Float → Float × Float
+narrowedEntry e = (narrow (e .0), narrow (e .1))
+
+-- what becomes of a value first: a length is moved to whole rows as a beat is, any other value stays
+abbrev pub changeBy : Bool → Float → Float
+changeBy whole value = pick whole (quantized value) value
+
+-- beats quantised, values changed, tidied by row, and all of it as f32
+unfoldable pub assembledRows : (Float → Float) → List Float → List Float → List (Float × Float)
+assembledRows change beats values = map narrowedEntry (tidyRows (map quantized beats) (map change values))
+
+-- the tests of what tidying is given
+abbrev pub assembledNumber : (Float → Float) → List Float → List Float → ℕ
+assembledNumber change beats values = rowsNumber (map quantized beats) (map change values)
+
+-- the one outcome of the call, with the rooms of beats and of values before and after
+abbrev pub RowsAssembled : Bool → List Float → List Float → Outcome → List Float → List Float → List Float → List Float → Type 0
+RowsAssembled whole beats values outcome beatsOld beatsNew valuesOld valuesNew =
+    LaidPair (assembledNumber (changeBy whole) beats values) (assembledRows (changeBy whole) beats values) outcome beatsOld beatsNew valuesOld valuesNew
+
+-- whether a list needs no more than a room: at once where the room holds all that is given, and otherwise where the call would take it
+unfoldable pub rowsFit : Bool → List Float → List Float → ℕ → Bool
+rowsFit whole beats values room =
+    pick (leb (length beats) room) true
+    (eqb (roomNumber (assembledNumber (changeBy whole) beats values) (length (assembledRows (changeBy whole) beats values)) room) 0)
+
+-- ---- the steps that other lists share
+
+-- the first n entries of two columns, as f32
+abbrev pub narrowedFront : ℕ → List Float → List Float → List (Float × Float)
+narrowedFront n firsts seconds = map narrowedEntry (entries (take n firsts) (take n seconds))

@@ -1,0 +1,2 @@
+pub mod AssembledRows
+pub mod Neighbours

@@ -1,0 +1,340 @@
+// Assembly of a list of beats and values: beats quantised, values too where they are lengths, tidied by row, and written as f32.
+use columns::Outcome;
+use limits::Kind;
+ghost use mathlib.Core.Path.{_≡_};
+ghost use mathlib.Core.Bool.{true};
+ghost use mathlib.Core.List.{map};
+ghost use Prim.Native.Nat.{_≤_, _<_};
+ghost use lib.ListN.{length};
+ghost use lib.Ieee.{Float, lt};
+ghost use Rattle.ieee.specs.Narrowing.{narrow};
+ghost use Rattle.rows.specs.Rows.{quantized};
+ghost use Rattle.limits.specs.Numbers.{miss};
+ghost use Rattle.columns.specs.Each.{laidEach};
+ghost use Rattle.columns.specs.Laying.{LaidPair};
+ghost use Rattle.tidy_rows.specs.RowTidying.{rowsNumber};
+ghost use Rattle.assembled_rows.specs.AssembledRows.{changeBy, narrowedFront, RowsAssembled, rowsFit};
+ghost use Rattle.assembled_rows.specs.Neighbours.{everyTwo, notAbove};
+
+// ---- columns: each writes what becomes of entry i of the first column into entry i of the second, for every i that both have
+
+// Each beat moved to its row.
+pub fn quantize_column(from: &[f64], to: &mut [f64])
+    ensures { λ _. ⌜ now (to .exit) ≡ laidEach quantized (now (from .entry)) (now (to .entry)) ⌝ }
+{
+    let n = columns::room_of(from.len(), to.len());
+    let mut i = 0;
+    while i < n {
+        to[i] = rows::quantize_beat(from[i]);
+        i += 1;
+    }
+}
+
+// The same as f32, in which a quantised beat loses nothing.
+fn quantize_column_f32(from: &[f64], to: &mut [f32])
+    ensures { λ _. ⌜ now (to .exit) ≡ laidEach quantized (now (from .entry)) (now (to .entry)) ⌝ }
+{
+    let n = columns::room_of(from.len(), to.len());
+    let mut i = 0;
+    while i < n {
+        to[i] = rows::quantize_beat_f32(ieee::narrow_f64(from[i]));
+        i += 1;
+    }
+}
+
+// Each number as an f32.
+pub fn narrow_column(from: &[f64], to: &mut [f32])
+    ensures { λ _. ⌜ now (to .exit) ≡ laidEach narrow (now (from .entry)) (now (to .entry)) ⌝ }
+{
+    let n = columns::room_of(from.len(), to.len());
+    let mut i = 0;
+    while i < n {
+        to[i] = ieee::narrow_f64(from[i]);
+        i += 1;
+    }
+}
+
+// Each number as it is.
+fn copy_column(from: &[f64], to: &mut [f64])
+    ensures { λ _. ⌜ now (to .exit) ≡ laidEach (λ (x : Float). x) (now (from .entry)) (now (to .entry)) ⌝ }
+{
+    let n = columns::room_of(from.len(), to.len());
+    let mut i = 0;
+    while i < n {
+        to[i] = from[i];
+        i += 1;
+    }
+}
+
+fn change_column(whole: bool, from: &[f64], to: &mut [f64])
+    ensures { λ _. ⌜ now (to .exit) ≡ laidEach (changeBy whole) (now (from .entry)) (now (to .entry)) ⌝ }
+{
+    if whole {
+        quantize_column(from, to);
+        return;
+    }
+    copy_column(from, to);
+}
+
+fn change_column_f32(whole: bool, from: &[f64], to: &mut [f32])
+    ensures { λ _. ⌜ now (to .exit) ≡ laidEach (λ (x : Float). narrow (changeBy whole x)) (now (from .entry)) (now (to .entry)) ⌝ }
+{
+    if whole {
+        quantize_column_f32(from, to);
+        return;
+    }
+    narrow_column(from, to);
+}
+
+// A result of two columns as f32: its first entries over the fronts of the rooms, or the number it was refused by, or 7 where the rooms are too short.
+pub fn lay_narrowed(
+    number: u32,
+    count: usize,
+    firsts: &[f64],
+    seconds: &[f64],
+    out_firsts: &mut [f32],
+    out_seconds: &mut [f32],
+) -> Outcome
+    ensures { λ r. ⌜ LaidPair number (narrowedFront count (now (firsts .entry)) (now (seconds .entry))) r (now («out_firsts» .entry)) (now («out_firsts» .exit)) (now («out_seconds» .entry)) (now («out_seconds» .exit)) ⌝ }
+{
+    if number != limits::TAKEN {
+        return columns::refused(number);
+    }
+    let given = columns::room_of(firsts.len(), seconds.len());
+    let n = columns::room_of(count, given);
+    if n > columns::room_of(out_firsts.len(), out_seconds.len()) {
+        return columns::refused(limits::NO_ROOM);
+    }
+    narrow_column(&firsts[..n], out_firsts);
+    narrow_column(&seconds[..n], out_seconds);
+    Outcome {
+        number: limits::TAKEN,
+        count: n,
+    }
+}
+
+// ---- the order of quantised beats, as f32: a loop that counts what fails has no branch
+
+fn not_below(beat: f64, next: f64) -> usize
+    ensures { λ r. ⌜ r ≡ miss (λ (e : Float × Float). lt (e .0) (e .1)) (quantized beat, quantized next) ⌝ }
+{
+    if rows::quantize_beat_f32(ieee::narrow_f64(beat))
+        < rows::quantize_beat_f32(ieee::narrow_f64(next))
+    {
+        0
+    } else {
+        1
+    }
+}
+
+fn above(beat: f64, next: f64) -> usize
+    ensures { λ r. ⌜ r ≡ miss (λ (e : Float × Float). notAbove (e .0) (e .1)) (quantized beat, quantized next) ⌝ }
+{
+    if rows::quantize_beat_f32(ieee::narrow_f64(next))
+        < rows::quantize_beat_f32(ieee::narrow_f64(beat))
+    {
+        1
+    } else {
+        0
+    }
+}
+
+// Whether each quantised beat is below the next.
+fn quantized_rise(beats: &[f64]) -> bool
+    ensures { λ r. ⌜ r ≡ everyTwo lt (map quantized (now (beats .entry))) ⌝ }
+{
+    let mut fail: usize = 0;
+    let mut i = 0;
+    while i + 1 < beats.len() {
+        fail += not_below(beats[i], beats[i + 1]);
+        i += 1;
+    }
+    fail == 0
+}
+
+// Whether no quantised beat is above the next.
+pub fn quantized_never_fall(beats: &[f64]) -> bool
+    ensures { λ r. ⌜ r ≡ everyTwo notAbove (map quantized (now (beats .entry))) ⌝ }
+{
+    let mut fail: usize = 0;
+    let mut i = 0;
+    while i + 1 < beats.len() {
+        fail += above(beats[i], beats[i + 1]);
+        i += 1;
+    }
+    fail == 0
+}
+
+// ---- beats that rise: no working memory
+
+fn assemble_rising(
+    beats: &[f64],
+    values: &[f64],
+    whole: bool,
+    out_beats: &mut [f32],
+    out_values: &mut [f32],
+) -> Outcome
+    requires { ⌜ rowsNumber (now beats) (now values) ≡ 0 ⌝ }
+    requires { ⌜ everyTwo lt (map quantized (now beats)) ≡ true ⌝ }
+    ensures { λ r. ⌜ RowsAssembled whole (now (beats .entry)) (now (values .entry)) r (now («out_beats» .entry)) (now («out_beats» .exit)) (now («out_values» .entry)) (now («out_values» .exit)) ⌝ }
+{
+    let count = beats.len();
+    if count > columns::room_of(out_beats.len(), out_values.len()) {
+        return columns::refused(limits::NO_ROOM);
+    }
+    quantize_column_f32(beats, out_beats);
+    change_column_f32(whole, values, out_values);
+    Outcome {
+        number: limits::TAKEN,
+        count: count,
+    }
+}
+
+// ---- any other list: by way of columns that are as long as it is
+
+fn assemble_in(
+    beats: &[f64],
+    values: &[f64],
+    whole: bool,
+    work_beats: &mut [f64],
+    work_values: &mut [f64],
+    tidy_beats: &mut [f64],
+    tidy_values: &mut [f64],
+    out_beats: &mut [f32],
+    out_values: &mut [f32],
+) -> Outcome
+    requires { ⌜ (length (now values) ≡ length (now beats)) × (length (now «work_beats») ≡ length (now beats)) × (length (now «work_values») ≡ length (now beats)) ⌝ }
+    requires { ⌜ (length (now «tidy_beats») ≡ length (now beats)) × (length (now «tidy_values») ≡ length (now beats)) ⌝ }
+    ensures { λ r. ⌜ RowsAssembled whole (now (beats .entry)) (now (values .entry)) r (now («out_beats» .entry)) (now («out_beats» .exit)) (now («out_values» .entry)) (now («out_values» .exit)) ⌝ }
+{
+    quantize_column(beats, work_beats);
+    change_column(whole, values, work_values);
+    let tidied = tidy_rows::tidy_row_segments(work_beats, work_values, tidy_beats, tidy_values);
+    lay_narrowed(
+        tidied.number,
+        tidied.count,
+        tidy_beats,
+        tidy_values,
+        out_beats,
+        out_values,
+    )
+}
+
+// Columns for as many entries as a chart has.
+fn assemble_few(
+    beats: &[f64],
+    values: &[f64],
+    whole: bool,
+    out_beats: &mut [f32],
+    out_values: &mut [f32],
+) -> Outcome
+    requires { ⌜ (length (now values) ≡ length (now beats)) × (length (now beats) ≤ 64) ⌝ }
+    ensures { λ r. ⌜ RowsAssembled whole (now (beats .entry)) (now (values .entry)) r (now («out_beats» .entry)) (now («out_beats» .exit)) (now («out_values» .entry)) (now («out_values» .exit)) ⌝ }
+{
+    let n = beats.len();
+    let mut work_beats = [0.0; 64];
+    let mut work_values = [0.0; 64];
+    let mut tidy_beats = [0.0; 64];
+    let mut tidy_values = [0.0; 64];
+    assemble_in(
+        beats,
+        values,
+        whole,
+        &mut work_beats[..n],
+        &mut work_values[..n],
+        &mut tidy_beats[..n],
+        &mut tidy_values[..n],
+        out_beats,
+        out_values,
+    )
+}
+
+// Columns for as many as are taken.
+fn assemble_many(
+    beats: &[f64],
+    values: &[f64],
+    whole: bool,
+    out_beats: &mut [f32],
+    out_values: &mut [f32],
+) -> Outcome
+    requires { ⌜ (length (now values) ≡ length (now beats)) × (length (now beats) ≤ 1024) ⌝ }
+    ensures { λ r. ⌜ RowsAssembled whole (now (beats .entry)) (now (values .entry)) r (now («out_beats» .entry)) (now («out_beats» .exit)) (now («out_values» .entry)) (now («out_values» .exit)) ⌝ }
+{
+    let n = beats.len();
+    let mut work_beats = [0.0; 1024];
+    let mut work_values = [0.0; 1024];
+    let mut tidy_beats = [0.0; 1024];
+    let mut tidy_values = [0.0; 1024];
+    assemble_in(
+        beats,
+        values,
+        whole,
+        &mut work_beats[..n],
+        &mut work_values[..n],
+        &mut tidy_beats[..n],
+        &mut tidy_values[..n],
+        out_beats,
+        out_values,
+    )
+}
+
+// ---- the calls
+
+// The assembled list over the fronts of both rooms, and its length. `whole`: the values are lengths, which are quantised too.
+// Refused with 1, 2, 3 or 4 for what tidying is given, and with 7 where the list does not fit.
+pub fn assemble_rows(
+    beats: &[f64],
+    values: &[f64],
+    whole: bool,
+    out_beats: &mut [f32],
+    out_values: &mut [f32],
+) -> Outcome
+    ensures { λ r. ⌜ RowsAssembled whole (now (beats .entry)) (now (values .entry)) r (now («out_beats» .entry)) (now («out_beats» .exit)) (now («out_values» .entry)) (now («out_values» .exit)) ⌝ }
+{
+    let number = limits::list_number(Kind::Beat, Kind::Value, beats, values);
+    if number == limits::TAKEN {
+        if quantized_rise(beats) {
+            return assemble_rising(beats, values, whole, out_beats, out_values);
+        }
+    }
+    if number == limits::TOO_LONG {
+        return columns::refused(limits::TOO_LONG);
+    }
+    if number == limits::UNEVEN {
+        return columns::refused(limits::UNEVEN);
+    }
+    if beats.len() <= 64 {
+        return assemble_few(beats, values, whole, out_beats, out_values);
+    }
+    assemble_many(beats, values, whole, out_beats, out_values)
+}
+
+fn fits_below(beats: &[f64], values: &[f64], whole: bool, room: usize) -> bool
+    requires { ⌜ (room < length (now beats)) × (length (now beats) ≤ 1024) ⌝ }
+    ensures { λ r. ⌜ r ≡ rowsFit whole (now (beats .entry)) (now (values .entry)) room ⌝ }
+{
+    let mut beat_room = [0.0f32; 1024];
+    let mut value_room = [0.0f32; 1024];
+    let outcome = assemble_rows(
+        beats,
+        values,
+        whole,
+        &mut beat_room[..room],
+        &mut value_room[..room],
+    );
+    outcome.number == limits::TAKEN
+}
+
+// Whether a list fits into rooms of a length: yes at once where they hold all that is given, and otherwise where `assemble_rows` would take it.
+// Nothing is tested in the first case, so it is asked of lists that are known to be taken.
+pub fn rows_fit(beats: &[f64], values: &[f64], whole: bool, room: usize) -> bool
+    ensures { λ r. ⌜ r ≡ rowsFit whole (now (beats .entry)) (now (values .entry)) room ⌝ }
+{
+    if beats.len() <= room {
+        return true;
+    }
+    if beats.len() > limits::MOST_ENTRIES {
+        return false;
+    }
+    fits_below(beats, values, whole, room)
+}

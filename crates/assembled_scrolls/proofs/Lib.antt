@@ -1,0 +1,4 @@
+pub mod KeptNoLonger
+pub mod QuantizedTaken
+pub mod Outcomes
+pub mod Unique

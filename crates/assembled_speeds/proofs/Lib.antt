@@ -1,0 +1,4 @@
+pub mod NarrowedSpeeds
+pub mod QuantizedTaken
+pub mod Outcomes
+pub mod Unique

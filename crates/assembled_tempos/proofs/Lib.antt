@@ -1,0 +1,4 @@
+pub mod RowsFit
+pub mod Ends
+pub mod ProcessedColumns
+pub mod WorkColumns

@@ -1,0 +1,34 @@
+-- What the functions inside ask of each other. Definitions only.
+use Prim.Native.Nat.{ℕ, _≤_}
+use mathlib.Core.List.{List, map}
+use mathlib.Core.Path.{_≡_}
+use lib.ListN.{length}
+use lib.Ieee.{Float}
+use Rattle.rows.specs.Rows.{quantized}
+use Rattle.order.specs.Entries.{entries}
+use Rattle.tidy_rows.specs.RowTidying.{rowsNumber}
+use Rattle.raw_lists.specs.RawLists.{roomFor}
+use Rattle.by_format.specs.ByFormat.{Lists}
+
+-- processed columns: of one length each, stops taken and on rows, and as many warps as a list may have are taken
+pub record Processed (tempoBeats tempoValues stopBeats stopValues warpBeats warpLengths : List Float) : Type 0 where
+  pub tempos : length tempoBeats ≡ length tempoValues
+  pub stops : rowsNumber stopBeats stopValues ≡ 0
+  pub onRows : map quantized stopBeats ≡ stopBeats
+  pub even : length warpBeats ≡ length warpLengths
+  pub warps : length warpBeats ≤ 1024 → rowsNumber warpBeats warpLengths ≡ 0
+
+-- columns as lists
+abbrev pub listsOf : (tempoBeats tempoValues stopBeats stopValues warpBeats warpLengths : List Float) → Float → Lists
+listsOf tempoBeats tempoValues stopBeats stopValues warpBeats warpLengths offset = record {
+  tempos = entries tempoBeats tempoValues;
+  stops = entries stopBeats stopValues;
+  warps = entries warpBeats warpLengths;
+  offset = offset;
+}
+
+-- work columns with room for what processing makes of lists that are taken
+pub record WorkRooms (number : ℕ) (lists : Lists) (tempoBeats tempoValues stopBeats stopValues warpBeats warpLengths : List Float) : Type 0 where
+  pub tempos : number ≡ 0 → length (lists .tempos) ≤ roomFor tempoBeats tempoValues
+  pub stops : number ≡ 0 → length (lists .stops) ≤ roomFor stopBeats stopValues
+  pub warps : number ≡ 0 → length (lists .warps) ≤ roomFor warpBeats warpLengths

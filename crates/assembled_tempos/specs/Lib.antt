@@ -1,0 +1,2 @@
+pub mod AssembledTempos
+pub mod Inside

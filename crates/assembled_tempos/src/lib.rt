@@ -1,0 +1,391 @@
+// Assembly of tempos, stops and warps: processed by format, the made warps behind the given ones, tidied, and written as f32.
+use by_format::TimingFormat;
+ghost use mathlib.Core.Path.{_≡_};
+ghost use Prim.Native.Nat.{_≤_, min};
+ghost use lib.ListN.{length};
+ghost use lib.Ieee.{Float};
+ghost use Rattle.picks.specs.Pick.{pick};
+ghost use Rattle.limits.specs.Refusals.{lower};
+ghost use Rattle.merged_warps.specs.MergedWarps.{threeNumber, mergedLists};
+ghost use Rattle.assembled_tempos.specs.AssembledTempos.{threeRooms, ThreeLaid, nothingAssembled};
+ghost use Rattle.assembled_tempos.specs.Inside.{Processed, listsOf, WorkRooms};
+
+// The refusal number of all lists, 0 where they are taken, how many entries of each list were written, and the seconds that beat 0 is moved by.
+#[repr(C)]
+pub struct AssembledTempos {
+    pub number: u32,
+    pub tempos: usize,
+    pub stops: usize,
+    pub warps: usize,
+    pub offset: f32,
+}
+
+fn refused(number: u32) -> AssembledTempos
+    ensures { λ r. ⌜ r ≡ nothingAssembled number ⌝ }
+{
+    AssembledTempos {
+        number: number,
+        tempos: 0,
+        stops: 0,
+        warps: 0,
+        offset: 0.0,
+    }
+}
+
+// ---- processed lists into their rooms
+
+// 7 where a result has no room.
+fn no_room(fits: bool) -> u32
+    ensures { λ r. ⌜ r ≡ pick fits 0 7 ⌝ }
+{
+    if fits {
+        limits::TAKEN
+    } else {
+        limits::NO_ROOM
+    }
+}
+
+fn rooms_number(
+    tempo_beats: &[f64],
+    tempo_values: &[f64],
+    stop_beats: &[f64],
+    stop_values: &[f64],
+    warp_beats: &[f64],
+    warp_lengths: &[f64],
+    tempo_room: usize,
+    stop_room: usize,
+    warp_room: usize,
+) -> u32
+    requires { ⌜ Processed (now «tempo_beats») (now «tempo_values») (now «stop_beats») (now «stop_values») (now «warp_beats») (now «warp_lengths») × (length (now «warp_beats») ≤ 1024) ⌝ }
+    ensures { λ r. ⌜ ((offset : Float) → r ≡ threeRooms (listsOf (now («tempo_beats» .entry)) (now («tempo_values» .entry)) (now («stop_beats» .entry)) (now («stop_values» .entry)) (now («warp_beats» .entry)) (now («warp_lengths» .entry)) offset) «tempo_room» «stop_room» «warp_room») ⌝ }
+{
+    let tempos = no_room(tempo_beats.len() <= tempo_room);
+    let stops = no_room(assembled_rows::rows_fit(
+        stop_beats,
+        stop_values,
+        false,
+        stop_room,
+    ));
+    let warps = no_room(assembled_rows::rows_fit(
+        warp_beats,
+        warp_lengths,
+        true,
+        warp_room,
+    ));
+    limits::lower_of(limits::lower_of(tempos, stops), warps)
+}
+
+// Every test before anything is written.
+fn lay_lists(
+    later: u32,
+    most_warps: usize,
+    offset: f64,
+    tempo_beats: &[f64],
+    tempo_values: &[f64],
+    stop_beats: &[f64],
+    stop_values: &[f64],
+    warp_beats: &[f64],
+    warp_lengths: &[f64],
+    out_tempo_beats: &mut [f32],
+    out_tempo_values: &mut [f32],
+    out_stop_beats: &mut [f32],
+    out_stop_values: &mut [f32],
+    out_warp_beats: &mut [f32],
+    out_warp_lengths: &mut [f32],
+) -> AssembledTempos
+    requires { ⌜ Processed (now «tempo_beats») (now «tempo_values») (now «stop_beats») (now «stop_values») (now «warp_beats») (now «warp_lengths») ⌝ }
+    ensures { λ r. ⌜ ThreeLaid 0 later «most_warps» (listsOf (now («tempo_beats» .entry)) (now («tempo_values» .entry)) (now («stop_beats» .entry)) (now («stop_values» .entry)) (now («warp_beats» .entry)) (now («warp_lengths» .entry)) offset) r (now («out_tempo_beats» .entry)) (now («out_tempo_beats» .exit)) (now («out_tempo_values» .entry)) (now («out_tempo_values» .exit)) (now («out_stop_beats» .entry)) (now («out_stop_beats» .exit)) (now («out_stop_values» .entry)) (now («out_stop_values» .exit)) (now («out_warp_beats» .entry)) (now («out_warp_beats» .exit)) (now («out_warp_lengths» .entry)) (now («out_warp_lengths» .exit)) ⌝ }
+{
+    if warp_beats.len() > columns::room_of(most_warps, limits::MOST_ENTRIES) {
+        return refused(limits::TOO_LONG);
+    }
+    let rooms = rooms_number(
+        tempo_beats,
+        tempo_values,
+        stop_beats,
+        stop_values,
+        warp_beats,
+        warp_lengths,
+        columns::room_of(out_tempo_beats.len(), out_tempo_values.len()),
+        columns::room_of(out_stop_beats.len(), out_stop_values.len()),
+        columns::room_of(out_warp_beats.len(), out_warp_lengths.len()),
+    );
+    let number = limits::lower_of(later, rooms);
+    if number != limits::TAKEN {
+        return refused(number);
+    }
+    let tempos = assembled_rows::lay_narrowed(
+        limits::TAKEN,
+        tempo_beats.len(),
+        tempo_beats,
+        tempo_values,
+        out_tempo_beats,
+        out_tempo_values,
+    );
+    let stops = assembled_rows::assemble_rows(
+        stop_beats,
+        stop_values,
+        false,
+        out_stop_beats,
+        out_stop_values,
+    );
+    let warps = assembled_rows::assemble_rows(
+        warp_beats,
+        warp_lengths,
+        true,
+        out_warp_beats,
+        out_warp_lengths,
+    );
+    AssembledTempos {
+        number: limits::TAKEN,
+        tempos: tempos.count,
+        stops: stops.count,
+        warps: warps.count,
+        offset: ieee::narrow_f64(offset),
+    }
+}
+
+// ---- by way of work columns
+
+fn assemble_in(
+    format: TimingFormat,
+    most_warps: usize,
+    other: u32,
+    later: u32,
+    tempo_beats: &[f64],
+    tempo_values: &[f64],
+    stop_beats: &[f64],
+    stop_values: &[f64],
+    warp_beats: &[f64],
+    warp_lengths: &[f64],
+    work_tempo_beats: &mut [f64],
+    work_tempo_values: &mut [f64],
+    work_stop_beats: &mut [f64],
+    work_stop_values: &mut [f64],
+    work_warp_beats: &mut [f64],
+    work_warp_lengths: &mut [f64],
+    out_tempo_beats: &mut [f32],
+    out_tempo_values: &mut [f32],
+    out_stop_beats: &mut [f32],
+    out_stop_values: &mut [f32],
+    out_warp_beats: &mut [f32],
+    out_warp_lengths: &mut [f32],
+) -> AssembledTempos
+    requires { ⌜ WorkRooms (threeNumber (now «tempo_beats») (now «tempo_values») (now «stop_beats») (now «stop_values») (now «warp_beats») (now «warp_lengths»)) (mergedLists format (now «tempo_beats») (now «tempo_values») (now «stop_beats») (now «stop_values») (now «warp_beats») (now «warp_lengths»)) (now «work_tempo_beats») (now «work_tempo_values») (now «work_stop_beats») (now «work_stop_values») (now «work_warp_beats») (now «work_warp_lengths») ⌝ }
+    ensures { λ r. ⌜ ThreeLaid (lower (threeNumber (now («tempo_beats» .entry)) (now («tempo_values» .entry)) (now («stop_beats» .entry)) (now («stop_values» .entry)) (now («warp_beats» .entry)) (now («warp_lengths» .entry))) other) later «most_warps» (mergedLists format (now («tempo_beats» .entry)) (now («tempo_values» .entry)) (now («stop_beats» .entry)) (now («stop_values» .entry)) (now («warp_beats» .entry)) (now («warp_lengths» .entry))) r (now («out_tempo_beats» .entry)) (now («out_tempo_beats» .exit)) (now («out_tempo_values» .entry)) (now («out_tempo_values» .exit)) (now («out_stop_beats» .entry)) (now («out_stop_beats» .exit)) (now («out_stop_values» .entry)) (now («out_stop_values» .exit)) (now («out_warp_beats» .entry)) (now («out_warp_beats» .exit)) (now («out_warp_lengths» .entry)) (now («out_warp_lengths» .exit)) ⌝ }
+{
+    let processed = merged_warps::process_with_warps(
+        format,
+        tempo_beats,
+        tempo_values,
+        stop_beats,
+        stop_values,
+        warp_beats,
+        warp_lengths,
+        work_tempo_beats,
+        work_tempo_values,
+        work_stop_beats,
+        work_stop_values,
+        work_warp_beats,
+        work_warp_lengths,
+    );
+    let number = limits::lower_of(processed.number, other);
+    if number != limits::TAKEN {
+        return refused(number);
+    }
+    let tempos = processed.tempos;
+    let stops = processed.stops;
+    let warps = processed.warps;
+    lay_lists(
+        later,
+        most_warps,
+        processed.offset,
+        &work_tempo_beats[..tempos],
+        &work_tempo_values[..tempos],
+        &work_stop_beats[..stops],
+        &work_stop_values[..stops],
+        &work_warp_beats[..warps],
+        &work_warp_lengths[..warps],
+        out_tempo_beats,
+        out_tempo_values,
+        out_stop_beats,
+        out_stop_values,
+        out_warp_beats,
+        out_warp_lengths,
+    )
+}
+
+// Columns for as many entries as a chart has.
+fn assemble_few(
+    format: TimingFormat,
+    most_warps: usize,
+    other: u32,
+    later: u32,
+    tempo_beats: &[f64],
+    tempo_values: &[f64],
+    stop_beats: &[f64],
+    stop_values: &[f64],
+    warp_beats: &[f64],
+    warp_lengths: &[f64],
+    out_tempo_beats: &mut [f32],
+    out_tempo_values: &mut [f32],
+    out_stop_beats: &mut [f32],
+    out_stop_values: &mut [f32],
+    out_warp_beats: &mut [f32],
+    out_warp_lengths: &mut [f32],
+) -> AssembledTempos
+    requires { ⌜ (length (now «tempo_beats») ≤ 64) × (length (now «stop_beats») ≤ 64) × (length (now «warp_beats») ≤ 64) ⌝ }
+    ensures { λ r. ⌜ ThreeLaid (lower (threeNumber (now («tempo_beats» .entry)) (now («tempo_values» .entry)) (now («stop_beats» .entry)) (now («stop_values» .entry)) (now («warp_beats» .entry)) (now («warp_lengths» .entry))) other) later «most_warps» (mergedLists format (now («tempo_beats» .entry)) (now («tempo_values» .entry)) (now («stop_beats» .entry)) (now («stop_values» .entry)) (now («warp_beats» .entry)) (now («warp_lengths» .entry))) r (now («out_tempo_beats» .entry)) (now («out_tempo_beats» .exit)) (now («out_tempo_values» .entry)) (now («out_tempo_values» .exit)) (now («out_stop_beats» .entry)) (now («out_stop_beats» .exit)) (now («out_stop_values» .entry)) (now («out_stop_values» .exit)) (now («out_warp_beats» .entry)) (now («out_warp_beats» .exit)) (now («out_warp_lengths» .entry)) (now («out_warp_lengths» .exit)) ⌝ }
+{
+    let mut work_tempo_beats = [0.0; 64];
+    let mut work_tempo_values = [0.0; 64];
+    let mut work_stop_beats = [0.0; 64];
+    let mut work_stop_values = [0.0; 64];
+    let mut work_warp_beats = [0.0; 192];
+    let mut work_warp_lengths = [0.0; 192];
+    assemble_in(
+        format,
+        most_warps,
+        other,
+        later,
+        tempo_beats,
+        tempo_values,
+        stop_beats,
+        stop_values,
+        warp_beats,
+        warp_lengths,
+        &mut work_tempo_beats,
+        &mut work_tempo_values,
+        &mut work_stop_beats,
+        &mut work_stop_values,
+        &mut work_warp_beats,
+        &mut work_warp_lengths,
+        out_tempo_beats,
+        out_tempo_values,
+        out_stop_beats,
+        out_stop_values,
+        out_warp_beats,
+        out_warp_lengths,
+    )
+}
+
+// Columns for as many as are taken, and for every warp that they can make.
+fn assemble_many(
+    format: TimingFormat,
+    most_warps: usize,
+    other: u32,
+    later: u32,
+    tempo_beats: &[f64],
+    tempo_values: &[f64],
+    stop_beats: &[f64],
+    stop_values: &[f64],
+    warp_beats: &[f64],
+    warp_lengths: &[f64],
+    out_tempo_beats: &mut [f32],
+    out_tempo_values: &mut [f32],
+    out_stop_beats: &mut [f32],
+    out_stop_values: &mut [f32],
+    out_warp_beats: &mut [f32],
+    out_warp_lengths: &mut [f32],
+) -> AssembledTempos
+    ensures { λ r. ⌜ ThreeLaid (lower (threeNumber (now («tempo_beats» .entry)) (now («tempo_values» .entry)) (now («stop_beats» .entry)) (now («stop_values» .entry)) (now («warp_beats» .entry)) (now («warp_lengths» .entry))) other) later «most_warps» (mergedLists format (now («tempo_beats» .entry)) (now («tempo_values» .entry)) (now («stop_beats» .entry)) (now («stop_values» .entry)) (now («warp_beats» .entry)) (now («warp_lengths» .entry))) r (now («out_tempo_beats» .entry)) (now («out_tempo_beats» .exit)) (now («out_tempo_values» .entry)) (now («out_tempo_values» .exit)) (now («out_stop_beats» .entry)) (now («out_stop_beats» .exit)) (now («out_stop_values» .entry)) (now («out_stop_values» .exit)) (now («out_warp_beats» .entry)) (now («out_warp_beats» .exit)) (now («out_warp_lengths» .entry)) (now («out_warp_lengths» .exit)) ⌝ }
+{
+    let mut work_tempo_beats = [0.0; 1024];
+    let mut work_tempo_values = [0.0; 1024];
+    let mut work_stop_beats = [0.0; 1024];
+    let mut work_stop_values = [0.0; 1024];
+    let mut work_warp_beats = [0.0; 3072];
+    let mut work_warp_lengths = [0.0; 3072];
+    assemble_in(
+        format,
+        most_warps,
+        other,
+        later,
+        tempo_beats,
+        tempo_values,
+        stop_beats,
+        stop_values,
+        warp_beats,
+        warp_lengths,
+        &mut work_tempo_beats,
+        &mut work_tempo_values,
+        &mut work_stop_beats,
+        &mut work_stop_values,
+        &mut work_warp_beats,
+        &mut work_warp_lengths,
+        out_tempo_beats,
+        out_tempo_values,
+        out_stop_beats,
+        out_stop_values,
+        out_warp_beats,
+        out_warp_lengths,
+    )
+}
+
+// ---- the call
+
+// Tempos, stops and warps, given and made, over the fronts of their rooms. `other` is the lowest raw number of the other lists, and `later` the lowest
+// that they answer where all lists are taken: the number is that of all seven. More warps than `most_warps`, given and made, answer 1.
+pub fn assemble_tempos(
+    format: TimingFormat,
+    most_warps: usize,
+    other: u32,
+    later: u32,
+    tempo_beats: &[f64],
+    tempo_values: &[f64],
+    stop_beats: &[f64],
+    stop_values: &[f64],
+    warp_beats: &[f64],
+    warp_lengths: &[f64],
+    out_tempo_beats: &mut [f32],
+    out_tempo_values: &mut [f32],
+    out_stop_beats: &mut [f32],
+    out_stop_values: &mut [f32],
+    out_warp_beats: &mut [f32],
+    out_warp_lengths: &mut [f32],
+) -> AssembledTempos
+    ensures { λ r. ⌜ ThreeLaid (lower (threeNumber (now («tempo_beats» .entry)) (now («tempo_values» .entry)) (now («stop_beats» .entry)) (now («stop_values» .entry)) (now («warp_beats» .entry)) (now («warp_lengths» .entry))) other) later «most_warps» (mergedLists format (now («tempo_beats» .entry)) (now («tempo_values» .entry)) (now («stop_beats» .entry)) (now («stop_values» .entry)) (now («warp_beats» .entry)) (now («warp_lengths» .entry))) r (now («out_tempo_beats» .entry)) (now («out_tempo_beats» .exit)) (now («out_tempo_values» .entry)) (now («out_tempo_values» .exit)) (now («out_stop_beats» .entry)) (now («out_stop_beats» .exit)) (now («out_stop_values» .entry)) (now («out_stop_values» .exit)) (now («out_warp_beats» .entry)) (now («out_warp_beats» .exit)) (now («out_warp_lengths» .entry)) (now («out_warp_lengths» .exit)) ⌝ }
+{
+    if tempo_beats.len() <= 64 {
+        if stop_beats.len() <= 64 {
+            if warp_beats.len() <= 64 {
+                return assemble_few(
+                    format,
+                    most_warps,
+                    other,
+                    later,
+                    tempo_beats,
+                    tempo_values,
+                    stop_beats,
+                    stop_values,
+                    warp_beats,
+                    warp_lengths,
+                    out_tempo_beats,
+                    out_tempo_values,
+                    out_stop_beats,
+                    out_stop_values,
+                    out_warp_beats,
+                    out_warp_lengths,
+                );
+            }
+        }
+    }
+    assemble_many(
+        format,
+        most_warps,
+        other,
+        later,
+        tempo_beats,
+        tempo_values,
+        stop_beats,
+        stop_values,
+        warp_beats,
+        warp_lengths,
+        out_tempo_beats,
+        out_tempo_values,
+        out_stop_beats,
+        out_stop_values,
+        out_warp_beats,
+        out_warp_lengths,
+    )
+}

@@ -1,0 +1,151 @@
+-- The lists that are not processed, under the number of all: what they answer, and that each is laid where all are taken. Assumes nothing.
+use Prim.Native.Nat.{ℕ, _≤_, min}
+use mathlib.Core.Path.{_≡_, refl, sym, ap, _∙_}
+use mathlib.Core.Bool.{Bool, true, false}
+use mathlib.Core.List.{List, []}
+use native.Mathlib.Omega.{arith}
+use borrow.Author.Tests.{eq-eqb, ne-eqb, eqb-true, leb-true}
+use lib.Dec.{leb, eqb}
+use lib.ListN.{length}
+use lib.Ieee.{Float}
+use Rattle.picks.specs.Pick.{pick}
+use Rattle.limits.specs.Refusals.{lower}
+use Rattle.limits.proofs.NoRefusal.{lower-none}
+use Rattle.order.specs.Order.{laid}
+use Rattle.columns.specs.declared.Outcome.{Outcome}
+use Rattle.columns.specs.Laying.{roomNumber, given, LaidPair, LaidList}
+use Rattle.columns.proofs.Rooms.{list-of-pair}
+use Rattle.raw_lists.specs.RawLists.{roomFor}
+use Rattle.speeds.specs.Speed.{SpeedEntry}
+use Rattle.speeds.specs.LaidSpeeds.{leastOf, LaidSpeeds}
+use Rattle.tidy_speeds.specs.SpeedTidying.{speedListNumber}
+use Rattle.by_format.specs.ByFormat.{Lists}
+use Rattle.assembled_rows.specs.AssembledRows.{changeBy, assembledNumber, assembledRows, rowsFit}
+use Rattle.assembled_rows.proofs.QuantizedTaken.{quantized-taken}
+use Rattle.assembled_scrolls.specs.AssembledScrolls.{assembledScrolls, assembledScrollsNumber, scrollsRoomNumber}
+use Rattle.assembled_speeds.specs.AssembledSpeeds.{assembledSpeeds, assembledSpeedsNumber, speedsRoomNumber}
+use Rattle.assembled_tempos.specs.declared.AssembledTempos.{AssembledTempos}
+use Rattle.assembled_tempos.specs.AssembledTempos.{verdict, fitNumber, threeRooms, ThreeLaid}
+use Rattle.assembled_tempos.proofs.RowsFit.{fit-number}
+use Rattle.assembly.specs.Assembly.{listOf, assembledDelays, assembledFakes, othersNumber, othersLater, SpeedsLaid}
+
+-- ---- four columns under one number
+
+nothing-given : {A : Type 0} (result : List A) (n : ℕ) → (n ≡ 0 → ⊥) → given n result ≡ []
+unfolding given
+nothing-given result n h = rw (ne-eqb n 0 h)
+
+pub speeds-refused : {number : ℕ} {result : List SpeedEntry} {beatsOld ratiosOld delaysOld : List Float} {unitsOld : List ℕ} → (number ≡ 0 → ⊥) → SpeedsLaid number result 0 beatsOld beatsOld ratiosOld ratiosOld delaysOld delaysOld unitsOld unitsOld
+unfolding laid
+speeds-refused {number} {result} h =
+    let none = nothing-given result number h in
+    record { counted = rw none; beatsAre = rw none; ratiosAre = rw none; delaysAre = rw none; unitsAre = rw none }
+
+pub speeds-laid : {tests : ℕ} {result : List SpeedEntry} {outcome : Outcome} {beatsOld beatsNew ratiosOld ratiosNew delaysOld delaysNew : List Float} {unitsOld unitsNew : List ℕ}
+    → LaidSpeeds tests result outcome beatsOld beatsNew ratiosOld ratiosNew delaysOld delaysNew unitsOld unitsNew → outcome .number ≡ 0
+    → SpeedsLaid 0 result (outcome .count) beatsOld beatsNew ratiosOld ratiosNew delaysOld delaysNew unitsOld unitsNew
+speeds-laid p h = record { counted = rw h at (p .count); beatsAre = rw h at (p .beatsAre); ratiosAre = rw h at (p .ratiosAre); delaysAre = rw h at (p .delaysAre); unitsAre = rw h at (p .unitsAre) }
+
+-- ---- the number of all
+
+pub record Passed (raw warps most later : ℕ) : Type 0 where
+  pub rawTaken : raw ≡ 0
+  pub laterTaken : later ≡ 0
+
+pub none-refused : (raw warps most later : ℕ) → verdict raw warps most later ≡ 0 → Passed raw warps most later
+unfolding verdict
+none-refused raw warps most later h = go (eqb raw 0) (leb warps (min most 1024)) refl h
+  where
+    go : (t u : Bool) → eqb raw 0 ≡ t → pick t (pick u later 1) raw ≡ 0 → Passed raw warps most later
+    go true true a k = record { rawTaken = eqb-true raw 0 a; laterTaken = k }
+    go true false a k = absurd (omega arith)
+    go false u a k = let z : _≡_ {A = Bool} true false = sym (eq-eqb raw 0 k) ∙ a in let w : _≡_ {A = ℕ} 0 1 = cc in absurd (omega arith)
+
+-- what comes later counts only where the raw lists are taken
+pub same-later : {raw later later′ most : ℕ} {lists : Lists} {outcome : AssembledTempos} {tempoBeatsOld tempoBeatsNew tempoValuesOld tempoValuesNew stopBeatsOld stopBeatsNew stopValuesOld stopValuesNew warpBeatsOld warpBeatsNew warpLengthsOld warpLengthsNew : List Float} → (raw ≡ 0 → later ≡ later′)
+    → ThreeLaid raw later most lists outcome tempoBeatsOld tempoBeatsNew tempoValuesOld tempoValuesNew stopBeatsOld stopBeatsNew stopValuesOld stopValuesNew warpBeatsOld warpBeatsNew warpLengthsOld warpLengthsNew
+    → ThreeLaid raw later′ most lists outcome tempoBeatsOld tempoBeatsNew tempoValuesOld tempoValuesNew stopBeatsOld stopBeatsNew stopValuesOld stopValuesNew warpBeatsOld warpBeatsNew warpLengthsOld warpLengthsNew
+unfolding verdict
+same-later {raw} {later} {later′} {most} {lists} {outcome} {tempoBeatsOld} {tempoBeatsNew} {tempoValuesOld} {tempoValuesNew} {stopBeatsOld} {stopBeatsNew} {stopValuesOld} {stopValuesNew} {warpBeatsOld} {warpBeatsNew} {warpLengthsOld} h p =
+    record { number = p .number ∙ go (eqb raw 0) (eqb-true raw 0); temposLaid = p .temposLaid; stopsLaid = p .stopsLaid; warpsLaid = p .warpsLaid; offsetIs = p .offsetIs }
+  where
+    rooms : ℕ
+    rooms = threeRooms lists (roomFor tempoBeatsOld tempoValuesOld) (roomFor stopBeatsOld stopValuesOld) (roomFor warpBeatsOld warpLengthsOld)
+    go : (t : Bool) → (t ≡ true → raw ≡ 0)
+        → pick t (pick (leb (length (lists .warps)) (min most 1024)) (lower later (threeRooms lists (roomFor tempoBeatsOld tempoValuesOld) (roomFor stopBeatsOld stopValuesOld) (roomFor warpBeatsOld warpLengthsOld))) 1) raw
+        ≡ pick t (pick (leb (length (lists .warps)) (min most 1024)) (lower later′ (threeRooms lists (roomFor tempoBeatsOld tempoValuesOld) (roomFor stopBeatsOld stopValuesOld) (roomFor warpBeatsOld warpLengthsOld))) 1) raw
+    go true e = rw (h (e refl))
+    go false e = refl
+
+-- ---- the other lists
+
+pub record OthersTaken (delayBeats delayValues speedBeats speedRatios speedDelays : List Float) (speedUnits : List ℕ) (scrollBeats scrollValues fakeBeats fakeLengths : List Float) : Type 0 where
+  pub delays : listOf delayBeats delayValues ≡ 0
+  pub fakes : listOf fakeBeats fakeLengths ≡ 0
+
+module _ (delayBeats delayValues speedBeats speedRatios speedDelays : List Float) (speedUnits : List ℕ) (scrollBeats scrollValues fakeBeats fakeLengths : List Float) where
+  pub others-taken : othersNumber delayBeats delayValues speedBeats speedRatios speedDelays speedUnits scrollBeats scrollValues fakeBeats fakeLengths ≡ 0 → OthersTaken delayBeats delayValues speedBeats speedRatios speedDelays speedUnits scrollBeats scrollValues fakeBeats fakeLengths
+  others-taken h =
+      let d = listOf delayBeats delayValues in
+      let s = speedListNumber speedBeats speedRatios speedDelays speedUnits in
+      let c = listOf scrollBeats scrollValues in
+      let f = listOf fakeBeats fakeLengths in
+      let one = lower-none (lower (lower d s) c) f h in
+      let two = lower-none (lower d s) c (one .0) in
+      record { delays = lower-none d s (two .0) .0; fakes = one .1 }
+
+  module _ (delayRoom speedRoom scrollRoom fakeRoom : ℕ) where
+    pub later-is : othersNumber delayBeats delayValues speedBeats speedRatios speedDelays speedUnits scrollBeats scrollValues fakeBeats fakeLengths ≡ 0
+        → lower (lower (lower (pick (rowsFit false delayBeats delayValues delayRoom) 0 7) (speedsRoomNumber speedBeats speedRatios speedDelays speedUnits speedRoom)) (scrollsRoomNumber scrollBeats scrollValues scrollRoom)) (pick (rowsFit true fakeBeats fakeLengths fakeRoom) 0 7)
+        ≡ othersLater delayBeats delayValues speedBeats speedRatios speedDelays speedUnits scrollBeats scrollValues fakeBeats fakeLengths delayRoom speedRoom scrollRoom fakeRoom
+    later-is h = rw (fit-number false delayBeats delayValues delayRoom (others-taken h .delays), fit-number true fakeBeats fakeLengths fakeRoom (others-taken h .fakes))
+
+    pub record OthersFit : Type 0 where
+      pub delaysFit : fitNumber (assembledDelays delayBeats delayValues) delayRoom ≡ 0
+      pub speedsFit : speedsRoomNumber speedBeats speedRatios speedDelays speedUnits speedRoom ≡ 0
+      pub scrollsFit : scrollsRoomNumber scrollBeats scrollValues scrollRoom ≡ 0
+      pub fakesFit : fitNumber (assembledFakes fakeBeats fakeLengths) fakeRoom ≡ 0
+
+    pub others-fit : othersLater delayBeats delayValues speedBeats speedRatios speedDelays speedUnits scrollBeats scrollValues fakeBeats fakeLengths delayRoom speedRoom scrollRoom fakeRoom ≡ 0 → OthersFit
+    others-fit h =
+        let d = fitNumber (assembledDelays delayBeats delayValues) delayRoom in
+        let s = speedsRoomNumber speedBeats speedRatios speedDelays speedUnits speedRoom in
+        let c = scrollsRoomNumber scrollBeats scrollValues scrollRoom in
+        let f = fitNumber (assembledFakes fakeBeats fakeLengths) fakeRoom in
+        let one = lower-none (lower (lower d s) c) f h in
+        let two = lower-none (lower d s) c (one .0) in
+        let three = lower-none d s (two .0) in
+        record { delaysFit = three .0; speedsFit = three .1; scrollsFit = two .1; fakesFit = one .1 }
+
+-- a row list that is taken and fits
+pub rows-laid : (whole : Bool) (beats values : List Float) {outcome : Outcome} {beatsOld beatsNew valuesOld valuesNew : List Float} → listOf beats values ≡ 0 → fitNumber (assembledRows (changeBy whole) beats values) (roomFor beatsOld valuesOld) ≡ 0
+    → LaidPair (assembledNumber (changeBy whole) beats values) (assembledRows (changeBy whole) beats values) outcome beatsOld beatsNew valuesOld valuesNew
+    → LaidList 0 (assembledRows (changeBy whole) beats values) (outcome .count) beatsOld beatsNew valuesOld valuesNew
+rows-laid whole beats values {outcome} {beatsOld} {beatsNew} {valuesOld} {valuesNew} taken fit q =
+    let q′ : LaidPair 0 (assembledRows (changeBy whole) beats values) outcome beatsOld beatsNew valuesOld valuesNew = rw (quantized-taken beats values whole taken) at q in
+    list-of-pair q′ (q′ .number ∙ fit)
+
+-- ---- what tempos, stops and warps answer is the number of all
+
+module _ (three other′ later′ : ℕ) {other later most : ℕ} {lists : Lists} {outcome : AssembledTempos} {tempoBeatsOld tempoBeatsNew tempoValuesOld tempoValuesNew stopBeatsOld stopBeatsNew stopValuesOld stopValuesNew warpBeatsOld warpBeatsNew warpLengthsOld warpLengthsNew : List Float} where
+  pub as-asked : other ≡ other′ → (other′ ≡ 0 → later ≡ later′)
+      → ThreeLaid (lower three other) later most lists outcome tempoBeatsOld tempoBeatsNew tempoValuesOld tempoValuesNew stopBeatsOld stopBeatsNew stopValuesOld stopValuesNew warpBeatsOld warpBeatsNew warpLengthsOld warpLengthsNew
+      → ThreeLaid (lower three other′) later′ most lists outcome tempoBeatsOld tempoBeatsNew tempoValuesOld tempoValuesNew stopBeatsOld stopBeatsNew stopValuesOld stopValuesNew warpBeatsOld warpBeatsNew warpLengthsOld warpLengthsNew
+  as-asked e h p = same-later (λ z. h (lower-none three other′ z .1)) (rw e at p)
+
+module _ {raw later most : ℕ} {lists : Lists} {outcome : AssembledTempos} {tempoBeatsOld tempoBeatsNew tempoValuesOld tempoValuesNew stopBeatsOld stopBeatsNew stopValuesOld stopValuesNew warpBeatsOld warpBeatsNew warpLengthsOld warpLengthsNew : List Float}
+    (p : ThreeLaid raw later most lists outcome tempoBeatsOld tempoBeatsNew tempoValuesOld tempoValuesNew stopBeatsOld stopBeatsNew stopValuesOld stopValuesNew warpBeatsOld warpBeatsNew warpLengthsOld warpLengthsNew) (taken : outcome .number ≡ 0) where
+  pub taken-part : ThreeLaid raw later most lists (record { number = 0; tempos = outcome .tempos; stops = outcome .stops; warps = outcome .warps; offset = outcome .offset }) tempoBeatsOld tempoBeatsNew tempoValuesOld tempoValuesNew stopBeatsOld stopBeatsNew stopValuesOld stopValuesNew warpBeatsOld warpBeatsNew warpLengthsOld warpLengthsNew
+  taken-part = record {
+    number = sym taken ∙ p .number;
+    temposLaid = rw taken at (p .temposLaid);
+    stopsLaid = rw taken at (p .stopsLaid);
+    warpsLaid = rw taken at (p .warpsLaid);
+    offsetIs = rw taken at (p .offsetIs);
+  }
+
+  pub all-passed : (raw ≡ 0) × (later ≡ 0)
+  all-passed =
+      let rooms = threeRooms lists (roomFor tempoBeatsOld tempoValuesOld) (roomFor stopBeatsOld stopValuesOld) (roomFor warpBeatsOld warpLengthsOld) in
+      let passed = none-refused raw (length (lists .warps)) most (lower later rooms) (sym (p .number) ∙ taken) in
+      (passed .rawTaken, lower-none later rooms (passed .laterTaken) .0)

@@ -1,0 +1,343 @@
+// Assembly: the seven raw lists of a chart as the f32 columns of a timing.
+use by_format::TimingFormat;
+use limits::Kind;
+ghost use mathlib.Core.Path.{_≡_};
+ghost use lib.ListN.{length};
+ghost use Rattle.picks.specs.Pick.{pick};
+ghost use Rattle.limits.specs.Refusals.{lower};
+ghost use Rattle.columns.specs.Laying.{LaidList};
+ghost use Rattle.raw_lists.specs.RawLists.{roomFor};
+ghost use Rattle.speeds.specs.LaidSpeeds.{leastOf};
+ghost use Rattle.assembled_scrolls.specs.AssembledScrolls.{assembledScrolls};
+ghost use Rattle.assembled_speeds.specs.AssembledSpeeds.{assembledSpeeds};
+ghost use Rattle.merged_warps.specs.MergedWarps.{threeNumber, mergedLists};
+ghost use Rattle.assembled_tempos.specs.AssembledTempos.{ThreeLaid};
+ghost use Rattle.assembly.specs.Assembly.{assembledDelays, assembledFakes, othersNumber, othersLater, processedPart, SpeedsLaid};
+
+// The refusal number, 0 where all lists are taken, how many entries of each list were written, and the seconds that beat 0 is moved by.
+#[repr(C)]
+pub struct Assembled {
+    pub number: u32,
+    pub tempos: usize,
+    pub stops: usize,
+    pub delays: usize,
+    pub warps: usize,
+    pub speeds: usize,
+    pub scrolls: usize,
+    pub fakes: usize,
+    pub offset: f32,
+}
+
+// ---- the lists that are not processed
+
+// The lowest number of their raw tests.
+fn others_number(
+    delay_beats: &[f64],
+    delay_values: &[f64],
+    speed_beats: &[f64],
+    speed_ratios: &[f64],
+    speed_delays: &[f64],
+    speed_units: &[u8],
+    scroll_beats: &[f64],
+    scroll_values: &[f64],
+    fake_beats: &[f64],
+    fake_lengths: &[f64],
+) -> u32
+    ensures { λ r. ⌜ r ≡ othersNumber (now («delay_beats» .entry)) (now («delay_values» .entry)) (now («speed_beats» .entry)) (now («speed_ratios» .entry)) (now («speed_delays» .entry)) (now («speed_units» .entry)) (now («scroll_beats» .entry)) (now («scroll_values» .entry)) (now («fake_beats» .entry)) (now («fake_lengths» .entry)) ⌝ }
+{
+    let delays = limits::list_number(Kind::Beat, Kind::Value, delay_beats, delay_values);
+    let speeds = tidy_speeds::speed_list_number(
+        speed_beats,
+        speed_ratios,
+        speed_delays,
+        speed_units,
+    );
+    let scrolls = limits::list_number(Kind::Beat, Kind::Value, scroll_beats, scroll_values);
+    let fakes = limits::list_number(Kind::Beat, Kind::Value, fake_beats, fake_lengths);
+    limits::lower_of(limits::lower_of(limits::lower_of(delays, speeds), scrolls), fakes)
+}
+
+fn no_room(fits: bool) -> u32
+    ensures { λ r. ⌜ r ≡ pick fits 0 7 ⌝ }
+{
+    if fits {
+        limits::TAKEN
+    } else {
+        limits::NO_ROOM
+    }
+}
+
+// The lowest of what they answer where they are taken: 6, or 7 by the room of each.
+fn others_later(
+    delay_beats: &[f64],
+    delay_values: &[f64],
+    speed_beats: &[f64],
+    speed_ratios: &[f64],
+    speed_delays: &[f64],
+    speed_units: &[u8],
+    scroll_beats: &[f64],
+    scroll_values: &[f64],
+    fake_beats: &[f64],
+    fake_lengths: &[f64],
+    delay_room: usize,
+    speed_room: usize,
+    scroll_room: usize,
+    fake_room: usize,
+) -> u32
+    ensures { λ r. ⌜ (othersNumber (now («delay_beats» .entry)) (now («delay_values» .entry)) (now («speed_beats» .entry)) (now («speed_ratios» .entry)) (now («speed_delays» .entry)) (now («speed_units» .entry)) (now («scroll_beats» .entry)) (now («scroll_values» .entry)) (now («fake_beats» .entry)) (now («fake_lengths» .entry)) ≡ 0 → r ≡ othersLater (now («delay_beats» .entry)) (now («delay_values» .entry)) (now («speed_beats» .entry)) (now («speed_ratios» .entry)) (now («speed_delays» .entry)) (now («speed_units» .entry)) (now («scroll_beats» .entry)) (now («scroll_values» .entry)) (now («fake_beats» .entry)) (now («fake_lengths» .entry)) «delay_room» «speed_room» «scroll_room» «fake_room») ⌝ }
+{
+    let delays = no_room(assembled_rows::rows_fit(
+        delay_beats,
+        delay_values,
+        false,
+        delay_room,
+    ));
+    let speeds = assembled_speeds::speeds_number(
+        speed_beats,
+        speed_ratios,
+        speed_delays,
+        speed_units,
+        speed_room,
+    );
+    let scrolls = assembled_scrolls::scrolls_number(scroll_beats, scroll_values, scroll_room);
+    let fakes = no_room(assembled_rows::rows_fit(
+        fake_beats,
+        fake_lengths,
+        true,
+        fake_room,
+    ));
+    limits::lower_of(limits::lower_of(limits::lower_of(delays, speeds), scrolls), fakes)
+}
+
+// ---- the call
+
+// The same as `compute_timing_segments`, with at most `most_warps` warps, given and made, and never more than a list may have.
+pub fn compute_timing_segments_within(
+    most_warps: usize,
+    format: TimingFormat,
+    tempo_beats: &[f64],
+    tempo_values: &[f64],
+    stop_beats: &[f64],
+    stop_values: &[f64],
+    delay_beats: &[f64],
+    delay_values: &[f64],
+    warp_beats: &[f64],
+    warp_lengths: &[f64],
+    speed_beats: &[f64],
+    speed_ratios: &[f64],
+    speed_delays: &[f64],
+    speed_units: &[u8],
+    scroll_beats: &[f64],
+    scroll_values: &[f64],
+    fake_beats: &[f64],
+    fake_lengths: &[f64],
+    out_tempo_beats: &mut [f32],
+    out_tempo_values: &mut [f32],
+    out_stop_beats: &mut [f32],
+    out_stop_values: &mut [f32],
+    out_delay_beats: &mut [f32],
+    out_delay_values: &mut [f32],
+    out_warp_beats: &mut [f32],
+    out_warp_lengths: &mut [f32],
+    out_speed_beats: &mut [f32],
+    out_speed_ratios: &mut [f32],
+    out_speed_delays: &mut [f32],
+    out_speed_units: &mut [u8],
+    out_scroll_beats: &mut [f32],
+    out_scroll_values: &mut [f32],
+    out_fake_beats: &mut [f32],
+    out_fake_lengths: &mut [f32],
+) -> Assembled
+    ensures { λ r. ⌜ ThreeLaid (lower (threeNumber (now («tempo_beats» .entry)) (now («tempo_values» .entry)) (now («stop_beats» .entry)) (now («stop_values» .entry)) (now («warp_beats» .entry)) (now («warp_lengths» .entry))) (othersNumber (now («delay_beats» .entry)) (now («delay_values» .entry)) (now («speed_beats» .entry)) (now («speed_ratios» .entry)) (now («speed_delays» .entry)) (now («speed_units» .entry)) (now («scroll_beats» .entry)) (now («scroll_values» .entry)) (now («fake_beats» .entry)) (now («fake_lengths» .entry)))) (othersLater (now («delay_beats» .entry)) (now («delay_values» .entry)) (now («speed_beats» .entry)) (now («speed_ratios» .entry)) (now («speed_delays» .entry)) (now («speed_units» .entry)) (now («scroll_beats» .entry)) (now («scroll_values» .entry)) (now («fake_beats» .entry)) (now («fake_lengths» .entry)) (roomFor (now («out_delay_beats» .entry)) (now («out_delay_values» .entry))) (leastOf (length (now («out_speed_beats» .entry))) (length (now («out_speed_ratios» .entry))) (length (now («out_speed_delays» .entry))) (length (now («out_speed_units» .entry)))) (roomFor (now («out_scroll_beats» .entry)) (now («out_scroll_values» .entry))) (roomFor (now («out_fake_beats» .entry)) (now («out_fake_lengths» .entry)))) «most_warps» (mergedLists format (now («tempo_beats» .entry)) (now («tempo_values» .entry)) (now («stop_beats» .entry)) (now («stop_values» .entry)) (now («warp_beats» .entry)) (now («warp_lengths» .entry))) (processedPart r) (now («out_tempo_beats» .entry)) (now («out_tempo_beats» .exit)) (now («out_tempo_values» .entry)) (now («out_tempo_values» .exit)) (now («out_stop_beats» .entry)) (now («out_stop_beats» .exit)) (now («out_stop_values» .entry)) (now («out_stop_values» .exit)) (now («out_warp_beats» .entry)) (now («out_warp_beats» .exit)) (now («out_warp_lengths» .entry)) (now («out_warp_lengths» .exit)) ⌝ }
+    ensures { λ r. ⌜ LaidList (r .number) (assembledDelays (now («delay_beats» .entry)) (now («delay_values» .entry))) (r .delays) (now («out_delay_beats» .entry)) (now («out_delay_beats» .exit)) (now («out_delay_values» .entry)) (now («out_delay_values» .exit)) ⌝ }
+    ensures { λ r. ⌜ SpeedsLaid (r .number) (assembledSpeeds (now («speed_beats» .entry)) (now («speed_ratios» .entry)) (now («speed_delays» .entry)) (now («speed_units» .entry))) (r .speeds) (now («out_speed_beats» .entry)) (now («out_speed_beats» .exit)) (now («out_speed_ratios» .entry)) (now («out_speed_ratios» .exit)) (now («out_speed_delays» .entry)) (now («out_speed_delays» .exit)) (now («out_speed_units» .entry)) (now («out_speed_units» .exit)) ⌝ }
+    ensures { λ r. ⌜ LaidList (r .number) (assembledScrolls (now («scroll_beats» .entry)) (now («scroll_values» .entry))) (r .scrolls) (now («out_scroll_beats» .entry)) (now («out_scroll_beats» .exit)) (now («out_scroll_values» .entry)) (now («out_scroll_values» .exit)) ⌝ }
+    ensures { λ r. ⌜ LaidList (r .number) (assembledFakes (now («fake_beats» .entry)) (now («fake_lengths» .entry))) (r .fakes) (now («out_fake_beats» .entry)) (now («out_fake_beats» .exit)) (now («out_fake_lengths» .entry)) (now («out_fake_lengths» .exit)) ⌝ }
+{
+    let other = others_number(
+        delay_beats,
+        delay_values,
+        speed_beats,
+        speed_ratios,
+        speed_delays,
+        speed_units,
+        scroll_beats,
+        scroll_values,
+        fake_beats,
+        fake_lengths,
+    );
+    let later = others_later(
+        delay_beats,
+        delay_values,
+        speed_beats,
+        speed_ratios,
+        speed_delays,
+        speed_units,
+        scroll_beats,
+        scroll_values,
+        fake_beats,
+        fake_lengths,
+        columns::room_of(out_delay_beats.len(), out_delay_values.len()),
+        speeds::least_of(
+            out_speed_beats.len(),
+            out_speed_ratios.len(),
+            out_speed_delays.len(),
+            out_speed_units.len(),
+        ),
+        columns::room_of(out_scroll_beats.len(), out_scroll_values.len()),
+        columns::room_of(out_fake_beats.len(), out_fake_lengths.len()),
+    );
+    let processed = assembled_tempos::assemble_tempos(
+        format,
+        most_warps,
+        other,
+        later,
+        tempo_beats,
+        tempo_values,
+        stop_beats,
+        stop_values,
+        warp_beats,
+        warp_lengths,
+        out_tempo_beats,
+        out_tempo_values,
+        out_stop_beats,
+        out_stop_values,
+        out_warp_beats,
+        out_warp_lengths,
+    );
+    if processed.number != limits::TAKEN {
+        return Assembled {
+            number: processed.number,
+            tempos: processed.tempos,
+            stops: processed.stops,
+            delays: 0,
+            warps: processed.warps,
+            speeds: 0,
+            scrolls: 0,
+            fakes: 0,
+            offset: processed.offset,
+        };
+    }
+    let delays = assembled_rows::assemble_rows(
+        delay_beats,
+        delay_values,
+        false,
+        out_delay_beats,
+        out_delay_values,
+    );
+    let speeds = assembled_speeds::assemble_speeds(
+        speed_beats,
+        speed_ratios,
+        speed_delays,
+        speed_units,
+        out_speed_beats,
+        out_speed_ratios,
+        out_speed_delays,
+        out_speed_units,
+    );
+    let scrolls = assembled_scrolls::assemble_scrolls(
+        scroll_beats,
+        scroll_values,
+        out_scroll_beats,
+        out_scroll_values,
+    );
+    let fakes = assembled_rows::assemble_rows(
+        fake_beats,
+        fake_lengths,
+        true,
+        out_fake_beats,
+        out_fake_lengths,
+    );
+    Assembled {
+        number: limits::TAKEN,
+        tempos: processed.tempos,
+        stops: processed.stops,
+        delays: delays.count,
+        warps: processed.warps,
+        speeds: speeds.count,
+        scrolls: scrolls.count,
+        fakes: fakes.count,
+        offset: processed.offset,
+    }
+}
+
+// The seven lists of a chart, tidied and on rows: tempos and stops processed by format, warps that they make behind the given ones. All tests come
+// before anything is written: 1 to 4 for the raw lists, 1 where the warps given and made are too many, 6 for scrolls or speeds, 7 for a room.
+pub fn compute_timing_segments(
+    format: TimingFormat,
+    tempo_beats: &[f64],
+    tempo_values: &[f64],
+    stop_beats: &[f64],
+    stop_values: &[f64],
+    delay_beats: &[f64],
+    delay_values: &[f64],
+    warp_beats: &[f64],
+    warp_lengths: &[f64],
+    speed_beats: &[f64],
+    speed_ratios: &[f64],
+    speed_delays: &[f64],
+    speed_units: &[u8],
+    scroll_beats: &[f64],
+    scroll_values: &[f64],
+    fake_beats: &[f64],
+    fake_lengths: &[f64],
+    out_tempo_beats: &mut [f32],
+    out_tempo_values: &mut [f32],
+    out_stop_beats: &mut [f32],
+    out_stop_values: &mut [f32],
+    out_delay_beats: &mut [f32],
+    out_delay_values: &mut [f32],
+    out_warp_beats: &mut [f32],
+    out_warp_lengths: &mut [f32],
+    out_speed_beats: &mut [f32],
+    out_speed_ratios: &mut [f32],
+    out_speed_delays: &mut [f32],
+    out_speed_units: &mut [u8],
+    out_scroll_beats: &mut [f32],
+    out_scroll_values: &mut [f32],
+    out_fake_beats: &mut [f32],
+    out_fake_lengths: &mut [f32],
+) -> Assembled
+    ensures { λ r. ⌜ ThreeLaid (lower (threeNumber (now («tempo_beats» .entry)) (now («tempo_values» .entry)) (now («stop_beats» .entry)) (now («stop_values» .entry)) (now («warp_beats» .entry)) (now («warp_lengths» .entry))) (othersNumber (now («delay_beats» .entry)) (now («delay_values» .entry)) (now («speed_beats» .entry)) (now («speed_ratios» .entry)) (now («speed_delays» .entry)) (now («speed_units» .entry)) (now («scroll_beats» .entry)) (now («scroll_values» .entry)) (now («fake_beats» .entry)) (now («fake_lengths» .entry)))) (othersLater (now («delay_beats» .entry)) (now («delay_values» .entry)) (now («speed_beats» .entry)) (now («speed_ratios» .entry)) (now («speed_delays» .entry)) (now («speed_units» .entry)) (now («scroll_beats» .entry)) (now («scroll_values» .entry)) (now («fake_beats» .entry)) (now («fake_lengths» .entry)) (roomFor (now («out_delay_beats» .entry)) (now («out_delay_values» .entry))) (leastOf (length (now («out_speed_beats» .entry))) (length (now («out_speed_ratios» .entry))) (length (now («out_speed_delays» .entry))) (length (now («out_speed_units» .entry)))) (roomFor (now («out_scroll_beats» .entry)) (now («out_scroll_values» .entry))) (roomFor (now («out_fake_beats» .entry)) (now («out_fake_lengths» .entry)))) 1024 (mergedLists format (now («tempo_beats» .entry)) (now («tempo_values» .entry)) (now («stop_beats» .entry)) (now («stop_values» .entry)) (now («warp_beats» .entry)) (now («warp_lengths» .entry))) (processedPart r) (now («out_tempo_beats» .entry)) (now («out_tempo_beats» .exit)) (now («out_tempo_values» .entry)) (now («out_tempo_values» .exit)) (now («out_stop_beats» .entry)) (now («out_stop_beats» .exit)) (now («out_stop_values» .entry)) (now («out_stop_values» .exit)) (now («out_warp_beats» .entry)) (now («out_warp_beats» .exit)) (now («out_warp_lengths» .entry)) (now («out_warp_lengths» .exit)) ⌝ }
+    ensures { λ r. ⌜ LaidList (r .number) (assembledDelays (now («delay_beats» .entry)) (now («delay_values» .entry))) (r .delays) (now («out_delay_beats» .entry)) (now («out_delay_beats» .exit)) (now («out_delay_values» .entry)) (now («out_delay_values» .exit)) ⌝ }
+    ensures { λ r. ⌜ SpeedsLaid (r .number) (assembledSpeeds (now («speed_beats» .entry)) (now («speed_ratios» .entry)) (now («speed_delays» .entry)) (now («speed_units» .entry))) (r .speeds) (now («out_speed_beats» .entry)) (now («out_speed_beats» .exit)) (now («out_speed_ratios» .entry)) (now («out_speed_ratios» .exit)) (now («out_speed_delays» .entry)) (now («out_speed_delays» .exit)) (now («out_speed_units» .entry)) (now («out_speed_units» .exit)) ⌝ }
+    ensures { λ r. ⌜ LaidList (r .number) (assembledScrolls (now («scroll_beats» .entry)) (now («scroll_values» .entry))) (r .scrolls) (now («out_scroll_beats» .entry)) (now («out_scroll_beats» .exit)) (now («out_scroll_values» .entry)) (now («out_scroll_values» .exit)) ⌝ }
+    ensures { λ r. ⌜ LaidList (r .number) (assembledFakes (now («fake_beats» .entry)) (now («fake_lengths» .entry))) (r .fakes) (now («out_fake_beats» .entry)) (now («out_fake_beats» .exit)) (now («out_fake_lengths» .entry)) (now («out_fake_lengths» .exit)) ⌝ }
+{
+    compute_timing_segments_within(
+        limits::MOST_ENTRIES,
+        format,
+        tempo_beats,
+        tempo_values,
+        stop_beats,
+        stop_values,
+        delay_beats,
+        delay_values,
+        warp_beats,
+        warp_lengths,
+        speed_beats,
+        speed_ratios,
+        speed_delays,
+        speed_units,
+        scroll_beats,
+        scroll_values,
+        fake_beats,
+        fake_lengths,
+        out_tempo_beats,
+        out_tempo_values,
+        out_stop_beats,
+        out_stop_values,
+        out_delay_beats,
+        out_delay_values,
+        out_warp_beats,
+        out_warp_lengths,
+        out_speed_beats,
+        out_speed_ratios,
+        out_speed_delays,
+        out_speed_units,
+        out_scroll_beats,
+        out_scroll_values,
+        out_fake_beats,
+        out_fake_lengths,
+    )
+}

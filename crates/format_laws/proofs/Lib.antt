@@ -1,0 +1,3 @@
+pub mod StopsOnRows
+pub mod ListsTaken
+pub mod OneOutcome
