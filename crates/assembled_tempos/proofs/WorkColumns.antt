@@ -36,11 +36,10 @@ use Rattle.assembled_tempos.specs.Inside.{Processed, listsOf, WorkRooms}
 front-columns : {list : List (Float × Float)} {count : ℕ} {firstOld firstNew secondOld secondNew : List Float} → LaidList 0 list count firstOld firstNew secondOld secondNew
     → (take count firstNew ≡ map first list) × (take count secondNew ≡ map second list)
 unfolding given
-front-columns {list} {count} {firstOld} {firstNew} {secondOld} {secondNew} l =
-    (
-      rw (l .firstIs) (front-laid (map first list) firstOld count (l .counted ∙ sym (length-map list first))),
-      rw (l .secondIs) (front-laid (map second list) secondOld count (l .counted ∙ sym (length-map list second))),
-    )
+front-columns {list} {count} {firstOld} {firstNew} {secondOld} {secondNew} l = (
+  rw (l .firstIs) (front-laid (map first list) firstOld count (l .counted ∙ sym (length-map list first))),
+  rw (l .secondIs) (front-laid (map second list) secondOld count (l .counted ∙ sym (length-map list second))),
+)
 
 pub record Fronts (lists : Lists) (outcome : raw.Processed) (tempoBeats tempoValues stopBeats stopValues warpBeats warpLengths : List Float) : Type 0 where
   pub tempoBeatsAre : take (outcome .tempos) tempoBeats ≡ map first (lists .tempos)

@@ -38,11 +38,7 @@ fn refused(number: u32) -> AssembledTempos
 fn no_room(fits: bool) -> u32
     ensures { λ r. ⌜ r ≡ pick fits 0 7 ⌝ }
 {
-    if fits {
-        limits::TAKEN
-    } else {
-        limits::NO_ROOM
-    }
+    if fits { limits::TAKEN } else { limits::NO_ROOM }
 }
 
 fn rooms_number(
@@ -60,18 +56,8 @@ fn rooms_number(
     ensures { λ r. ⌜ ((offset : Float) → r ≡ threeRooms (listsOf (now («tempo_beats» .entry)) (now («tempo_values» .entry)) (now («stop_beats» .entry)) (now («stop_values» .entry)) (now («warp_beats» .entry)) (now («warp_lengths» .entry)) offset) «tempo_room» «stop_room» «warp_room») ⌝ }
 {
     let tempos = no_room(tempo_beats.len() <= tempo_room);
-    let stops = no_room(assembled_rows::rows_fit(
-        stop_beats,
-        stop_values,
-        false,
-        stop_room,
-    ));
-    let warps = no_room(assembled_rows::rows_fit(
-        warp_beats,
-        warp_lengths,
-        true,
-        warp_room,
-    ));
+    let stops = no_room(assembled_rows::rows_fit(stop_beats, stop_values, false, stop_room));
+    let warps = no_room(assembled_rows::rows_fit(warp_beats, warp_lengths, true, warp_room));
     limits::lower_of(limits::lower_of(tempos, stops), warps)
 }
 

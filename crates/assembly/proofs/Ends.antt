@@ -71,6 +71,7 @@ same-later {raw} {later} {later′} {most} {lists} {outcome} {tempoBeatsOld} {te
   where
     rooms : ℕ
     rooms = threeRooms lists (roomFor tempoBeatsOld tempoValuesOld) (roomFor stopBeatsOld stopValuesOld) (roomFor warpBeatsOld warpLengthsOld)
+
     go : (t : Bool) → (t ≡ true → raw ≡ 0)
         → pick t (pick (leb (length (lists .warps)) (min most 1024)) (lower later (threeRooms lists (roomFor tempoBeatsOld tempoValuesOld) (roomFor stopBeatsOld stopValuesOld) (roomFor warpBeatsOld warpLengthsOld))) 1) raw
         ≡ pick t (pick (leb (length (lists .warps)) (min most 1024)) (lower later′ (threeRooms lists (roomFor tempoBeatsOld tempoValuesOld) (roomFor stopBeatsOld stopValuesOld) (roomFor warpBeatsOld warpLengthsOld))) 1) raw

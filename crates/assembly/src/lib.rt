@@ -54,17 +54,16 @@ fn others_number(
     );
     let scrolls = limits::list_number(Kind::Beat, Kind::Value, scroll_beats, scroll_values);
     let fakes = limits::list_number(Kind::Beat, Kind::Value, fake_beats, fake_lengths);
-    limits::lower_of(limits::lower_of(limits::lower_of(delays, speeds), scrolls), fakes)
+    limits::lower_of(
+        limits::lower_of(limits::lower_of(delays, speeds), scrolls),
+        fakes,
+    )
 }
 
 fn no_room(fits: bool) -> u32
     ensures { λ r. ⌜ r ≡ pick fits 0 7 ⌝ }
 {
-    if fits {
-        limits::TAKEN
-    } else {
-        limits::NO_ROOM
-    }
+    if fits { limits::TAKEN } else { limits::NO_ROOM }
 }
 
 // The lowest of what they answer where they are taken: 6, or 7 by the room of each.
@@ -86,12 +85,7 @@ fn others_later(
 ) -> u32
     ensures { λ r. ⌜ (othersNumber (now («delay_beats» .entry)) (now («delay_values» .entry)) (now («speed_beats» .entry)) (now («speed_ratios» .entry)) (now («speed_delays» .entry)) (now («speed_units» .entry)) (now («scroll_beats» .entry)) (now («scroll_values» .entry)) (now («fake_beats» .entry)) (now («fake_lengths» .entry)) ≡ 0 → r ≡ othersLater (now («delay_beats» .entry)) (now («delay_values» .entry)) (now («speed_beats» .entry)) (now («speed_ratios» .entry)) (now («speed_delays» .entry)) (now («speed_units» .entry)) (now («scroll_beats» .entry)) (now («scroll_values» .entry)) (now («fake_beats» .entry)) (now («fake_lengths» .entry)) «delay_room» «speed_room» «scroll_room» «fake_room») ⌝ }
 {
-    let delays = no_room(assembled_rows::rows_fit(
-        delay_beats,
-        delay_values,
-        false,
-        delay_room,
-    ));
+    let delays = no_room(assembled_rows::rows_fit(delay_beats, delay_values, false, delay_room));
     let speeds = assembled_speeds::speeds_number(
         speed_beats,
         speed_ratios,
@@ -100,13 +94,11 @@ fn others_later(
         speed_room,
     );
     let scrolls = assembled_scrolls::scrolls_number(scroll_beats, scroll_values, scroll_room);
-    let fakes = no_room(assembled_rows::rows_fit(
-        fake_beats,
-        fake_lengths,
-        true,
-        fake_room,
-    ));
-    limits::lower_of(limits::lower_of(limits::lower_of(delays, speeds), scrolls), fakes)
+    let fakes = no_room(assembled_rows::rows_fit(fake_beats, fake_lengths, true, fake_room));
+    limits::lower_of(
+        limits::lower_of(limits::lower_of(delays, speeds), scrolls),
+        fakes,
+    )
 }
 
 // ---- the call

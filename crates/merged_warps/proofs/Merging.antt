@@ -100,6 +100,7 @@ module _ (raw warps : ℕ) (lists : Lists) (warpBeats warpLengths : List Float) 
     where
       long : roomFor warpBeatsOld warpLengthsOld < length (behindGiven warpBeats warpLengths lists .warps)
       long = omega (arith, merged-length lists warpBeats warpLengths even)
+
       go : (t u : Bool) → eqb (lower raw warps) 0 ≡ t → leb (length (lists .stops)) (roomFor stopBeatsOld stopValuesOld) ≡ u → LeftAs raw warps (behindGiven warpBeats warpLengths lists) tempoBeatsOld tempoValuesOld stopBeatsOld stopValuesOld warpBeatsOld warpLengthsOld (pick t 7 (lower raw warps))
       go true true a b = for-warps (eqb-true (lower raw warps) 0 a) (leb-true _ _ b) long
       go true false a b = for-stops (eqb-true (lower raw warps) 0 a) (leb-false _ _ b)
@@ -109,7 +110,7 @@ module _ (raw warps : ℕ) (lists : Lists) (warpBeats warpLengths : List Float) 
 module _ (raw : ℕ) {warps : ℕ} (h : warps ≡ 0) (lists : Lists) (warpBeats warpLengths : List Float) (even : length warpBeats ≡ length warpLengths) {outcome : Processed}
     {tempoBeatsOld tempoBeatsNew tempoValuesOld tempoValuesNew stopBeatsOld stopBeatsNew stopValuesOld stopValuesNew warpBeatsBack warpLengthsBack : List Float} (warpBeatsOld warpLengthsOld : List Float) (room : length warpBeats ≤ roomFor warpBeatsOld warpLengthsOld)
     (p : ListsLaid raw lists outcome tempoBeatsOld tempoBeatsNew tempoValuesOld tempoValuesNew stopBeatsOld stopBeatsNew stopValuesOld stopValuesNew
-      (take (length warpBeatsOld - length warpBeats) (drop (length warpBeats) warpBeatsOld)) warpBeatsBack (take (length warpLengthsOld - length warpBeats) (drop (length warpBeats) warpLengthsOld)) warpLengthsBack) where
+    (take (length warpBeatsOld - length warpBeats) (drop (length warpBeats) warpBeatsOld)) warpBeatsBack (take (length warpLengthsOld - length warpBeats) (drop (length warpBeats) warpLengthsOld)) warpLengthsBack) where
   merged-number :
       outcome .number
       ≡ roomNumber
