@@ -26,22 +26,31 @@ module _ {A : Type 0} where
   neighbour-at none (x ∷ y ∷ l) zero h = refl
   neighbour-at none (x ∷ y ∷ l) (suc i) h = neighbour-at none (y ∷ l) i (omega arith)
 
-module _ {A B : Type 0} (f : A → B) (test : B → B → Bool) where
-  abbrev pub passes : B × B → Bool
+-- ---- the neighbours of a list
+module _ {A : Type 0} (test : A → A → Bool) where
+  abbrev pub passes : A × A → Bool
   passes e = test (e .0) (e .1)
 
   -- after i neighbours, of which so many failed
   abbrev pub CountedTwo : List A → ℕ → ℕ → Type 0
-  CountedTwo xs i fail = Counted passes (neighbours (map f xs)) i fail
+  CountedTwo xs i fail = Counted passes (neighbours xs) i fail
 
-  pub two-turn : (none : A) (xs : List A) {i fail : ℕ} (one : ℕ) → i + 1 < length xs → one ≡ miss passes (f (getD xs i none), f (getD xs (i + 1) none))
-      → CountedTwo xs i fail → CountedTwo xs (i + 1) (fail + one)
+  pub two-turn : (none : A) (xs : List A) {i fail : ℕ} (one : ℕ) → i + 1 < length xs → one ≡ miss passes (getD xs i none, getD xs (i + 1) none) → CountedTwo xs i fail → CountedTwo xs (i + 1) (fail + one)
   two-turn none xs {i} {fail} one h e c =
-      let long : length (map f xs) ≡ length xs = length-map xs f in
-      let inside : i < length (neighbours (map f xs)) = omega (arith, neighbours-length (map f xs)) in
-      let here : getD (neighbours (map f xs)) i (f none, f none) ≡ (f (getD xs i none), f (getD xs (i + 1) none)) =
-      neighbour-at (f none) (map f xs) i (omega arith) ∙ rw (add-one i) (ap₂ (λ (a b : B). (a, b)) (List·getD-map f xs i none) (List·getD-map f xs (suc i) none)) in
-      counted-turn passes one (f none, f none) inside (e ∙ ap (miss passes) (sym here)) c
+      let inside : i < length (neighbours xs) = omega (arith, neighbours-length xs) in
+      let here : getD (neighbours xs) i (none, none) ≡ (getD xs i none, getD xs (i + 1) none) = rw (add-one i) (neighbour-at none xs i (omega arith)) in
+      counted-turn passes one (none, none) inside (e ∙ ap (miss passes) (sym here)) c
 
-  pub two-end : (xs : List A) {i fail : ℕ} → length xs ≤ i + 1 → CountedTwo xs i fail → eqb fail 0 ≡ everyTwo test (map f xs)
-  two-end xs h c = counted-end passes (omega (arith, neighbours-length (map f xs), length-map xs f)) c
+  pub two-end : (xs : List A) {i fail : ℕ} → length xs ≤ i + 1 → CountedTwo xs i fail → eqb fail 0 ≡ everyTwo test xs
+  two-end xs h c = counted-end passes (omega (arith, neighbours-length xs)) c
+
+-- ---- of a list whose entries are changed on the way
+module _ {A B : Type 0} (f : A → B) (test : B → B → Bool) where
+  pub changed-turn : (none : A) (xs : List A) {i fail : ℕ} (one : ℕ) {beat next : B} → i + 1 < length xs → beat ≡ f (getD xs i none) → next ≡ f (getD xs (i + 1) none) → one ≡ miss (passes test) (beat, next)
+      → CountedTwo test (map f xs) i fail → CountedTwo test (map f xs) (i + 1) (fail + one)
+  changed-turn none xs {i} {fail} one h a b e c =
+      two-turn test (f none) (map f xs) one (simp length-map h)
+      (e ∙ ap (miss (passes test)) (ap₂ (λ (x y : B). (x, y)) (a ∙ sym (List·getD-map f xs i none)) (b ∙ sym (List·getD-map f xs (i + 1) none)))) c
+
+  pub changed-end : (xs : List A) {i fail : ℕ} → length xs ≤ i + 1 → CountedTwo test (map f xs) i fail → eqb fail 0 ≡ everyTwo test (map f xs)
+  changed-end xs h c = two-end test (map f xs) (simp length-map h) c

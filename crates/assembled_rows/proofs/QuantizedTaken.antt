@@ -2,22 +2,23 @@
 -- Assumes nothing.
 use Prim.Native.Nat.{ℕ, _+_, _*_, _^_, _≤_, _<_}
 use mathlib.Core.Path.{_≡_, refl, sym, ap, _∙_, subst}
-use mathlib.Core.Bool.{Bool, true, false}
+use mathlib.Core.Bool.{Bool, true, false, not}
 use mathlib.Core.List.{List, [], _∷_, map}
 use native.Mathlib.Nat.{le-trans, le-of-eq, mul-one, zero-lt-suc}
 use native.Mathlib.Omega.{arith}
 use borrow.Author.Tests.{le-ltb, eq-eqb}
-use lib.Dec.{lit<, lit≤}
+use lib.Dec.{T, lit<, lit≤}
 use lib.IntN.{ℤ, pos, negsuc, natAbs}
 use lib.ListN.{length, length-map}
 use lib.Pow.{pow-pos}
-use lib.Ieee.{Float, binary32, low, round, ofInt, unlike}
+use lib.Ieee.{Float, nan, inf, fin, binary32, low, fits, isNan, round, ofInt, unlike}
 use lib.Ieee.Exact.{HasValue}
-use lib.Ieee.Scale.{grid}
+use lib.Ieee.Fits.{div-fits}
+use lib.Ieee.Scale.{finite, grid}
 use Rattle.ieee.specs.Narrowing.{narrow}
 use Rattle.ieee.specs.Rounding.{hold}
 use Rattle.ieee.proofs.ByValue.{div-value}
-use Rattle.ieee.proofs.Magnitude.{Sized, sized-within}
+use Rattle.ieee.proofs.Magnitude.{Sized, sized-within, within-finite}
 use Rattle.ieee.proofs.RoundedSize.{grid-up-to, grid-under}
 use Rattle.ieee.proofs.SignedSizes.{negative}
 use Rattle.ieee.proofs.Units.{round-units}
@@ -82,6 +83,19 @@ module _ (r : ℤ) (h : natAbs r ≤ 2 ^ 31) where
       }
 
 -- ---- numbers
+number : (x : Float) → T (finite x) → T (not (isNan x))
+unfolding isNan
+number nan h = absurd h
+number (inf s) h = absurd h
+number (fin s m e) h = tt
+
+-- a quantised number is an f32, and no NaN
+pub quantized-fits : (x : Float) → T (fits binary32 (quantized x))
+quantized-fits x = div-fits binary32 (ofInt binary32 (row binary32 (narrow x))) (ofInt binary32 (pos 48))
+
+pub quantized-number : (x : Float) → T (not (isNan (quantized x)))
+quantized-number x = number (quantized x) (within-finite 30 (quantized x) (sized-within 30 (quantized x) (beat-below (row binary32 (narrow x)) (held-small _))))
+
 pub quantized-value-taken : (value : Float) → inRange (rangeOf Value) (quantized value) ≡ true
 quantized-value-taken value = within-taken 30 (quantized value) (sized-within 30 (quantized value) (beat-below (row binary32 (narrow value)) (held-small _)))
 

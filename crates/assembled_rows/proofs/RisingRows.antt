@@ -4,10 +4,9 @@ use mathlib.Core.Path.{_≡_, refl, sym, ap, ap₂, _∙_}
 use mathlib.Core.Bool.{Bool, true, false}
 use mathlib.Core.List.{List, [], _∷_, map, map-map}
 use lib.Dec.{T}
-use lib.IntN.{ℤ, pos}
+use lib.IntN.{ℤ}
 use lib.ListN.{length, length-map}
-use lib.Ieee.{Float, binary32, binary64, lt, ofInt}
-use lib.Ieee.Fits.{div-fits}
+use lib.Ieee.{Float, binary64, lt}
 use Rattle.ieee.specs.Narrowing.{narrow}
 use Rattle.ieee.proofs.Narrow.{narrow-own}
 use Rattle.rows.specs.Rows.{row, beatOf, quantized, allowedBeat}
@@ -27,10 +26,11 @@ use Rattle.tidy_rows.proofs.TakenBeats.{taken-allowed}
 use Rattle.assembled_rows.specs.AssembledRows.{narrowedEntry, changeBy, assembledRows}
 use Rattle.assembled_rows.specs.Neighbours.{everyTwo}
 use Rattle.assembled_rows.proofs.InRowOrder.{narrowRow, narrow-row-within, rising-rows}
+use Rattle.assembled_rows.proofs.QuantizedTaken.{quantized-fits}
 
 -- a quantised number is an f32
 pub quantized-own : (x : Float) → narrow (quantized x) ≡ quantized x
-quantized-own x = narrow-own (quantized x) (div-fits binary32 (ofInt binary32 (narrowRow x)) (ofInt binary32 (pos 48)))
+quantized-own x = narrow-own (quantized x) (quantized-fits x)
 
 pub each-quantized : (from old : List Float) → laidEach (λ (x : Float). narrow (quantized x)) from old ≡ laidEach quantized from old
 unfolding laidEach

@@ -16,6 +16,22 @@ ghost use Rattle.tidy_rows.specs.RowTidying.{rowsNumber};
 ghost use Rattle.assembled_rows.specs.AssembledRows.{changeBy, narrowedFront, RowsAssembled, rowsFit};
 ghost use Rattle.assembled_rows.specs.Neighbours.{everyTwo, notAbove};
 
+// ---- numbers
+
+// A beat moved to its row, as an f32, in which it loses nothing.
+fn quantized_f32(beat: f64) -> f32
+    ensures { λ r. ⌜ r ≡ quantized beat ⌝ }
+{
+    rows::quantize_beat_f32(ieee::narrow_f64(beat))
+}
+
+// The same as an f64. It is never a NaN, so the cast is plain, and a loop of it has no branch.
+fn quantized_f64(beat: f64) -> f64
+    ensures { λ r. ⌜ r ≡ quantized beat ⌝ }
+{
+    quantized_f32(beat) as f64
+}
+
 // ---- columns: each writes what becomes of entry i of the first column into entry i of the second, for every i that both have
 
 // Each beat moved to its row.
@@ -25,19 +41,18 @@ pub fn quantize_column(from: &[f64], to: &mut [f64])
     let n = columns::room_of(from.len(), to.len());
     let mut i = 0;
     while i < n {
-        to[i] = rows::quantize_beat(from[i]);
+        to[i] = quantized_f64(from[i]);
         i += 1;
     }
 }
 
-// The same as f32, in which a quantised beat loses nothing.
 fn quantize_column_f32(from: &[f64], to: &mut [f32])
     ensures { λ _. ⌜ now (to .exit) ≡ laidEach quantized (now (from .entry)) (now (to .entry)) ⌝ }
 {
     let n = columns::room_of(from.len(), to.len());
     let mut i = 0;
     while i < n {
-        to[i] = rows::quantize_beat_f32(ieee::narrow_f64(from[i]));
+        to[i] = quantized_f32(from[i]);
         i += 1;
     }
 }
@@ -56,6 +71,17 @@ pub fn narrow_column(from: &[f64], to: &mut [f32])
 
 // Each number as it is.
 fn copy_column(from: &[f64], to: &mut [f64])
+    ensures { λ _. ⌜ now (to .exit) ≡ laidEach (λ (x : Float). x) (now (from .entry)) (now (to .entry)) ⌝ }
+{
+    let n = columns::room_of(from.len(), to.len());
+    let mut i = 0;
+    while i < n {
+        to[i] = from[i];
+        i += 1;
+    }
+}
+
+fn copy_column_f32(from: &[f32], to: &mut [f32])
     ensures { λ _. ⌜ now (to .exit) ≡ laidEach (λ (x : Float). x) (now (from .entry)) (now (to .entry)) ⌝ }
 {
     let n = columns::room_of(from.len(), to.len());
@@ -115,33 +141,21 @@ pub fn lay_narrowed(
 
 // ---- the order of quantised beats, as f32: a loop that counts what fails has no branch
 
-fn not_below(beat: f64, next: f64) -> usize
-    ensures { λ r. ⌜ r ≡ miss (λ (e : Float × Float). lt (e .0) (e .1)) (quantized beat, quantized next) ⌝ }
+fn not_below(beat: f32, next: f32) -> usize
+    ensures { λ r. ⌜ r ≡ miss (λ (e : Float × Float). lt (e .0) (e .1)) (beat, next) ⌝ }
 {
-    if rows::quantize_beat_f32(ieee::narrow_f64(beat))
-        < rows::quantize_beat_f32(ieee::narrow_f64(next))
-    {
-        0
-    } else {
-        1
-    }
+    if beat < next { 0 } else { 1 }
 }
 
-fn above(beat: f64, next: f64) -> usize
-    ensures { λ r. ⌜ r ≡ miss (λ (e : Float × Float). notAbove (e .0) (e .1)) (quantized beat, quantized next) ⌝ }
+fn above(beat: f32, next: f32) -> usize
+    ensures { λ r. ⌜ r ≡ miss (λ (e : Float × Float). notAbove (e .0) (e .1)) (beat, next) ⌝ }
 {
-    if rows::quantize_beat_f32(ieee::narrow_f64(next))
-        < rows::quantize_beat_f32(ieee::narrow_f64(beat))
-    {
-        1
-    } else {
-        0
-    }
+    if next < beat { 1 } else { 0 }
 }
 
-// Whether each quantised beat is below the next.
-fn quantized_rise(beats: &[f64]) -> bool
-    ensures { λ r. ⌜ r ≡ everyTwo lt (map quantized (now (beats .entry))) ⌝ }
+// Whether each beat is below the next.
+fn rise(beats: &[f32]) -> bool
+    ensures { λ r. ⌜ r ≡ everyTwo lt (now (beats .entry)) ⌝ }
 {
     let mut fail: usize = 0;
     let mut i = 0;
@@ -152,42 +166,23 @@ fn quantized_rise(beats: &[f64]) -> bool
     fail == 0
 }
 
-// Whether no quantised beat is above the next.
+// Whether no beat, once quantised, is above the next.
 pub fn quantized_never_fall(beats: &[f64]) -> bool
     ensures { λ r. ⌜ r ≡ everyTwo notAbove (map quantized (now (beats .entry))) ⌝ }
 {
+    if beats.len() == 0 {
+        return true;
+    }
+    let mut last = quantized_f32(beats[0]);
     let mut fail: usize = 0;
     let mut i = 0;
     while i + 1 < beats.len() {
-        fail += above(beats[i], beats[i + 1]);
+        let next = quantized_f32(beats[i + 1]);
+        fail += above(last, next);
+        last = next;
         i += 1;
     }
     fail == 0
-}
-
-// ---- beats that rise: no working memory
-
-fn assemble_rising(
-    beats: &[f64],
-    values: &[f64],
-    whole: bool,
-    out_beats: &mut [f32],
-    out_values: &mut [f32],
-) -> Outcome
-    requires { ⌜ rowsNumber (now beats) (now values) ≡ 0 ⌝ }
-    requires { ⌜ everyTwo lt (map quantized (now beats)) ≡ true ⌝ }
-    ensures { λ r. ⌜ RowsAssembled whole (now (beats .entry)) (now (values .entry)) r (now («out_beats» .entry)) (now («out_beats» .exit)) (now («out_values» .entry)) (now («out_values» .exit)) ⌝ }
-{
-    let count = beats.len();
-    if count > columns::room_of(out_beats.len(), out_values.len()) {
-        return columns::refused(limits::NO_ROOM);
-    }
-    quantize_column_f32(beats, out_beats);
-    change_column_f32(whole, values, out_values);
-    Outcome {
-        number: limits::TAKEN,
-        count: count,
-    }
 }
 
 // ---- any other list: by way of columns that are as long as it is
@@ -278,6 +273,110 @@ fn assemble_many(
     )
 }
 
+fn assemble_any(
+    beats: &[f64],
+    values: &[f64],
+    whole: bool,
+    out_beats: &mut [f32],
+    out_values: &mut [f32],
+) -> Outcome
+    requires { ⌜ (length (now values) ≡ length (now beats)) × (length (now beats) ≤ 1024) ⌝ }
+    ensures { λ r. ⌜ RowsAssembled whole (now (beats .entry)) (now (values .entry)) r (now («out_beats» .entry)) (now («out_beats» .exit)) (now («out_values» .entry)) (now («out_values» .exit)) ⌝ }
+{
+    if beats.len() <= 64 {
+        return assemble_few(beats, values, whole, out_beats, out_values);
+    }
+    assemble_many(beats, values, whole, out_beats, out_values)
+}
+
+// ---- a taken list: where its quantised beats rise, they are written as they are, and so is each value
+
+fn assemble_rising(
+    beats: &[f64],
+    quantised: &[f32],
+    values: &[f64],
+    whole: bool,
+    out_beats: &mut [f32],
+    out_values: &mut [f32],
+) -> Outcome
+    requires { ⌜ rowsNumber (now beats) (now values) ≡ 0 ⌝ }
+    requires { ⌜ (now quantised ≡ map quantized (now beats)) × (everyTwo lt (now quantised) ≡ true) ⌝ }
+    ensures { λ r. ⌜ RowsAssembled whole (now (beats .entry)) (now (values .entry)) r (now («out_beats» .entry)) (now («out_beats» .exit)) (now («out_values» .entry)) (now («out_values» .exit)) ⌝ }
+{
+    let count = beats.len();
+    if count > columns::room_of(out_beats.len(), out_values.len()) {
+        return columns::refused(limits::NO_ROOM);
+    }
+    copy_column_f32(quantised, out_beats);
+    change_column_f32(whole, values, out_values);
+    Outcome {
+        number: limits::TAKEN,
+        count: count,
+    }
+}
+
+fn assemble_taken(
+    beats: &[f64],
+    values: &[f64],
+    whole: bool,
+    quantised: &mut [f32],
+    out_beats: &mut [f32],
+    out_values: &mut [f32],
+) -> Outcome
+    requires { ⌜ (rowsNumber (now beats) (now values) ≡ 0) × (length (now quantised) ≡ length (now beats)) ⌝ }
+    ensures { λ r. ⌜ RowsAssembled whole (now (beats .entry)) (now (values .entry)) r (now («out_beats» .entry)) (now («out_beats» .exit)) (now («out_values» .entry)) (now («out_values» .exit)) ⌝ }
+{
+    quantize_column_f32(beats, quantised);
+    if rise(quantised) {
+        return assemble_rising(beats, quantised, values, whole, out_beats, out_values);
+    }
+    assemble_any(beats, values, whole, out_beats, out_values)
+}
+
+fn assemble_taken_few(
+    beats: &[f64],
+    values: &[f64],
+    whole: bool,
+    out_beats: &mut [f32],
+    out_values: &mut [f32],
+) -> Outcome
+    requires { ⌜ (rowsNumber (now beats) (now values) ≡ 0) × (length (now beats) ≤ 64) ⌝ }
+    ensures { λ r. ⌜ RowsAssembled whole (now (beats .entry)) (now (values .entry)) r (now («out_beats» .entry)) (now («out_beats» .exit)) (now («out_values» .entry)) (now («out_values» .exit)) ⌝ }
+{
+    let n = beats.len();
+    let mut quantised = [0.0f32; 64];
+    assemble_taken(
+        beats,
+        values,
+        whole,
+        &mut quantised[..n],
+        out_beats,
+        out_values,
+    )
+}
+
+fn assemble_taken_many(
+    beats: &[f64],
+    values: &[f64],
+    whole: bool,
+    out_beats: &mut [f32],
+    out_values: &mut [f32],
+) -> Outcome
+    requires { ⌜ rowsNumber (now beats) (now values) ≡ 0 ⌝ }
+    ensures { λ r. ⌜ RowsAssembled whole (now (beats .entry)) (now (values .entry)) r (now («out_beats» .entry)) (now («out_beats» .exit)) (now («out_values» .entry)) (now («out_values» .exit)) ⌝ }
+{
+    let n = beats.len();
+    let mut quantised = [0.0f32; 1024];
+    assemble_taken(
+        beats,
+        values,
+        whole,
+        &mut quantised[..n],
+        out_beats,
+        out_values,
+    )
+}
+
 // ---- the calls
 
 // The assembled list over the fronts of both rooms, and its length. `whole`: the values are lengths, which are quantised too.
@@ -293,9 +392,10 @@ pub fn assemble_rows(
 {
     let number = limits::list_number(Kind::Beat, Kind::Value, beats, values);
     if number == limits::TAKEN {
-        if quantized_rise(beats) {
-            return assemble_rising(beats, values, whole, out_beats, out_values);
+        if beats.len() <= 64 {
+            return assemble_taken_few(beats, values, whole, out_beats, out_values);
         }
+        return assemble_taken_many(beats, values, whole, out_beats, out_values);
     }
     if number == limits::TOO_LONG {
         return columns::refused(limits::TOO_LONG);
@@ -303,10 +403,7 @@ pub fn assemble_rows(
     if number == limits::UNEVEN {
         return columns::refused(limits::UNEVEN);
     }
-    if beats.len() <= 64 {
-        return assemble_few(beats, values, whole, out_beats, out_values);
-    }
-    assemble_many(beats, values, whole, out_beats, out_values)
+    assemble_any(beats, values, whole, out_beats, out_values)
 }
 
 fn fits_below(beats: &[f64], values: &[f64], whole: bool, room: usize) -> bool

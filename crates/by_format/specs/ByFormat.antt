@@ -13,7 +13,7 @@ use Rattle.raw_lists.specs.RawLists.{rawNumbers}
 use Rattle.process_ssc.specs.Ssc as ssc
 use Rattle.sm_changes.specs.SmChanges.{smChanges}
 use Rattle.sm_walk.specs.Chart.{offsetOf}
-use Rattle.process_sm.specs.Sm.{written, tidied, SmLaid}
+use Rattle.sm_lent.specs.Sm.{written, tidied, SmLaid}
 use Rattle.by_format.specs.declared.TimingFormat.{TimingFormat}
 use Rattle.by_format.specs.declared.TimingFormat.the-variants.{Sm, Ssc}
 

@@ -43,7 +43,7 @@ use Rattle.sm_laws.specs.Beats as beats
 use Rattle.sm_bounds.proofs.AssemblyTakes.{sm-stops-taken, sm-warps-taken}
 use Rattle.sm_laws.proofs.ChangesInOrder.{changeKey}
 use Rattle.assembled_rows.proofs.QuantizedTaken.{list-passes}
-use Rattle.process_sm.specs.Sm.{written}
+use Rattle.sm_lent.specs.Sm.{written}
 use Rattle.by_format.specs.declared.TimingFormat.{TimingFormat}
 use Rattle.by_format.specs.declared.TimingFormat.the-variants.{Sm, Ssc}
 use Rattle.by_format.specs.ByFormat.{Lists, noneGiven, tempoBeatsOf, tempoValuesOf, listsBy, processedLists}

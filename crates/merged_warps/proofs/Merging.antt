@@ -24,7 +24,7 @@ use Rattle.columns.proofs.OneOutcome.{one-list}
 use Rattle.raw_lists.specs.declared.Processed.{Processed}
 use Rattle.raw_lists.specs.RawLists.{rawNumbers, roomFor, processedNothing}
 use Rattle.by_format.specs.ByFormat.{Lists, ListsLaid}
-use Rattle.process_sm.proofs.Ends.{by-tests, for-stops, for-warps}
+use Rattle.sm_lent.proofs.Ends.{by-tests, for-stops, for-warps}
 use Rattle.merged_warps.specs.MergedWarps.{orNoRoom, behindGiven}
 
 -- ---- the number

@@ -86,6 +86,9 @@ module _ (beats values : List Float) (taken : rawNumber beats values ≡ 0) wher
   pub changes-good : Each beatKey32 Good (smChanges beats values)
   changes-good = let raw = list-taken taken in each-ordered beatKey32 Good (stayed beats values) (stayed-good beats values (raw .beatsIn) (raw .valuesIn))
 
+  pub changes-numbers : every isNumber (map second (smChanges beats values)) ≡ true
+  changes-numbers = numbers (smChanges beats values) changes-good
+
   pub few-changes : length (smChanges beats values) ≤ length beats
   few-changes = omega (arith, ordered-length beatKey32 (stayed beats values), few-kept staysSm narrowed (entries beats values), length-entries beats values (list-taken taken .even))
 
@@ -108,7 +111,7 @@ module _ (tempoBeats tempoValues stopBeats stopValues : List Float) (t : rawNumb
       record {
         tempos = same-columns T;
         stops = same-columns (smChanges stopBeats stopValues);
-        numbers = rw (entries-columns T) (each-number T (numbers T (changes-good tempoBeats tempoValues t)));
+        numbers = rw (entries-columns T) (each-number T (changes-numbers tempoBeats tempoValues t));
       }
 
   -- how much is written
@@ -123,5 +126,5 @@ module _ (tempoBeats tempoValues stopBeats stopValues : List Float) (t : rawNumb
   walk-takes into room =
       let T = smChanges tempoBeats tempoValues in
       let S = smChanges stopBeats stopValues in
-      walk-taken (map first T) (map second T) (map first S) (map second S) into (same-columns T) (same-columns S) (numbers T (changes-good tempoBeats tempoValues t))
+      walk-taken (map first T) (map second T) (map first S) (map second S) into (same-columns T) (same-columns S) (changes-numbers tempoBeats tempoValues t)
       (rw (length-map T first, length-map S first) room)

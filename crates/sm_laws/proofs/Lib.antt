@@ -3,7 +3,6 @@ pub mod Segments
 pub mod ArrowsKeepOrder
 pub mod ChangesInOrder
 pub mod WrittenInOrder
-pub mod WrittenTaken
 pub mod Incident
 pub mod OneOutcome
 pub mod WalkTaken

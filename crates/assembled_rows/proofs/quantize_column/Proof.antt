@@ -20,14 +20,14 @@ room-of-requires c κs = search needs
 loop-holds : tie.Need-loop-holds Inv-loop μ-loop
 loop-holds c = begun (c .room-of .ensures)
 
-mul-quantize-beat : tie.Need-mul-quantize-beat Inv-loop μ-loop
-mul-quantize-beat c = search needs
+mul-quantized-f64 : tie.Need-mul-quantized-f64 Inv-loop μ-loop
+mul-quantized-f64 c = search needs
 
-shared-slice-read-quantize-beat : tie.Need-shared-slice-read-quantize-beat Inv-loop μ-loop
-shared-slice-read-quantize-beat c = search needs
+shared-slice-read-quantized-f64 : tie.Need-shared-slice-read-quantized-f64 Inv-loop μ-loop
+shared-slice-read-quantized-f64 c = search needs
 
-quantize-beat-requires : tie.Need-quantize-beat-requires Inv-loop μ-loop
-quantize-beat-requires c κs = search needs
+quantized-f64-requires : tie.Need-quantized-f64-requires Inv-loop μ-loop
+quantized-f64-requires c κs = search needs
 
 mul-to : tie.Need-mul-to Inv-loop μ-loop
 mul-to c = search needs
@@ -42,7 +42,7 @@ loop-less : tie.Need-loop-less Inv-loop μ-loop
 loop-less c = search needs
 
 loop-again : tie.Need-loop-again Inv-loop μ-loop
-loop-again c = turned (c .before .before .before .loop .inv) nan (omega arith) (search needs)
+loop-again c = turned (c .before .before .before .loop .inv) nan (omega arith) (c .quantized-f64 .ensures)
 
 same-length : tie.Need-same-length Inv-loop μ-loop
 same-length c = search needs
@@ -58,9 +58,9 @@ quantize-column-spec =
     μ-loop
     room-of-requires
     loop-holds
-    mul-quantize-beat
-    shared-slice-read-quantize-beat
-    quantize-beat-requires
+    mul-quantized-f64
+    shared-slice-read-quantized-f64
+    quantized-f64-requires
     mul-to
     slice-write-to
     add-i

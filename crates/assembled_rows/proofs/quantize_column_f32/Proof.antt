@@ -1,9 +1,8 @@
 -- `assembled_rows::quantize_column_f32` writes each beat quantised, as far as both columns go. Assumes nothing.
-use mathlib.Core.Path.{ap, _∙_}
 use Prim.Native.Nat.{_-_}
 use native.Mathlib.Omega.{arith}
 use lib.Ieee.{nan}
-use Rattle.rows.specs.Rows.{quantized, quantized32}
+use Rattle.rows.specs.Rows.{quantized}
 use Rattle.columns.proofs.LaidEach.{LayingEach, begun, turned, ended}
 use borrow.Author.Needs.{needs}
 use Rattle.assembled_rows.proofs.quantize_column_f32.Statement.{statement}
@@ -21,17 +20,14 @@ room-of-requires c κs = search needs
 loop-holds : tie.Need-loop-holds Inv-loop μ-loop
 loop-holds c = begun (c .room-of .ensures)
 
-mul-narrow-f64 : tie.Need-mul-narrow-f64 Inv-loop μ-loop
-mul-narrow-f64 c = search needs
+mul-quantized-f32 : tie.Need-mul-quantized-f32 Inv-loop μ-loop
+mul-quantized-f32 c = search needs
 
-shared-slice-read-narrow-f64 : tie.Need-shared-slice-read-narrow-f64 Inv-loop μ-loop
-shared-slice-read-narrow-f64 c = search needs
+shared-slice-read-quantized-f32 : tie.Need-shared-slice-read-quantized-f32 Inv-loop μ-loop
+shared-slice-read-quantized-f32 c = search needs
 
-narrow-f64-requires : tie.Need-narrow-f64-requires Inv-loop μ-loop
-narrow-f64-requires c κs = search needs
-
-quantize-beat-f32-requires : tie.Need-quantize-beat-f32-requires Inv-loop μ-loop
-quantize-beat-f32-requires c κs = search needs
+quantized-f32-requires : tie.Need-quantized-f32-requires Inv-loop μ-loop
+quantized-f32-requires c κs = search needs
 
 mul-to : tie.Need-mul-to Inv-loop μ-loop
 mul-to c = search needs
@@ -46,7 +42,7 @@ loop-less : tie.Need-loop-less Inv-loop μ-loop
 loop-less c = search needs
 
 loop-again : tie.Need-loop-again Inv-loop μ-loop
-loop-again c = turned (c .before .before .before .before .loop .inv) nan (omega arith) (c .quantize-beat-f32 .ensures ∙ ap quantized32 (c .before .narrow-f64 .ensures))
+loop-again c = turned (c .before .before .before .loop .inv) nan (omega arith) (c .quantized-f32 .ensures)
 
 same-length : tie.Need-same-length Inv-loop μ-loop
 same-length c = search needs
@@ -62,10 +58,9 @@ quantize-column-f32-spec =
     μ-loop
     room-of-requires
     loop-holds
-    mul-narrow-f64
-    shared-slice-read-narrow-f64
-    narrow-f64-requires
-    quantize-beat-f32-requires
+    mul-quantized-f32
+    shared-slice-read-quantized-f32
+    quantized-f32-requires
     mul-to
     slice-write-to
     add-i

@@ -1,4 +1,4 @@
--- `process_sm::copy` copies place by place. Assumes nothing.
+-- `sm_lent::copy` copies place by place. Assumes nothing.
 use Prim.Native.Nat.{_+_, _-_, _≤_}
 use mathlib.Core.Path.{_≡_, refl, ap, _∙_}
 use mathlib.Core.List.{List, map-id}
@@ -9,8 +9,8 @@ use Rattle.order.specs.Order.{laid}
 use Rattle.columns.proofs.LaidEach.{LayingEach, begun, turned, ended}
 use Rattle.columns.proofs.EachOverFront.{each-over-front}
 use borrow.Author.Needs.{needs}
-use Rattle.process_sm.proofs.copy.Statement.{statement}
-use Rattle.process_sm.proofs.copy.Tie as tie
+use Rattle.sm_lent.proofs.copy.Statement.{statement}
+use Rattle.sm_lent.proofs.copy.Tie as tie
 
 abbrev Inv-loop : tie.InvT-loop
 Inv-loop from to₀ i₀ to i = LayingEach (λ (x : Float). x) from to₀ (length from) to i

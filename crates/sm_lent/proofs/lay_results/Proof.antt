@@ -1,4 +1,4 @@
--- `process_sm::lay_results` refuses for the room of any list, and else tidies the tempos and copies the rest. Assumes nothing.
+-- `sm_lent::lay_results` refuses for the room of any list, and else tidies the tempos and copies the rest. Assumes nothing.
 use Prim.Native.Nat.{ℕ, _≤_, _<_}
 use mathlib.Core.Path.{_≡_, refl, sym, ap, _∙_}
 use mathlib.Core.List.{List}
@@ -11,10 +11,10 @@ use Rattle.order.proofs.Columns.{length-entries, first-entries, second-entries}
 use Rattle.columns.specs.Laying.{LaidPair}
 use Rattle.raw_lists.specs.RawLists.{roomFor}
 use Rattle.tidy_tempos.specs.TempoTidying.{tidyTempos}
-use Rattle.process_sm.proofs.Ends.{for-stops, for-warps, for-tempos, taken}
+use Rattle.sm_lent.proofs.Ends.{for-stops, for-warps, for-tempos, taken}
 use borrow.Author.Needs.{needs}
-use Rattle.process_sm.proofs.lay_results.Statement.{statement}
-use Rattle.process_sm.proofs.lay_results.Tie as tie
+use Rattle.sm_lent.proofs.lay_results.Statement.{statement}
+use Rattle.sm_lent.proofs.lay_results.Tie as tie
 
 stops-fit : (c : tie.Else1) → length (entries (c .before .before .before .before .before .before .before .before .before .before .before .before .before .before .args .stop-beats .now) (c .before .before .before .before .before .before .before .before .before .before .before .before .before .before .args .stop-values .now)) ≤ roomFor (c .before .before .before .before .before .before .before .before .before .before .before .before .before .before .args .out-stop-beats .now) (c .before .before .before .before .before .before .before .before .before .before .before .before .before .before .args .out-stop-values .now)
 stops-fit c = omega (arith, c .if1 .left, c .before .room-of .ensures, length-entries (c .before .before .before .before .before .before .before .before .before .before .before .before .before .before .args .stop-beats .now) (c .before .before .before .before .before .before .before .before .before .before .before .before .before .before .args .stop-values .now) (c .before .before .before .before .before .before .before .before .before .before .before .before .before .before .pre .1 .0))

@@ -15,7 +15,7 @@ use Rattle.columns.specs.declared.Outcome.{Outcome}
 use Rattle.columns.specs.Laying.{roomNumber, LaidPair}
 use Rattle.columns.proofs.Rooms.{number-of-tests, number-no-room, number-taken, list-refused, list-laid, list-of-pair, pair-fits, pair-short, pair-untouched}
 use Rattle.raw_lists.specs.RawLists.{roomFor, processedNothing}
-use Rattle.process_sm.specs.Sm.{tidied, SmLaid}
+use Rattle.sm_lent.specs.Sm.{tidied, SmLaid}
 
 stays : (n count room : ℕ) → (n ≡ 0 → ⊥) → (m : ℕ) → m ≡ n → m ≡ roomNumber n count room
 stays n count room h m e = e ∙ number-of-tests n count room h

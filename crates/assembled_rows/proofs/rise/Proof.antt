@@ -1,25 +1,23 @@
--- `assembled_rows::quantized_rise` counts the neighbours that fail. Assumes nothing.
+-- `assembled_rows::rise` counts the neighbours that fail. Assumes nothing.
 use Prim.Native.Nat.{_+_, _-_, _≤_}
-use mathlib.Core.List.{map}
 use native.Mathlib.Omega.{arith}
 use lib.ListN.{length, getD}
 use lib.Ieee.{lt, nan}
-use Rattle.rows.specs.Rows.{quantized}
 use Rattle.limits.proofs.Every.{counted-start, miss-few}
 use Rattle.assembled_rows.specs.Neighbours.{neighbours}
 use Rattle.assembled_rows.proofs.EachTwo.{passes, CountedTwo, two-turn, two-end}
 use borrow.Author.Needs.{needs}
-use Rattle.assembled_rows.proofs.quantized_rise.Statement.{statement}
-use Rattle.assembled_rows.proofs.quantized_rise.Tie as tie
+use Rattle.assembled_rows.proofs.rise.Statement.{statement}
+use Rattle.assembled_rows.proofs.rise.Tie as tie
 
 abbrev Inv-loop : tie.InvT-loop
-Inv-loop beats fail₀ i₀ fail i = (i ≤ length beats) × CountedTwo quantized lt beats i fail
+Inv-loop beats fail₀ i₀ fail i = (i ≤ length beats) × CountedTwo lt beats i fail
 
 abbrev μ-loop : tie.MeasureT-loop
 μ-loop beats fail₀ i₀ fail i = length beats - i
 
 loop-holds : tie.Need-loop-holds Inv-loop μ-loop
-loop-holds c = (omega arith, counted-start (passes quantized lt) (neighbours (map quantized (c .before .args .beats .now))))
+loop-holds c = (omega arith, counted-start (passes lt) (neighbours (c .before .args .beats .now)))
 
 add-loop : tie.Need-add-loop Inv-loop μ-loop
 add-loop c = search needs
@@ -43,7 +41,7 @@ not-below-requires : tie.Need-not-below-requires Inv-loop μ-loop
 not-below-requires c κs = search needs
 
 add-fail : tie.Need-add-fail Inv-loop μ-loop
-add-fail c = record { fits = omega (arith, c .before .before .before .before .loop .inv .1 .few, c .not-below .ensures, miss-few (passes quantized lt) (quantized (getD (c .before .before .before .before .before .before .args .beats .now) (c .before .before .before .before .loop .i) nan), quantized (getD (c .before .before .before .before .before .before .args .beats .now) (c .before .before .before .before .loop .i + 1) nan))) }
+add-fail c = record { fits = omega (arith, c .before .before .before .before .loop .inv .1 .few, c .not-below .ensures, miss-few (passes lt) (getD (c .before .before .before .before .before .before .args .beats .now) (c .before .before .before .before .loop .i) nan, getD (c .before .before .before .before .before .before .args .beats .now) (c .before .before .before .before .loop .i + 1) nan)) }
 
 add-i : tie.Need-add-i Inv-loop μ-loop
 add-i c = search needs
@@ -52,13 +50,13 @@ loop-less : tie.Need-loop-less Inv-loop μ-loop
 loop-less c = search needs
 
 loop-again : tie.Need-loop-again Inv-loop μ-loop
-loop-again c = (omega arith, two-turn quantized lt nan (c .before .before .before .before .before .before .args .beats .now) (c .not-below .result) (c .before .before .before .loop-test .taken) (c .not-below .ensures) (c .before .before .before .before .loop .inv .1))
+loop-again c = (omega arith, two-turn lt nan (c .before .before .before .before .before .before .args .beats .now) (c .not-below .result) (c .before .before .before .loop-test .taken) (c .not-below .ensures) (c .before .before .before .before .loop .inv .1))
 
 returns : tie.Need-returns Inv-loop μ-loop
-returns c = two-end quantized lt (c .before .before .before .args .beats .now) (c .loop-test .left) (c .before .loop .inv .1)
+returns c = two-end lt (c .before .before .before .args .beats .now) (c .loop-test .left) (c .before .loop .inv .1)
 
-pub quantized-rise-spec : {M : Type 1} → statement M
-quantized-rise-spec =
+pub rise-spec : {M : Type 1} → statement M
+rise-spec =
     tie.close
     (tie.spec
     Inv-loop

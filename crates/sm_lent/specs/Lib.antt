@@ -1,0 +1,2 @@
+pub mod Sm
+pub mod Lent

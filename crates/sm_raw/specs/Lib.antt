@@ -1,0 +1,2 @@
+pub mod RawWalk
+pub mod Inside
