@@ -1,4 +1,4 @@
--- The stops, delays, warps and fakes that assembly writes are tidy; and the clock refuses the offset that it writes exactly where it is beyond an offset's limit. Assumes nothing.
+-- What assembly writes is a tidy timing: the clock and the lookups take its lists; the clock refuses the offset that it writes exactly where it is beyond an offset's limit. Assumes nothing.
 use Prim.Native.Nat.{ℕ, _≤_}
 use mathlib.Core.Path.{_≡_, refl, sym, ap, _∙_}
 use mathlib.Core.Bool.{Bool, true, false}
@@ -10,16 +10,23 @@ use Rattle.ieee.specs.Narrowing.{narrow}
 use Rattle.limits.specs.declared.Kind.the-variants.{Value, Pause, Offset}
 use Rattle.limits.specs.Numbers.{rangeOf, inRange}
 use Rattle.order.specs.Entries.{first, second}
-use Rattle.timing_tests.specs.TimingNumbers.{offsetNumber}
+use Rattle.limits.specs.Refusals.{lower}
+use Rattle.limits.proofs.NoRefusal.{lower-none}
+use Rattle.raw_lists.specs.RawLists.{rawNumbers}
+use Rattle.walk.specs.Events.{timing}
+use Rattle.timing_tests.specs.TimingNumbers.{listsNumber, offsetNumber, offsetsNumber, orderNumber, timingNumber}
+use Rattle.lookup.specs.Lookups.{judgableNumber}
 use Rattle.by_format.specs.declared.TimingFormat.{TimingFormat}
 use Rattle.by_format.specs.ByFormat.{Lists}
-use Rattle.merged_warps.specs.MergedWarps.{threeNumber, mergedLists}
+use Rattle.merged_warps.specs.MergedWarps.{warpsNumber, threeNumber, mergedLists}
 use Rattle.assembled_rows.specs.AssembledRows.{changeBy, assembledRows}
 use Rattle.assembled_rows.proofs.QuantizedTaken.{quantized-taken}
-use Rattle.assembled_tempos.specs.AssembledTempos.{assembledStops, assembledWarps}
+use Rattle.assembled_tempos.specs.AssembledTempos.{assembledTempos, assembledStops, assembledWarps}
 use Rattle.assembled_tempos.proofs.WorkColumns.{merged-stops, stops-on-rows, merged-warps}
 use Rattle.assembly.specs.Assembly.{listOf, assembledDelays, assembledFakes}
 use Rattle.tidy_timing.proofs.RowLists.{TidyRows, lengths-tidy, pauses-tidy}
+use Rattle.tidy_timing.proofs.TidiedTempos.{TidyTempos}
+use Rattle.tidy_timing.proofs.ProcessedTempos as processed
 
 -- ---- lists that are assembled as they are given
 
@@ -49,6 +56,34 @@ module _ (format : TimingFormat) (tempoBeats tempoValues stopBeats stopValues wa
   warps-tidy few =
       lengths-tidy (changeBy true) (map first (lists .warps)) (map second (lists .warps))
       (quantized-taken (map first (lists .warps)) (map second (lists .warps)) true (merged-warps format tempoBeats tempoValues stopBeats stopValues warpBeats warpLengths taken (rw (length-map (lists .warps) first) few)))
+
+  -- tempos start at beat 0, rise strictly by row, and none is 0
+  pub tempos-tidy : TidyTempos (assembledTempos lists)
+  tempos-tidy = processed.tempos-tidy format tempoBeats tempoValues stopBeats stopValues (lower-none (rawNumbers tempoBeats tempoValues stopBeats stopValues) (warpsNumber warpBeats warpLengths) taken .0)
+
+  -- ---- all lists
+  module _ (few : length (lists .warps) ≤ 1024) (delayBeats delayValues : List Float) (delays : listOf delayBeats delayValues ≡ 0) where
+    -- the clock, where the offsets are within their limit
+    pub clock-takes : (offset global : Float) → inRange (rangeOf Offset) offset ≡ true → inRange (rangeOf Offset) global ≡ true
+        → timingNumber
+        (timing (map first (assembledTempos lists)) (map second (assembledTempos lists)) (map first (assembledStops lists)) (map second (assembledStops lists)) (map first (assembledDelays delayBeats delayValues)) (map second (assembledDelays delayBeats delayValues)) (map first (assembledWarps lists)) (map second (assembledWarps lists)))
+        offset global
+        ≡ 0
+    unfolding timingNumber listsNumber offsetsNumber offsetNumber orderNumber lower
+    clock-takes offset global o g =
+        let t = tempos-tidy in
+        let s = stops-tidy in
+        let d = delays-tidy delayBeats delayValues delays in
+        let w = warps-tidy few in
+        rw (t .taken, s .taken, d .taken, w .taken, o, g, t .rising, s .rising, d .rising, w .rising, t .starts)
+
+    -- the lookups, for any row or beat within the limit
+    pub lookups-take : (fakeBeats fakeLengths : List Float) → listOf fakeBeats fakeLengths ≡ 0
+        → judgableNumber (map first (assembledStops lists)) (map second (assembledStops lists)) (map first (assembledDelays delayBeats delayValues)) (map second (assembledDelays delayBeats delayValues)) (map first (assembledWarps lists)) (map second (assembledWarps lists)) (map first (assembledFakes fakeBeats fakeLengths)) (map second (assembledFakes fakeBeats fakeLengths)) true
+        ≡ 0
+    unfolding lower
+    lookups-take fakeBeats fakeLengths fakes =
+        rw (stops-tidy .found, delays-tidy delayBeats delayValues delays .found, warps-tidy few .found, fakes-tidy fakeBeats fakeLengths fakes .found)
 
 -- ---- the offset
 
