@@ -28,6 +28,7 @@ pub mod numbers;
 #[cfg(feature = "port")]
 pub mod processing;
 pub mod random;
+pub mod report;
 #[cfg(feature = "port")]
 pub mod sm_stops;
 #[cfg(feature = "port")]

@@ -1,8 +1,7 @@
 -- A number as upper-case hexadecimal digits. Definitions only.
-use Prim.Native.Nat.{ℕ, zero, suc, _+_, _-_, _*_, _%_}
-use mathlib.Core.List.{List}
+use Prim.Native.Nat.{ℕ, zero, suc, _+_, _-_, _^_, _/_, _%_}
+use mathlib.Core.List.{List, [], _∷_}
 use lib.Dec.{ltb, leb}
-use lib.ListN.{getD}
 use Rattle.picks.specs.Pick.{pick}
 
 -- what a byte stands for: '0' to '9' and 'A' to 'F' are 0 to 15, and 16 says that it is no digit
@@ -29,3 +28,8 @@ digitsFrom (suc left) text at number = digitsFrom left text (suc at) (number % 0
 -- the number of the sixteen digits from a place on
 abbrev pub wordAt : List ℕ → ℕ → ℕ
 wordAt text at = digitsFrom 16 text at 0
+
+-- the last k digits of a number, the highest first
+unfoldable pub hexText : ℕ → ℕ → List ℕ
+hexText zero number = []
+hexText (suc k) number = hexDigit (number / 16 ^ k % 16) ∷ hexText k number

@@ -1,9 +1,9 @@
 // Floats by their bit patterns, NaN included, and the hexadecimal digits that patterns are written in.
 ghost use mathlib.Core.Path.{_≡_};
-ghost use Prim.Native.Nat.{_%_};
+ghost use Prim.Native.Nat.{_%_, _/_, _<_};
 ghost use lib.Ieee.{ofBits, toBits, binary32, binary64};
-ghost use Rattle.patterns.specs.Hex.{hexValue, hexDigit, wordAt};
 ghost use lib.ListN.{getD};
+ghost use Rattle.patterns.specs.Hex.{hexValue, hexDigit, wordAt, hexText};
 
 // The f64 of a pattern; every NaN pattern gives the one NaN.
 pub fn f64_of_bits(bits: u64) -> f64
@@ -99,4 +99,28 @@ pub fn hex_word(text: &[u8], at: usize) -> u64
         i += 1;
     }
     number
+}
+
+// The digit at a place, which is a power of 16.
+fn digit_at(bits: u32, place: u32) -> u8
+    requires { ⌜ 0 < place ⌝ }
+    ensures { λ r. ⌜ r ≡ hexDigit (bits / place % 16) ⌝ }
+{
+    hex_digit((bits / place % 16) as u8)
+}
+
+// The eight digits of a pattern of 32 bits.
+pub fn hex8(bits: u32) -> [u8; 8]
+    ensures { λ r. ⌜ r ≡ hexText 8 bits ⌝ }
+{
+    [
+        digit_at(bits, 0x1000_0000),
+        digit_at(bits, 0x100_0000),
+        digit_at(bits, 0x10_0000),
+        digit_at(bits, 0x1_0000),
+        digit_at(bits, 0x1000),
+        digit_at(bits, 0x100),
+        digit_at(bits, 0x10),
+        digit_at(bits, 1),
+    ]
 }

@@ -1,0 +1,19 @@
+-- `report::front_units` lends a part of its column. Assumes nothing.
+use mathlib.Core.Path.{sym}
+use native.Mathlib.Omega.{arith}
+use lib.Seq.{length-take-le}
+use borrow.Author.Needs.{needs}
+use Rattle.report.proofs.front_units.Statement.{statement}
+use Rattle.report.proofs.front_units.Tie as tie
+
+slice-aggregate-result : tie.Need-slice-aggregate-result
+slice-aggregate-result c = sym (length-take-le (c .before .before .args .count) (c .before .before .args .column .now) (omega arith))
+
+returns : tie.Need-returns
+returns c = search needs
+
+returns-2 : tie.Need-returns-2
+returns-2 c = search needs
+
+pub front-units-spec : {M : Type 1} → statement M
+front-units-spec = tie.close (tie.spec slice-aggregate-result returns returns-2)

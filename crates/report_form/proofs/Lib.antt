@@ -1,0 +1,4 @@
+pub mod Counts
+pub mod Pieces
+pub mod LineRead
+pub mod RoundTrip

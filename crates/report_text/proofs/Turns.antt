@@ -1,0 +1,106 @@
+-- One turn of each loop: what is left of bytes, of lines and of lengths. Assumes nothing.
+use Prim.Native.Nat.{ℕ, _+_, _-_, _%_, _^_, _≤_, _<_}
+use mathlib.Core.Path.{_≡_, refl, sym, ap, _∙_}
+use mathlib.Core.List.{List, [], _∷_, _++_}
+use native.Mathlib.Omega.{arith}
+use native.Mathlib.Numerals.{add-one}
+use lib.ListN.{length, drop, getD, drop-of-length-le}
+use lib.Seq.{drop-cons}
+use lib.IntN.{ℤ, pos, negsuc}
+use lib.Ieee.{Float, nan}
+use Rattle.order.specs.RowKey.{rowKey}
+use Rattle.report_text.specs.Page.{Wrote}
+use Rattle.report_text.specs.Output.{pairLine, pairLines, speedLine, speedLines, lengthRows, warpedRows, size}
+use Rattle.report_text.proofs.Joined.{Left, left-turn, left-end}
+
+-- a column that has ended ends the lines
+no-value : (word : List ℕ) (beats : List Float) → pairLines word beats [] ≡ []
+unfolding pairLines
+no-value word [] = refl
+no-value word (beat ∷ beats) = refl
+
+no-ratio : (beats waits : List Float) (units : List ℕ) → speedLines beats [] waits units ≡ []
+unfolding speedLines
+no-ratio [] waits units = refl
+no-ratio (beat ∷ beats) waits units = refl
+
+no-wait : (beats ratios : List Float) (units : List ℕ) → speedLines beats ratios [] units ≡ []
+unfolding speedLines
+no-wait [] ratios units = refl
+no-wait (beat ∷ beats) [] units = refl
+no-wait (beat ∷ beats) (ratio ∷ ratios) units = refl
+
+no-unit : (beats ratios waits : List Float) → speedLines beats ratios waits [] ≡ []
+unfolding speedLines
+no-unit [] ratios waits = refl
+no-unit (beat ∷ beats) [] waits = refl
+no-unit (beat ∷ beats) (ratio ∷ ratios) [] = refl
+no-unit (beat ∷ beats) (ratio ∷ ratios) (wait ∷ waits) = refl
+
+module _ {all : List ℕ} {start at : ℕ} {first now : List ℕ} where
+  pub bytes-turn : {next : ℕ} {then : List ℕ} (bytes : List ℕ) (i : ℕ) → i < length bytes → Left all (drop i bytes) start at first now → Wrote (getD bytes i 0 ∷ []) at next now then → Left all (drop (i + 1) bytes) start next first then
+  bytes-turn bytes i h l w = rw (add-one i) (left-turn (rw (drop-cons bytes i 0 h) at l) w)
+
+  pub bytes-end : (bytes : List ℕ) (i : ℕ) → length bytes ≤ i → Left all (drop i bytes) start at first now → Wrote all start at first now
+  bytes-end bytes i h l = left-end (rw (drop-of-length-le bytes h) at l)
+
+  -- ---- lines of two columns
+  pub pairs-turn : {next : ℕ} {then : List ℕ} (word : List ℕ) (beats values : List Float) (i : ℕ) → i < length beats → i < length values → Left all (pairLines word (drop i beats) (drop i values)) start at first now
+      → Wrote (pairLine word (getD beats i nan) (getD values i nan)) at next now then → Left all (pairLines word (drop (i + 1) beats) (drop (i + 1) values)) start next first then
+  unfolding pairLines
+  pairs-turn word beats values i h k l w = rw (add-one i) (left-turn (rw (drop-cons beats i nan h, drop-cons values i nan k) at l) w)
+
+  pub pairs-end : (word : List ℕ) (beats values : List Float) (i : ℕ) → length beats ≤ i → Left all (pairLines word (drop i beats) (drop i values)) start at first now → Wrote all start at first now
+  unfolding pairLines
+  pairs-end word beats values i h l = left-end (rw (drop-of-length-le beats h) at l)
+
+  pub pairs-short : (word : List ℕ) (beats values : List Float) (i : ℕ) → length values ≤ i → Left all (pairLines word (drop i beats) (drop i values)) start at first now → Wrote all start at first now
+  pairs-short word beats values i h l = left-end (rw (drop-of-length-le values h, no-value word (drop i beats)) at l)
+
+  -- ---- speed lines
+  pub speeds-turn : {next : ℕ} {then : List ℕ} (beats ratios waits : List Float) (units : List ℕ) (i : ℕ) → i < length beats → i < length ratios → i < length waits → i < length units
+      → Left all (speedLines (drop i beats) (drop i ratios) (drop i waits) (drop i units)) start at first now
+      → Wrote (speedLine (getD beats i nan) (getD ratios i nan) (getD waits i nan) (getD units i 0)) at next now then
+      → Left all (speedLines (drop (i + 1) beats) (drop (i + 1) ratios) (drop (i + 1) waits) (drop (i + 1) units)) start next first then
+  unfolding speedLines
+  speeds-turn beats ratios waits units i a b c d l w =
+      rw (add-one i) (left-turn (rw (drop-cons beats i nan a, drop-cons ratios i nan b, drop-cons waits i nan c, drop-cons units i 0 d) at l) w)
+
+  module _ (beats ratios waits : List Float) (units : List ℕ) (i : ℕ) (l : Left all (speedLines (drop i beats) (drop i ratios) (drop i waits) (drop i units)) start at first now) where
+    pub speeds-end : length beats ≤ i → Wrote all start at first now
+    unfolding speedLines
+    speeds-end h = left-end (rw (drop-of-length-le beats h) at l)
+
+    pub speeds-no-ratio : length ratios ≤ i → Wrote all start at first now
+    speeds-no-ratio h = left-end (rw (drop-of-length-le ratios h, no-ratio (drop i beats) (drop i waits) (drop i units)) at l)
+
+    pub speeds-no-wait : length waits ≤ i → Wrote all start at first now
+    speeds-no-wait h = left-end (rw (drop-of-length-le waits h, no-wait (drop i beats) (drop i ratios) (drop i units)) at l)
+
+    pub speeds-no-unit : length units ≤ i → Wrote all start at first now
+    speeds-no-unit h = left-end (rw (drop-of-length-le units h, no-unit (drop i beats) (drop i ratios) (drop i waits)) at l)
+
+-- ---- the sum of rows, round at 2 ^ 64
+abbrev pub Summed : List Float → ℕ → ℕ → Type 0
+Summed lengths sum i = (sum + warpedRows (drop i lengths)) % 2 ^ 64 ≡ warpedRows lengths % 2 ^ 64
+
+round-sum : (a b c : ℕ) → ((a + b) % 2 ^ 64 + c) % 2 ^ 64 ≡ (a + (b + c)) % 2 ^ 64
+round-sum a b c = omega arith
+
+pub summed-turn : (lengths : List Float) (sum next rows i : ℕ) → i < length lengths → rows ≡ lengthRows (getD lengths i nan) → next ≡ (sum + rows) % 2 ^ 64 → Summed lengths sum i → Summed lengths next (i + 1)
+unfolding warpedRows
+summed-turn lengths sum next rows i h e n s =
+    let whole = rw (drop-cons lengths i nan h) at s in
+    rw (add-one i, n, e) (round-sum sum (lengthRows (getD lengths i nan)) _ ∙ whole)
+
+pub summed-end : (lengths : List Float) (sum i : ℕ) → length lengths ≤ i → sum < 2 ^ 64 → Summed lengths sum i → sum ≡ warpedRows lengths % 2 ^ 64
+unfolding warpedRows
+summed-end lengths sum i h small s =
+    let whole : (sum + 0) % 2 ^ 64 ≡ warpedRows lengths % 2 ^ 64 = rw (drop-of-length-le lengths h) at s in
+    omega arith
+
+-- ---- a row, from its key
+pub size-key : (z : ℤ) → rowKey z - 2147483648 ≡ size z
+unfolding rowKey
+size-key (pos n) = omega arith
+size-key (negsuc n) = omega arith

@@ -1,0 +1,85 @@
+-- `report_text::put_pairs` meets its contract: a turn is a line. Assumes nothing.
+use Prim.Native.Nat.{_≤_, _<_, _-_}
+use native.Mathlib.Omega.{arith}
+use lib.ListN.{length, drop}
+use Rattle.report_text.specs.Output.{pairLines}
+use Rattle.report_text.proofs.Joined.{Left, left-start}
+use Rattle.report_text.proofs.Turns.{pairs-turn, pairs-end, pairs-short}
+use borrow.Author.Needs.{needs}
+use Rattle.report_text.proofs.put_pairs.Statement.{statement}
+use Rattle.report_text.proofs.put_pairs.Tie as tie
+
+abbrev Inv-loop : tie.InvT-loop
+Inv-loop page₀ at word beats values place₀ i₀ page place i =
+    (i ≤ length beats) × Left (pairLines word beats values) (pairLines word (drop i beats) (drop i values)) at place page₀ page
+
+abbrev μ-loop : tie.MeasureT-loop
+μ-loop page₀ at word beats values place₀ i₀ page place i = length beats - i
+
+loop-holds : tie.Need-loop-holds Inv-loop μ-loop
+loop-holds c = (search needs, left-start _ _ _)
+
+same-length : tie.Need-same-length Inv-loop μ-loop
+same-length c = c .before .before .loop .inv .1 .size
+
+returns : tie.Need-returns Inv-loop μ-loop
+returns c =
+    let start = c .before .before in
+    let given = start .before .before .before .before .before .args in
+    pairs-short (given .word .now) (given .beats .now) (given .values .now) (start .loop .i) (c .if1 .taken) (start .loop .inv .1)
+
+mul-put-pair : tie.Need-mul-put-pair Inv-loop μ-loop
+mul-put-pair c = search needs
+
+shared-slice-read-put-pair : tie.Need-shared-slice-read-put-pair Inv-loop μ-loop
+shared-slice-read-put-pair c = search needs
+
+mul-put-pair-2 : tie.Need-mul-put-pair-2 Inv-loop μ-loop
+mul-put-pair-2 c = search needs
+
+shared-slice-read-put-pair-2 : tie.Need-shared-slice-read-put-pair-2 Inv-loop μ-loop
+shared-slice-read-put-pair-2 c = search needs
+
+put-pair-requires : tie.Need-put-pair-requires Inv-loop μ-loop
+put-pair-requires c κs = search needs
+
+add-i : tie.Need-add-i Inv-loop μ-loop
+add-i c = search needs
+
+loop-less : tie.Need-loop-less Inv-loop μ-loop
+loop-less c = omega arith
+
+loop-again : tie.Need-loop-again Inv-loop μ-loop
+loop-again c =
+    let start = c .before .before .before .before .before .before .before .before in
+    let given = start .before .before .before .before .before .args in
+    (omega arith, pairs-turn (given .word .now) (given .beats .now) (given .values .now) (start .loop .i) (omega arith) (omega arith) (start .loop .inv .1) (c .before .before .put-pair .ensures))
+
+same-length-2 : tie.Need-same-length-2 Inv-loop μ-loop
+same-length-2 c = c .before .loop .inv .1 .size
+
+returns-2 : tie.Need-returns-2 Inv-loop μ-loop
+returns-2 c =
+    let start = c .before in
+    let given = start .before .before .before .before .before .args in
+    pairs-end (given .word .now) (given .beats .now) (given .values .now) (start .loop .i) (omega arith) (start .loop .inv .1)
+
+pub put-pairs-spec : {M : Type 1} → statement M
+put-pairs-spec =
+    tie.close
+    (tie.spec
+    Inv-loop
+    μ-loop
+    loop-holds
+    same-length
+    returns
+    mul-put-pair
+    shared-slice-read-put-pair
+    mul-put-pair-2
+    shared-slice-read-put-pair-2
+    put-pair-requires
+    add-i
+    loop-less
+    loop-again
+    same-length-2
+    returns-2)
