@@ -315,41 +315,29 @@ fn write_report(
     )
 }
 
-fn main() {
-    let mut room_counts = [0u64; 9];
-    let counts: &mut [u64] = &mut room_counts;
-    let mut room_bpm_beats = [0.0; 256];
-    let bpm_beats: &mut [f64] = &mut room_bpm_beats;
-    let mut room_bpm_values = [0.0; 256];
-    let bpm_values: &mut [f64] = &mut room_bpm_values;
-    let mut room_stop_beats = [0.0; 256];
-    let stop_beats: &mut [f64] = &mut room_stop_beats;
-    let mut room_stop_values = [0.0; 256];
-    let stop_values: &mut [f64] = &mut room_stop_values;
-    let mut room_delay_beats = [0.0; 256];
-    let delay_beats: &mut [f64] = &mut room_delay_beats;
-    let mut room_delay_values = [0.0; 256];
-    let delay_values: &mut [f64] = &mut room_delay_values;
-    let mut room_warp_beats = [0.0; 256];
-    let warp_beats: &mut [f64] = &mut room_warp_beats;
-    let mut room_warp_values = [0.0; 256];
-    let warp_values: &mut [f64] = &mut room_warp_values;
-    let mut room_speed_beats = [0.0; 256];
-    let speed_beats: &mut [f64] = &mut room_speed_beats;
-    let mut room_speed_ratios = [0.0; 256];
-    let speed_ratios: &mut [f64] = &mut room_speed_ratios;
-    let mut room_speed_delays = [0.0; 256];
-    let speed_delays: &mut [f64] = &mut room_speed_delays;
-    let mut room_speed_units = [0u8; 256];
-    let speed_units: &mut [u8] = &mut room_speed_units;
-    let mut room_scroll_beats = [0.0; 256];
-    let scroll_beats: &mut [f64] = &mut room_scroll_beats;
-    let mut room_scroll_values = [0.0; 256];
-    let scroll_values: &mut [f64] = &mut room_scroll_values;
-    let mut room_fake_beats = [0.0; 256];
-    let fake_beats: &mut [f64] = &mut room_fake_beats;
-    let mut room_fake_values = [0.0; 256];
-    let fake_values: &mut [f64] = &mut room_fake_values;
+// Reads all of standard input and writes its report on the page.
+fn run(
+    page: &mut [u8],
+    counts: &mut [u64],
+    bpm_beats: &mut [f64],
+    bpm_values: &mut [f64],
+    stop_beats: &mut [f64],
+    stop_values: &mut [f64],
+    delay_beats: &mut [f64],
+    delay_values: &mut [f64],
+    warp_beats: &mut [f64],
+    warp_values: &mut [f64],
+    speed_beats: &mut [f64],
+    speed_ratios: &mut [f64],
+    speed_delays: &mut [f64],
+    speed_units: &mut [u8],
+    scroll_beats: &mut [f64],
+    scroll_values: &mut [f64],
+    fake_beats: &mut [f64],
+    fake_values: &mut [f64],
+) -> usize
+    ensures { λ r. ⌜ Counts r (now (page .exit)) ⌝ }
+{
     let reading = read_all(
         counts,
         bpm_beats,
@@ -369,9 +357,7 @@ fn main() {
         fake_beats,
         fake_values,
     );
-    let mut room_page = [0u8; 65536];
-    let page: &mut [u8] = &mut room_page;
-    let length = write_report(
+    write_report(
         page,
         reading,
         counts,
@@ -391,6 +377,47 @@ fn main() {
         scroll_values,
         fake_beats,
         fake_values,
+    )
+}
+
+fn main() {
+    let mut counts = [0u64; 9];
+    let mut bpm_beats = [0.0; 256];
+    let mut bpm_values = [0.0; 256];
+    let mut stop_beats = [0.0; 256];
+    let mut stop_values = [0.0; 256];
+    let mut delay_beats = [0.0; 256];
+    let mut delay_values = [0.0; 256];
+    let mut warp_beats = [0.0; 256];
+    let mut warp_values = [0.0; 256];
+    let mut speed_beats = [0.0; 256];
+    let mut speed_ratios = [0.0; 256];
+    let mut speed_delays = [0.0; 256];
+    let mut speed_units = [0u8; 256];
+    let mut scroll_beats = [0.0; 256];
+    let mut scroll_values = [0.0; 256];
+    let mut fake_beats = [0.0; 256];
+    let mut fake_values = [0.0; 256];
+    let mut page = [0u8; 65536];
+    let length = run(
+        &mut page,
+        &mut counts,
+        &mut bpm_beats,
+        &mut bpm_values,
+        &mut stop_beats,
+        &mut stop_values,
+        &mut delay_beats,
+        &mut delay_values,
+        &mut warp_beats,
+        &mut warp_values,
+        &mut speed_beats,
+        &mut speed_ratios,
+        &mut speed_delays,
+        &mut speed_units,
+        &mut scroll_beats,
+        &mut scroll_values,
+        &mut fake_beats,
+        &mut fake_values,
     );
     io::write_all(STDOUT_FILENO, &page[..length]);
 }

@@ -58,10 +58,10 @@ write-answer-requires : tie.Need-write-answer-requires
 write-answer-requires c κs = search needs
 
 same-length : tie.Need-same-length
-same-length c = c .before .before .write-answer .kept .0
+same-length c = c .before .before .before .before .before .before .before .before .before .before .before .before .before .before .before .before .before .before .write-answer .kept .0
 
 returns : tie.Need-returns
-returns c = c .before .before .write-answer .ensures .1
+returns c = c .before .before .before .before .before .before .before .before .before .before .before .before .before .before .before .before .before .before .write-answer .ensures .1
 
 pub write-assembled-spec : {M : Type 1} → statement M
 write-assembled-spec =
