@@ -1,12 +1,12 @@
--- A loop that counts the neighbours which fail a test, of a list whose entries are changed on the way: none fails exactly where each two pass. Assumes nothing.
+-- A loop that counts the neighbours which fail a test: none fails exactly where each two pass. Assumes nothing.
 use Prim.Native.Nat.{ℕ, zero, suc, _+_, _-_, _≤_, _<_}
-use mathlib.Core.Path.{_≡_, refl, sym, ap, ap₂, _∙_}
+use mathlib.Core.Path.{_≡_, refl, sym, ap, _∙_}
 use mathlib.Core.Bool.{Bool}
-use mathlib.Core.List.{List, [], _∷_, map}
+use mathlib.Core.List.{List, [], _∷_}
 use native.Mathlib.Numerals.{add-one}
 use native.Mathlib.Omega.{arith}
 use lib.Dec.{eqb}
-use lib.ListN.{length, getD, length-map, List·getD-map}
+use lib.ListN.{length, getD}
 use Rattle.limits.specs.Numbers.{miss}
 use Rattle.limits.proofs.Every.{Counted, counted-turn, counted-end}
 use Rattle.order.specs.Entries.{entries}
@@ -26,7 +26,6 @@ module _ {A : Type 0} where
   neighbour-at none (x ∷ y ∷ l) zero h = refl
   neighbour-at none (x ∷ y ∷ l) (suc i) h = neighbour-at none (y ∷ l) i (omega arith)
 
--- ---- the neighbours of a list
 module _ {A : Type 0} (test : A → A → Bool) where
   abbrev pub passes : A × A → Bool
   passes e = test (e .0) (e .1)
@@ -43,14 +42,3 @@ module _ {A : Type 0} (test : A → A → Bool) where
 
   pub two-end : (xs : List A) {i fail : ℕ} → length xs ≤ i + 1 → CountedTwo xs i fail → eqb fail 0 ≡ everyTwo test xs
   two-end xs h c = counted-end passes (omega (arith, neighbours-length xs)) c
-
--- ---- of a list whose entries are changed on the way
-module _ {A B : Type 0} (f : A → B) (test : B → B → Bool) where
-  pub changed-turn : (none : A) (xs : List A) {i fail : ℕ} (one : ℕ) {beat next : B} → i + 1 < length xs → beat ≡ f (getD xs i none) → next ≡ f (getD xs (i + 1) none) → one ≡ miss (passes test) (beat, next)
-      → CountedTwo test (map f xs) i fail → CountedTwo test (map f xs) (i + 1) (fail + one)
-  changed-turn none xs {i} {fail} one h a b e c =
-      two-turn test (f none) (map f xs) one (simp length-map h)
-      (e ∙ ap (miss (passes test)) (ap₂ (λ (x y : B). (x, y)) (a ∙ sym (List·getD-map f xs i none)) (b ∙ sym (List·getD-map f xs (i + 1) none)))) c
-
-  pub changed-end : (xs : List A) {i fail : ℕ} → length xs ≤ i + 1 → CountedTwo test (map f xs) i fail → eqb fail 0 ≡ everyTwo test (map f xs)
-  changed-end xs h c = two-end test (map f xs) (simp length-map h) c

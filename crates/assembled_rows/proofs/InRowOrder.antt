@@ -1,26 +1,32 @@
--- Quantised beats, each below the next as a float, rise by row; and where none is above the next, rows never fall. Assumes nothing.
+-- Quantised beats, each below the next as a float, rise by row; and where no given beat is above the next, the rows of the quantised ones never fall. Assumes nothing.
 use Prim.Native.Nat.{ℕ, _≤_, _<_}
-use mathlib.Core.Path.{_≡_, refl, sym, ap₂, _∙_}
+use mathlib.Core.Path.{_≡_, refl, sym, ap₂, _∙_, subst}
+use mathlib.Core.Logic.{inl, inr}
 use mathlib.Core.Bool.{Bool, true, false, not}
 use mathlib.Core.List.{List, [], _∷_, map}
 use native.Mathlib.Omega.{arith}
-use borrow.Author.Tests.{ltb-true, ltb-false, le-leb}
-use lib.Dec.{T, ltb}
+use borrow.Author.Tests.{ltb-true, le-leb, leb-true}
+use lib.Dec.{T, ltb, leb}
 use lib.IntN.{ℤ, pos, negsuc, natAbs}
-use lib.Signed.{mag}
-use lib.Ieee.{Float, binary32, binary64, lt}
+use lib.Signed.{mag, leZ}
+use lib.Ieee.{Float, binary32, binary64, lt, le}
+use lib.Ieee.Bits.{is-true}
 use Rattle.ieee.specs.Narrowing.{narrow}
+use Rattle.ieee.proofs.FloatOrder.{lt-or-le}
+use Rattle.ieee.proofs.Magnitude.{within-finite}
+use Rattle.ieee.proofs.Narrow.{narrow-keeps-order}
 use Rattle.rows.specs.Rows.{row, quantized, allowedBeat, mostRow}
 use Rattle.rows.proofs.BeatsRise.{beat-order}
 use Rattle.rows.proofs.Quantizing.{narrow-allowed, row-quantized}
 use Rattle.rows.proofs.RowWithin.{row-within}
+use Rattle.rows.proofs.RowsKeepOrder.{row-mono}
 use Rattle.limits.specs.declared.Kind.the-variants.{Beat}
 use Rattle.limits.specs.Numbers.{inRange, rangeOf, allIn}
 use Rattle.limits.proofs.Every.{every-rest}
 use Rattle.order.specs.Order.{mayPrecede, neverFalls, Above, Rises}
 use Rattle.order.specs.Entries.{entries}
 use Rattle.order.specs.RowKey.{rowKey}
-use Rattle.order.proofs.RowKeys.{rows-below}
+use Rattle.order.proofs.RowKeys.{rows-below, rows-at-most}
 use Rattle.tidy_rows.specs.RowTidying.{rowKeyAt}
 use Rattle.tidy_rows.proofs.TakenBeats.{taken-allowed}
 use Rattle.assembled_rows.specs.Neighbours.{neighbours, everyTwo, notAbove}
@@ -48,10 +54,6 @@ above-more : (j k : ℕ) (l : List Float) → j < k → Above rowKeyAt k l → A
 above-more j k [] h a = tt
 above-more j k (x ∷ l) h a = (omega (arith, a .0), above-more j k l h (a .1))
 
-no : (t : Bool) → not t ≡ true → t ≡ false
-no true h = sym h
-no false h = refl
-
 pub rising-rows : (beats : List Float) → allIn (rangeOf Beat) beats ≡ true → everyTwo lt (map quantized beats) ≡ true → Rises rowKeyAt (map quantized beats)
 unfolding entries
 rising-rows [] a t = tt
@@ -64,14 +66,28 @@ rising-rows (x ∷ y ∷ beats) a t =
     let below = ltb-true (rowKeyAt (quantized x)) (rowKeyAt (quantized y)) (sym (quantized-below x y (taken-allowed x (first .0)) (taken-allowed y (second .0))) ∙ two .0) in
     ((below, above-more (rowKeyAt (quantized x)) (rowKeyAt (quantized y)) (map quantized beats) below (rest .0)), rest)
 
-pub rows-never-fall : (beats : List Float) → allIn (rangeOf Beat) beats ≡ true → everyTwo notAbove (map quantized beats) ≡ true → neverFalls rowKeyAt (map quantized beats) ≡ true
+-- ---- beats of which none is above the next
+not-both : (t : Bool) → T t → T (not t) → ⊥
+not-both true h k = k
+not-both false h k = h
+
+quantized-not-above : (x y : Float) → T (allowedBeat x) → T (allowedBeat y) → notAbove x y ≡ true → rowKeyAt (quantized x) ≤ rowKeyAt (quantized y)
+quantized-not-above x y p q h =
+    let a = narrow-row-within x p in
+    let b = narrow-row-within y q in
+    let below : T (le x y) = elim (lt-or-le y x (within-finite 16 y q) (within-finite 16 x p)) [ inl l ↦ absurd (not-both (lt y x) l (subst T (sym h) tt)) | inr g ↦ g ] in
+    let up = row-mono binary32 (narrow x) (narrow y) (narrow-allowed x p) (narrow-allowed y q) (narrow-keeps-order x y below) in
+    leb-true (rowKeyAt (quantized x)) (rowKeyAt (quantized y))
+    (ap₂ (λ (r s : ℤ). leb (rowKey r) (rowKey s)) (row-quantized x p binary64) (row-quantized y q binary64)
+    ∙ sym (rows-at-most (narrowRow x) (narrowRow y) (in-i32 (narrowRow x) a) (in-i32 (narrowRow y) b)) ∙ is-true (leZ (narrowRow x) (narrowRow y)) up)
+
+pub rows-never-fall : (beats : List Float) → allIn (rangeOf Beat) beats ≡ true → everyTwo notAbove beats ≡ true → neverFalls rowKeyAt (map quantized beats) ≡ true
 unfolding entries neverFalls mayPrecede
 rows-never-fall [] a t = refl
 rows-never-fall (x ∷ []) a t = refl
 rows-never-fall (x ∷ y ∷ beats) a t =
     let first = every-rest (inRange (rangeOf Beat)) x (y ∷ beats) a in
     let second = every-rest (inRange (rangeOf Beat)) y beats (first .1) in
-    let two = every-rest (λ (e : Float × Float). notAbove (e .0) (e .1)) (quantized x, quantized y) (neighbours (map quantized (y ∷ beats))) t in
+    let two = every-rest (λ (e : Float × Float). notAbove (e .0) (e .1)) (x, y) (neighbours (y ∷ beats)) t in
     let rest = rows-never-fall (y ∷ beats) (first .1) (two .1) in
-    let up = ltb-false (rowKeyAt (quantized y)) (rowKeyAt (quantized x)) (sym (quantized-below y x (taken-allowed y (second .0)) (taken-allowed x (first .0))) ∙ no (lt (quantized y) (quantized x)) (two .0)) in
-    rw (le-leb (rowKeyAt (quantized x)) (rowKeyAt (quantized y)) up) rest
+    rw (le-leb (rowKeyAt (quantized x)) (rowKeyAt (quantized y)) (quantized-not-above x y (taken-allowed x (first .0)) (taken-allowed y (second .0)) (two .0))) rest

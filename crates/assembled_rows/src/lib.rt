@@ -139,18 +139,12 @@ pub fn lay_narrowed(
     }
 }
 
-// ---- the order of quantised beats, as f32: a loop that counts what fails has no branch
+// ---- the order of beats: a loop that counts what fails has no branch
 
 fn not_below(beat: f32, next: f32) -> usize
     ensures { λ r. ⌜ r ≡ miss (λ (e : Float × Float). lt (e .0) (e .1)) (beat, next) ⌝ }
 {
     if beat < next { 0 } else { 1 }
-}
-
-fn above(beat: f32, next: f32) -> usize
-    ensures { λ r. ⌜ r ≡ miss (λ (e : Float × Float). notAbove (e .0) (e .1)) (beat, next) ⌝ }
-{
-    if next < beat { 1 } else { 0 }
 }
 
 // Whether each beat is below the next.
@@ -166,20 +160,20 @@ fn rise(beats: &[f32]) -> bool
     fail == 0
 }
 
-// Whether no beat, once quantised, is above the next.
-pub fn quantized_never_fall(beats: &[f64]) -> bool
-    ensures { λ r. ⌜ r ≡ everyTwo notAbove (map quantized (now (beats .entry))) ⌝ }
+fn above(beat: f64, next: f64) -> usize
+    ensures { λ r. ⌜ r ≡ miss (λ (e : Float × Float). notAbove (e .0) (e .1)) (beat, next) ⌝ }
 {
-    if beats.len() == 0 {
-        return true;
-    }
-    let mut last = quantized_f32(beats[0]);
+    if next < beat { 1 } else { 0 }
+}
+
+// Whether no beat is above the next. Quantising keeps that.
+pub fn never_fall(beats: &[f64]) -> bool
+    ensures { λ r. ⌜ r ≡ everyTwo notAbove (now (beats .entry)) ⌝ }
+{
     let mut fail: usize = 0;
     let mut i = 0;
     while i + 1 < beats.len() {
-        let next = quantized_f32(beats[i + 1]);
-        fail += above(last, next);
-        last = next;
+        fail += above(beats[i], beats[i + 1]);
         i += 1;
     }
     fail == 0

@@ -65,7 +65,7 @@ module _ (beats values : List Float) where
   long-answered room h = sym (number-as-tests (assembledScrollsNumber beats values) (length (assembledScrolls beats values)) room (λ e. omega (arith, long-number h, e)) ∙ long-number h)
 
   -- ---- a taken list whose beats never fall
-  pub taken-at-once : (room : ℕ) → rowsNumber beats values ≡ 0 → everyTwo notAbove (map quantized beats) ≡ true → length beats ≤ room → 0 ≡ scrollsRoomNumber beats values room
+  pub taken-at-once : (room : ℕ) → rowsNumber beats values ≡ 0 → everyTwo notAbove beats ≡ true → length beats ≤ room → 0 ≡ scrollsRoomNumber beats values room
   taken-at-once room h t l =
       number-taken (assembledScrollsNumber beats values) (length (assembledScrolls beats values)) room
       (ordered-number (map quantized beats) values (scrolls-pass beats values h) (rows-never-fall beats (list-taken h .beatsIn) t)) (omega (arith, no-longer))

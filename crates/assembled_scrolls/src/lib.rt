@@ -111,7 +111,7 @@ fn number_in(beats: &[f64], values: &[f64], room: usize) -> u32
     outcome.number
 }
 
-// What `assemble_scrolls` answers where the shorter room has a length: at once where the list is taken and no longer than that, and its quantised beats never fall.
+// What `assemble_scrolls` answers where the shorter room has a length: at once where the list is taken and no longer than that, and no beat is above the next.
 pub fn scrolls_number(beats: &[f64], values: &[f64], room: usize) -> u32
     ensures { λ r. ⌜ r ≡ scrollsRoomNumber (now (beats .entry)) (now (values .entry)) room ⌝ }
 {
@@ -124,7 +124,7 @@ pub fn scrolls_number(beats: &[f64], values: &[f64], room: usize) -> u32
     if limits::list_number(Kind::Beat, Kind::Value, beats, values) != limits::TAKEN {
         return number_in(beats, values, room);
     }
-    if assembled_rows::quantized_never_fall(beats) {
+    if assembled_rows::never_fall(beats) {
         return limits::TAKEN;
     }
     number_in(beats, values, room)

@@ -110,7 +110,7 @@ module _ (beats ratios delays : List Float) (units : List ℕ) where
       sym (number-as-tests (assembledSpeedsNumber beats ratios delays units) (length (assembledSpeeds beats ratios delays units)) room (λ e. omega (arith, long-number h, e)) ∙ long-number h)
 
   -- ---- a taken list whose beats never fall
-  pub taken-at-once : (room : ℕ) → speedListNumber beats ratios delays units ≡ 0 → everyTwo notAbove (map quantized beats) ≡ true → length beats ≤ room → 0 ≡ speedsRoomNumber beats ratios delays units room
+  pub taken-at-once : (room : ℕ) → speedListNumber beats ratios delays units ≡ 0 → everyTwo notAbove beats ≡ true → length beats ≤ room → 0 ≡ speedsRoomNumber beats ratios delays units room
   taken-at-once room h t l =
       number-taken (assembledSpeedsNumber beats ratios delays units) (length (assembledSpeeds beats ratios delays units)) room
       (ordered-number (map quantized beats) ratios delays units (speeds-pass beats ratios delays units h) (rows-never-fall beats (speed-beats beats ratios delays units h) t)) (omega (arith, no-longer))

@@ -238,7 +238,7 @@ fn number_in(beats: &[f64], ratios: &[f64], delays: &[f64], units: &[u8], room: 
     outcome.number
 }
 
-// What `assemble_speeds` answers where the shortest room has a length: at once where the list is taken and no longer than that, and its quantised beats never fall.
+// What `assemble_speeds` answers where the shortest room has a length: at once where the list is taken and no longer than that, and no beat is above the next.
 pub fn speeds_number(
     beats: &[f64],
     ratios: &[f64],
@@ -257,7 +257,7 @@ pub fn speeds_number(
     if tidy_speeds::speed_list_number(beats, ratios, delays, units) != limits::TAKEN {
         return number_in(beats, ratios, delays, units, room);
     }
-    if assembled_rows::quantized_never_fall(beats) {
+    if assembled_rows::never_fall(beats) {
         return limits::TAKEN;
     }
     number_in(beats, ratios, delays, units, room)
