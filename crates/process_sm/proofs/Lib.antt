@@ -1,1 +1,2 @@
 pub mod WorkRoom
+pub mod OneOutcome
