@@ -16,6 +16,7 @@ include!(concat!(env!("OUT_DIR"), "/original.rs"));
 mod missing;
 use missing::{nps, parse, resolve_difficulty_label, stats, supported_stepstype_lanes_bytes};
 
+pub mod assembly;
 pub mod calls;
 pub mod cases;
 pub mod charts;

@@ -1,10 +1,11 @@
 //! The report program read plainly: its form line by line, the numbers that refuse an input, and the original's functions for the lists.
 //! What `reports` stores for a Rattle program to replay, and what a built report program is held to.
 
+use crate::assembly::{DELAYS, FAKES, Lists, Raw, SCROLLS, SPEEDS, STOPS, TEMPOS, WARPS, assembled};
 use crate::cases::power;
 use crate::charts;
 use crate::random::Random;
-use crate::timing::{Segment, SpeedSegment, SpeedUnit, probe};
+use crate::timing::probe;
 
 /// The words of the lists, in their order, and the place of the one that has four numbers a line.
 const WORDS: [&str; 7] = ["bpm", "stop", "delay", "warp", "speed", "scroll", "fake"];
@@ -32,8 +33,8 @@ pub fn answer(input: &[u8]) -> String {
     if input.lists.iter().any(|list| list.len() > MOST) {
         return refused(1);
     }
-    match assembled(&input) {
-        Ok(text) => text,
+    match assembled(input.ssc, &columns(&input), MOST) {
+        Ok(lists) => written(&lists),
         Err(number) => refused(number),
     }
 }
@@ -83,124 +84,36 @@ fn unit(text: &str) -> Option<u8> {
     }
 }
 
-/// A raw list is refused for a beat, then for a value. Of tempos and stops what is not finite passes, to be dropped later.
-fn list_number(list: usize, entries: &[Entry]) -> u32 {
-    let dropped = list < 2;
-    let beat = |entry: &Entry| f64::from_bits(entry.numbers[0]);
-    let values = |entry: &Entry| entry.numbers[1..].iter().map(|bits| f64::from_bits(*bits)).collect::<Vec<_>>();
-    let beat_taken = |beat: f64| if beat.is_finite() { beat.abs() <= 65_536.0 } else { dropped };
-    let value_taken = |value: f64| {
-        if !value.is_finite() {
-            dropped
-        } else if dropped {
-            value == 0.0 || (power(-20)..=power(30)).contains(&value.abs())
-        } else {
-            value.abs() <= power(30)
-        }
-    };
-    if entries.iter().any(|entry| !beat_taken(beat(entry))) {
-        3
-    } else if entries.iter().any(|entry| values(entry).into_iter().any(|value| !value_taken(value)) || entry.unit > 1) {
-        4
-    } else {
-        0
-    }
-}
-
-/// Whether the original's way with entries that are not in order meets a kept list that falls.
-fn falls<T: Copy>(list: &[T], beat: impl Fn(&T) -> f64, add: impl Fn(&mut Vec<T>, T)) -> bool {
-    let fallen = |list: &[T]| list.windows(2).any(|pair| beat(&pair[1]) < beat(&pair[0]));
-    let mut kept = Vec::new();
-    fallen(list)
-        && list.iter().any(|entry| {
-            let before = fallen(&kept);
-            if kept.is_empty() {
-                kept.push(*entry);
-            } else {
-                add(&mut kept, *entry);
+/// The lists as columns.
+fn columns(input: &Input) -> Raw {
+    let mut raw = Raw::default();
+    for (entries, first) in input.lists.iter().zip([TEMPOS, STOPS, DELAYS, WARPS, SPEEDS, SCROLLS, FAKES]) {
+        for entry in entries {
+            entry.numbers.iter().enumerate().for_each(|(place, bits)| raw.numbers[first + place].push(f64::from_bits(*bits)));
+            if first == SPEEDS {
+                raw.units.push(entry.unit);
             }
-            before
-        })
+        }
+    }
+    raw
 }
 
-fn on_row(beat: f64) -> f64 {
-    probe::note_row_to_beat(probe::beat_to_note_row(beat))
-}
-
-fn segments(entries: &[Entry]) -> Vec<Segment> {
-    entries.iter().map(|entry| Segment { beat: f64::from_bits(entry.numbers[0]), value: f64::from_bits(entry.numbers[1]) }).collect()
-}
-
-fn quantized(list: &[Segment], values: bool) -> Vec<Segment> {
-    let value = |value| if values { probe::quantize_beat(value) } else { value };
-    list.iter().map(|entry| Segment { beat: probe::quantize_beat(entry.beat), value: value(entry.value) }).collect()
-}
-
-fn assembled(input: &Input) -> Result<String, u32> {
-    let lists = &input.lists;
-    let lowest = (0..7).map(|list| list_number(list, &lists[list])).filter(|number| *number != 0).min();
-    if let Some(number) = lowest {
-        return Err(number);
-    }
-    let mut tempos: Vec<(f64, f64)> = segments(&lists[0]).iter().map(|entry| (entry.beat, entry.value)).collect();
-    if tempos.is_empty() {
-        tempos.push((0.0, 60.0));
-    }
-    let stops = segments(&lists[1]);
-    let (mut tempos, stops, made, offset) =
-        if input.ssc { probe::process_bpms_and_stops_ssc(tempos, stops) } else { probe::process_bpms_and_stops_sm(&tempos, &stops) };
-    if tempos.is_empty() {
-        tempos.push((0.0, 60.0));
-    }
-    let mut warps = segments(&lists[3]);
-    warps.extend(made);
-    if warps.len() > MOST {
-        return Err(1);
-    }
-    let scrolls = quantized(&segments(&lists[5]), false);
-    let scrolls_on_rows: Vec<Segment> = scrolls.iter().map(|entry| Segment { beat: on_row(entry.beat), ..*entry }).collect();
-    let speeds: Vec<SpeedSegment> = lists[SPEED]
-        .iter()
-        .map(|entry| SpeedSegment {
-            beat: probe::quantize_beat(f64::from_bits(entry.numbers[0])),
-            ratio: f64::from_bits(entry.numbers[1]),
-            delay: f64::from_bits(entry.numbers[2]),
-            unit: if entry.unit == 0 { SpeedUnit::Beats } else { SpeedUnit::Seconds },
-        })
-        .collect();
-    let speeds_on_rows: Vec<SpeedSegment> = speeds.iter().map(|entry| SpeedSegment { beat: on_row(entry.beat), ..*entry }).collect();
-    if falls(&scrolls_on_rows, |entry| entry.beat, probe::add_scroll_segment_slow)
-        || falls(&speeds_on_rows, |entry| entry.beat, probe::add_speed_segment_slow)
-    {
-        return Err(6);
-    }
-    let stops = probe::tidy_row_segments(stops);
-    let delays = probe::tidy_row_segments(quantized(&segments(&lists[2]), false));
-    let warps = probe::tidy_row_segments(quantized(&warps, true));
-    let speeds = probe::tidy_speed_segments(speeds);
-    let scrolls = probe::tidy_scroll_segments(scrolls);
-    let fakes = probe::tidy_row_segments(quantized(&segments(&lists[6]), true));
-
-    let bits = |x: f64| format!("{:08X}", (x as f32).to_bits());
-    let mut text = format!("answer=0\noffset={}\n", bits(offset));
-    for (beat, value) in tempos {
-        text += &format!("bpm={},{}\n", bits(beat), bits(value));
-    }
-    let pairs = |word: &str, list: &[Segment]| -> String {
-        list.iter().map(|entry| format!("{word}={},{}\n", bits(entry.beat), bits(entry.value))).collect()
+fn written(lists: &Lists) -> String {
+    let bits = |x: f32| format!("{:08X}", x.to_bits());
+    let pairs = |word: &str, list: &[(f32, f32)]| -> String {
+        list.iter().map(|(beat, value)| format!("{word}={},{}\n", bits(*beat), bits(*value))).collect()
     };
-    text += &pairs("stop", &stops);
-    text += &pairs("delay", &delays);
-    text += &pairs("warp", &warps);
-    for entry in &speeds {
-        let unit = u8::from(matches!(entry.unit, SpeedUnit::Seconds));
-        text += &format!("speed={},{},{},{unit}\n", bits(entry.beat), bits(entry.ratio), bits(entry.delay));
-    }
-    text += &pairs("scroll", &scrolls);
-    text += &pairs("fake", &fakes);
-    let lengths = warps.iter().map(|entry| f64::from(entry.value as f32)).filter(|length| *length > 0.0);
+    let speeds: String = lists
+        .speeds
+        .iter()
+        .map(|(beat, ratio, delay, unit)| format!("speed={},{},{},{unit}\n", bits(*beat), bits(*ratio), bits(*delay)))
+        .collect();
+    let [tempos, stops, delays, warps, scrolls, fakes] = &lists.pairs;
+    let lengths = warps.iter().map(|(_, length)| f64::from(*length)).filter(|length| *length > 0.0);
     let warped: u64 = lengths.map(|length| probe::beat_to_note_row(length) as u64).sum();
-    Ok(text + &format!("warped={warped}\n"))
+    let front = format!("answer=0\noffset={}\n", bits(lists.offset));
+    let before = pairs("bpm", tempos) + &pairs("stop", stops) + &pairs("delay", delays) + &pairs("warp", warps);
+    front + &before + &speeds + &pairs("scroll", scrolls) + &pairs("fake", fakes) + &format!("warped={warped}\n")
 }
 
 /// The text of an input.

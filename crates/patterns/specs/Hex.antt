@@ -1,7 +1,8 @@
 -- A number as upper-case hexadecimal digits. Definitions only.
-use Prim.Native.Nat.{ℕ, zero, suc, _+_, _-_, _^_, _/_, _%_}
+use Prim.Native.Nat.{ℕ, zero, suc, _+_, _-_, _*_, _^_, _/_, _%_}
 use mathlib.Core.List.{List, [], _∷_}
 use lib.Dec.{ltb, leb}
+use lib.ListN.{getD}
 use Rattle.picks.specs.Pick.{pick}
 
 -- what a byte stands for: '0' to '9' and 'A' to 'F' are 0 to 15, and 16 says that it is no digit

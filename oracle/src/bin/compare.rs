@@ -9,7 +9,7 @@ use oracle::processing;
 use oracle::random::Random;
 use oracle::sm_stops;
 use oracle::tally::{Tally, Total};
-use oracle::{speeds, tidying};
+use oracle::{assembly, speeds, tidying};
 use std::process::ExitCode;
 
 fn main() -> ExitCode {
@@ -27,6 +27,7 @@ fn main() -> ExitCode {
     sm_stops::compare_all(work, &mut total);
     clock::compare_all(work, &mut total);
     speeds::compare_all(work, &mut total);
+    assembly::compare_all(work, &mut total);
     if total.end() { ExitCode::SUCCESS } else { ExitCode::FAILURE }
 }
 
