@@ -1,8 +1,8 @@
-//! Finds the original and the port's archive.
+//! Finds the original and the port's archives.
 //!
 //! `RSSP_SRC` names the folder with timing.rs, bpm.rs and math.rs, from the repository's root; by default it stands beside the repository.
 //! Each file is included whole and unchanged in a module of its name, with a child module `probe`, src/probes/NAME.rs,
-//! which sees the file's private functions. With the feature `port` the port's archive is linked.
+//! which sees the file's private functions. With the feature `port` the port's archives are linked.
 
 use std::path::{Path, PathBuf};
 use std::{env, fs};
@@ -39,9 +39,11 @@ fn include_original(here: &Path, root: &Path) {
 
 fn link_port(root: &Path) {
     let folder = root.join("target/native");
-    let archive = folder.join("libexports.a");
-    assert!(archive.is_file(), "{} is missing: oracle/native-archive exports", archive.display());
-    println!("cargo::rerun-if-changed={}", archive.display());
     println!("cargo::rustc-link-search=native={}", folder.display());
-    println!("cargo::rustc-link-lib=static=exports");
+    for name in ["exports", "exports_assembly"] {
+        let archive = folder.join(format!("lib{name}.a"));
+        assert!(archive.is_file(), "{} is missing: oracle/native-archive {name}", archive.display());
+        println!("cargo::rerun-if-changed={}", archive.display());
+        println!("cargo::rustc-link-lib=static={name}");
+    }
 }
