@@ -1,12 +1,12 @@
--- `exports::marrighentu_each_lrint_f32` meets its contract. Assumes nothing.
+-- `exports_leaf::marrighentu_each_lrint_f32` meets its contract. Assumes nothing.
 use Prim.Native.Nat.{_-_}
 use native.Mathlib.Omega.{arith}
 use borrow.Author.Needs.{needs}
 use lib.Ieee.{Float, nan}
 use Rattle.ieee.specs.Rounding.{rint, hold}
 use Rattle.columns.proofs.LaidEach.{LayingEach, begun, turned, ended}
-use Rattle.exports.proofs.marrighentu_each_lrint_f32.Statement.{statement}
-use Rattle.exports.proofs.marrighentu_each_lrint_f32.Tie as tie
+use Rattle.exports_leaf.proofs.marrighentu_each_lrint_f32.Statement.{statement}
+use Rattle.exports_leaf.proofs.marrighentu_each_lrint_f32.Tie as tie
 
 abbrev Inv-loop : tie.InvT-loop
 Inv-loop from to₀ n i₀ to i = LayingEach (λ (x : Float). hold (rint x)) from to₀ n to i

@@ -1,8 +1,8 @@
--- `exports::marrighentu_note_row_to_beat` meets its contract. Assumes nothing.
+-- `exports_leaf::marrighentu_note_row_to_beat` meets its contract. Assumes nothing.
 use borrow.Author.Needs.{needs}
 use mir.ValLaws.{toZ-ofZ}
-use Rattle.exports.proofs.marrighentu_note_row_to_beat.Statement.{statement}
-use Rattle.exports.proofs.marrighentu_note_row_to_beat.Tie as tie
+use Rattle.exports_leaf.proofs.marrighentu_note_row_to_beat.Statement.{statement}
+use Rattle.exports_leaf.proofs.marrighentu_note_row_to_beat.Tie as tie
 
 note-row-to-beat-requires : tie.Need-note-row-to-beat-requires
 note-row-to-beat-requires c κs = search needs

@@ -1,8 +1,8 @@
--- `exports::marrighentu_note_row_to_beat_f32` meets its contract. Assumes nothing.
+-- `exports_leaf::marrighentu_note_row_to_beat_f32` meets its contract. Assumes nothing.
 use borrow.Author.Needs.{needs}
 use mir.ValLaws.{toZ-ofZ}
-use Rattle.exports.proofs.marrighentu_note_row_to_beat_f32.Statement.{statement}
-use Rattle.exports.proofs.marrighentu_note_row_to_beat_f32.Tie as tie
+use Rattle.exports_leaf.proofs.marrighentu_note_row_to_beat_f32.Statement.{statement}
+use Rattle.exports_leaf.proofs.marrighentu_note_row_to_beat_f32.Tie as tie
 
 note-row-to-beat-f32-requires : tie.Need-note-row-to-beat-f32-requires
 note-row-to-beat-f32-requires c κs = search needs

@@ -1,4 +1,4 @@
--- `exports::marrighentu_each_note_row_to_beat` meets its contract. Assumes nothing.
+-- `exports_leaf::marrighentu_each_note_row_to_beat` meets its contract. Assumes nothing.
 use Prim.Native.Nat.{_-_}
 use mathlib.Core.Path.{ap, _∙_}
 use native.Mathlib.Omega.{arith}
@@ -9,8 +9,8 @@ use mir.ValLaws.{toZ-ofZ}
 use lib.Ieee.{binary64}
 use Rattle.rows.specs.Rows.{beatOf}
 use Rattle.columns.proofs.LaidEach.{LayingEach, begun, turned, ended}
-use Rattle.exports.proofs.marrighentu_each_note_row_to_beat.Statement.{statement}
-use Rattle.exports.proofs.marrighentu_each_note_row_to_beat.Tie as tie
+use Rattle.exports_leaf.proofs.marrighentu_each_note_row_to_beat.Statement.{statement}
+use Rattle.exports_leaf.proofs.marrighentu_each_note_row_to_beat.Tie as tie
 
 abbrev Inv-loop : tie.InvT-loop
 Inv-loop rows beats₀ n i₀ beats i = LayingEach (beatOf binary64) rows beats₀ n beats i

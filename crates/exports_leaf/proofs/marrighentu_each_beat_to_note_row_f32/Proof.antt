@@ -1,12 +1,12 @@
--- `exports::marrighentu_each_beat_to_note_row_f32` meets its contract. Assumes nothing.
+-- `exports_leaf::marrighentu_each_beat_to_note_row_f32` meets its contract. Assumes nothing.
 use Prim.Native.Nat.{_-_}
 use native.Mathlib.Omega.{arith}
 use borrow.Author.Needs.{needs}
 use lib.Ieee.{nan, binary32}
 use Rattle.rows.specs.Rows.{row}
 use Rattle.columns.proofs.LaidEach.{LayingEach, begun, turned, ended}
-use Rattle.exports.proofs.marrighentu_each_beat_to_note_row_f32.Statement.{statement}
-use Rattle.exports.proofs.marrighentu_each_beat_to_note_row_f32.Tie as tie
+use Rattle.exports_leaf.proofs.marrighentu_each_beat_to_note_row_f32.Statement.{statement}
+use Rattle.exports_leaf.proofs.marrighentu_each_beat_to_note_row_f32.Tie as tie
 
 abbrev Inv-loop : tie.InvT-loop
 Inv-loop beats rows₀ n i₀ rows i = LayingEach (row binary32) beats rows₀ n rows i

@@ -1,0 +1,187 @@
+// The calls of `ieee` and `rows` under C names, for native programs to link: each by itself, and in a loop over lent columns.
+ghost use mathlib.Core.Path.{_≡_};
+ghost use Prim.Native.Nat.{min};
+ghost use lib.Ieee.{Float, binary32, binary64};
+ghost use Rattle.ieee.specs.Rounding.{rint, hold};
+ghost use Rattle.ieee.specs.Narrowing.{narrow};
+ghost use Rattle.rows.specs.Rows.{row, beatOf, quantized, quantized32};
+ghost use Rattle.columns.specs.Each.{laidEach};
+
+#[no_mangle]
+pub extern "C" fn marrighentu_lrint_f64(x: f64) -> i32
+    ensures { λ r. ⌜ r ≡ hold (rint x) ⌝ }
+{
+    ieee::lrint_f64(x)
+}
+
+#[no_mangle]
+pub extern "C" fn marrighentu_lrint_f32(x: f32) -> i32
+    ensures { λ r. ⌜ r ≡ hold (rint x) ⌝ }
+{
+    ieee::lrint_f32(x)
+}
+
+#[no_mangle]
+pub extern "C" fn marrighentu_narrow_f64(x: f64) -> f32
+    ensures { λ r. ⌜ r ≡ narrow x ⌝ }
+{
+    ieee::narrow_f64(x)
+}
+
+#[no_mangle]
+pub extern "C" fn marrighentu_note_row_to_beat(row: i32) -> f64
+    ensures { λ r. ⌜ r ≡ beatOf binary64 row ⌝ }
+{
+    rows::note_row_to_beat(row)
+}
+
+#[no_mangle]
+pub extern "C" fn marrighentu_note_row_to_beat_f32(row: i32) -> f32
+    ensures { λ r. ⌜ r ≡ beatOf binary32 row ⌝ }
+{
+    rows::note_row_to_beat_f32(row)
+}
+
+#[no_mangle]
+pub extern "C" fn marrighentu_beat_to_note_row(beat: f64) -> i32
+    ensures { λ r. ⌜ r ≡ row binary64 beat ⌝ }
+{
+    rows::beat_to_note_row(beat)
+}
+
+#[no_mangle]
+pub extern "C" fn marrighentu_beat_to_note_row_f32(beat: f32) -> i32
+    ensures { λ r. ⌜ r ≡ row binary32 beat ⌝ }
+{
+    rows::beat_to_note_row_f32(beat)
+}
+
+#[no_mangle]
+pub extern "C" fn marrighentu_quantize_beat(beat: f64) -> f64
+    ensures { λ r. ⌜ r ≡ quantized beat ⌝ }
+{
+    rows::quantize_beat(beat)
+}
+
+#[no_mangle]
+pub extern "C" fn marrighentu_quantize_beat_f32(beat: f32) -> f32
+    ensures { λ r. ⌜ r ≡ quantized32 beat ⌝ }
+{
+    rows::quantize_beat_f32(beat)
+}
+
+fn lesser(a: usize, b: usize) -> usize
+    ensures { λ r. ⌜ r ≡ min a b ⌝ }
+{
+    if a < b { a } else { b }
+}
+
+// Each loop below writes the call's answer for entry i of its first list into entry i of its second, for every i that both have, and nothing else.
+
+#[no_mangle]
+pub extern "C" fn marrighentu_each_lrint_f64(from: &[f64], to: &mut [i32])
+    ensures { λ _. ⌜ now (to .exit) ≡ laidEach (λ (x : Float). hold (rint x)) (now (from .entry)) (now (to .entry)) ⌝ }
+{
+    let n = lesser(from.len(), to.len());
+    let mut i = 0;
+    while i < n {
+        to[i] = ieee::lrint_f64(from[i]);
+        i += 1;
+    }
+}
+
+#[no_mangle]
+pub extern "C" fn marrighentu_each_lrint_f32(from: &[f32], to: &mut [i32])
+    ensures { λ _. ⌜ now (to .exit) ≡ laidEach (λ (x : Float). hold (rint x)) (now (from .entry)) (now (to .entry)) ⌝ }
+{
+    let n = lesser(from.len(), to.len());
+    let mut i = 0;
+    while i < n {
+        to[i] = ieee::lrint_f32(from[i]);
+        i += 1;
+    }
+}
+
+#[no_mangle]
+pub extern "C" fn marrighentu_each_narrow_f64(from: &[f64], to: &mut [f32])
+    ensures { λ _. ⌜ now (to .exit) ≡ laidEach narrow (now (from .entry)) (now (to .entry)) ⌝ }
+{
+    let n = lesser(from.len(), to.len());
+    let mut i = 0;
+    while i < n {
+        to[i] = ieee::narrow_f64(from[i]);
+        i += 1;
+    }
+}
+
+#[no_mangle]
+pub extern "C" fn marrighentu_each_note_row_to_beat(rows: &[i32], beats: &mut [f64])
+    ensures { λ _. ⌜ now (beats .exit) ≡ laidEach (beatOf binary64) (now (rows .entry)) (now (beats .entry)) ⌝ }
+{
+    let n = lesser(rows.len(), beats.len());
+    let mut i = 0;
+    while i < n {
+        beats[i] = rows::note_row_to_beat(rows[i]);
+        i += 1;
+    }
+}
+
+#[no_mangle]
+pub extern "C" fn marrighentu_each_note_row_to_beat_f32(rows: &[i32], beats: &mut [f32])
+    ensures { λ _. ⌜ now (beats .exit) ≡ laidEach (beatOf binary32) (now (rows .entry)) (now (beats .entry)) ⌝ }
+{
+    let n = lesser(rows.len(), beats.len());
+    let mut i = 0;
+    while i < n {
+        beats[i] = rows::note_row_to_beat_f32(rows[i]);
+        i += 1;
+    }
+}
+
+#[no_mangle]
+pub extern "C" fn marrighentu_each_beat_to_note_row(beats: &[f64], rows: &mut [i32])
+    ensures { λ _. ⌜ now (rows .exit) ≡ laidEach (row binary64) (now (beats .entry)) (now (rows .entry)) ⌝ }
+{
+    let n = lesser(beats.len(), rows.len());
+    let mut i = 0;
+    while i < n {
+        rows[i] = rows::beat_to_note_row(beats[i]);
+        i += 1;
+    }
+}
+
+#[no_mangle]
+pub extern "C" fn marrighentu_each_beat_to_note_row_f32(beats: &[f32], rows: &mut [i32])
+    ensures { λ _. ⌜ now (rows .exit) ≡ laidEach (row binary32) (now (beats .entry)) (now (rows .entry)) ⌝ }
+{
+    let n = lesser(beats.len(), rows.len());
+    let mut i = 0;
+    while i < n {
+        rows[i] = rows::beat_to_note_row_f32(beats[i]);
+        i += 1;
+    }
+}
+
+#[no_mangle]
+pub extern "C" fn marrighentu_each_quantize_beat(beats: &[f64], quantised: &mut [f64])
+    ensures { λ _. ⌜ now (quantised .exit) ≡ laidEach quantized (now (beats .entry)) (now (quantised .entry)) ⌝ }
+{
+    let n = lesser(beats.len(), quantised.len());
+    let mut i = 0;
+    while i < n {
+        quantised[i] = rows::quantize_beat(beats[i]);
+        i += 1;
+    }
+}
+
+#[no_mangle]
+pub extern "C" fn marrighentu_each_quantize_beat_f32(beats: &[f32], quantised: &mut [f32])
+    ensures { λ _. ⌜ now (quantised .exit) ≡ laidEach quantized32 (now (beats .entry)) (now (quantised .entry)) ⌝ }
+{
+    let n = lesser(beats.len(), quantised.len());
+    let mut i = 0;
+    while i < n {
+        quantised[i] = rows::quantize_beat_f32(beats[i]);
+        i += 1;
+    }
+}
