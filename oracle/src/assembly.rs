@@ -98,12 +98,10 @@ fn quantized(list: &[Segment], values: bool) -> Vec<Segment> {
     list.iter().map(|entry| Segment { beat: probe::quantize_beat(entry.beat), value: value(entry.value) }).collect()
 }
 
-/// The lists, or the number by which they are refused: raw tests, then warps given and made above `most`, then scrolls or speeds that fall.
-pub fn assembled(ssc: bool, raw: &Raw, most: usize) -> Result<Lists, u32> {
-    let lists = [TEMPOS, STOPS, DELAYS, WARPS, SPEEDS, SCROLLS, FAKES];
-    if let Some(number) = lists.into_iter().map(|list| raw.list_number(list)).filter(|number| *number != 0).min() {
-        return Err(number);
-    }
+/// Tempos, stops, made warps and the offset, as the original processes them.
+type Processed = (Vec<(f64, f64)>, Vec<Segment>, Vec<Segment>, f64);
+
+fn processed(ssc: bool, raw: &Raw) -> Processed {
     let mut tempos: Vec<(f64, f64)> = raw.segments(TEMPOS).iter().map(|entry| (entry.beat, entry.value)).collect();
     if tempos.is_empty() {
         tempos.push((0.0, 60.0));
@@ -117,47 +115,71 @@ pub fn assembled(ssc: bool, raw: &Raw, most: usize) -> Result<Lists, u32> {
     if tempos.is_empty() {
         tempos.push((0.0, 60.0));
     }
-    let mut warps = raw.segments(WARPS);
-    warps.extend(made);
-    if warps.len() > most {
-        return Err(1);
-    }
-    let scrolls = quantized(&raw.segments(SCROLLS), false);
-    let speeds: Vec<SpeedSegment> = (0..raw.units.len())
+    (tempos, stops, made, offset)
+}
+
+fn quantized_speeds(raw: &Raw) -> Vec<SpeedSegment> {
+    (0..raw.units.len())
         .map(|place| SpeedSegment {
             beat: probe::quantize_beat(raw.numbers[SPEEDS][place]),
             ratio: raw.numbers[SPEEDS + 1][place],
             delay: raw.numbers[SPEEDS + 2][place],
             unit: if raw.units[place] == 0 { SpeedUnit::Beats } else { SpeedUnit::Seconds },
         })
-        .collect();
-    let scrolls_on_rows: Vec<_> = scrolls.iter().map(|entry| Segment { beat: on_row(entry.beat), ..*entry }).collect();
-    let speeds_on_rows: Vec<_> =
-        speeds.iter().map(|entry| SpeedSegment { beat: on_row(entry.beat), ..*entry }).collect();
-    if falls(&scrolls_on_rows, |entry| entry.beat, probe::add_scroll_segment_slow)
-        || falls(&speeds_on_rows, |entry| entry.beat, probe::add_speed_segment_slow)
-    {
-        return Err(6);
-    }
+        .collect()
+}
+
+/// The original's own steps, with no test of a number.
+pub fn original(ssc: bool, raw: &Raw) -> Lists {
+    laid(raw, processed(ssc, raw))
+}
+
+fn laid(raw: &Raw, (tempos, stops, made, offset): Processed) -> Lists {
+    let mut warps = raw.segments(WARPS);
+    warps.extend(made);
     let narrowed = |list: Vec<Segment>| list.iter().map(|entry| (entry.beat as f32, entry.value as f32)).collect();
-    Ok(Lists {
+    Lists {
         offset: offset as f32,
         pairs: [
             tempos.into_iter().map(|(beat, value)| (beat as f32, value as f32)).collect(),
             narrowed(probe::tidy_row_segments(stops)),
             narrowed(probe::tidy_row_segments(quantized(&raw.segments(DELAYS), false))),
             narrowed(probe::tidy_row_segments(quantized(&warps, true))),
-            narrowed(probe::tidy_scroll_segments(scrolls)),
+            narrowed(probe::tidy_scroll_segments(quantized(&raw.segments(SCROLLS), false))),
             narrowed(probe::tidy_row_segments(quantized(&raw.segments(FAKES), true))),
         ],
-        speeds: probe::tidy_speed_segments(speeds)
+        speeds: probe::tidy_speed_segments(quantized_speeds(raw))
             .iter()
             .map(|entry| {
                 let unit = u8::from(matches!(entry.unit, SpeedUnit::Seconds));
                 (entry.beat as f32, entry.ratio as f32, entry.delay as f32, unit)
             })
             .collect(),
-    })
+    }
+}
+
+/// The lists, or the number by which they are refused: raw tests, then warps given and made above `most`, then scrolls or speeds that fall.
+pub fn assembled(ssc: bool, raw: &Raw, most: usize) -> Result<Lists, u32> {
+    let lists = [TEMPOS, STOPS, DELAYS, WARPS, SPEEDS, SCROLLS, FAKES];
+    if let Some(number) = lists.into_iter().map(|list| raw.list_number(list)).filter(|number| *number != 0).min() {
+        return Err(number);
+    }
+    let processed = processed(ssc, raw);
+    if raw.numbers[WARPS].len() + processed.2.len() > most {
+        return Err(1);
+    }
+    let scrolls: Vec<_> = quantized(&raw.segments(SCROLLS), false)
+        .iter()
+        .map(|entry| Segment { beat: on_row(entry.beat), ..*entry })
+        .collect();
+    let speeds: Vec<_> =
+        quantized_speeds(raw).iter().map(|entry| SpeedSegment { beat: on_row(entry.beat), ..*entry }).collect();
+    if falls(&scrolls, |entry| entry.beat, probe::add_scroll_segment_slow)
+        || falls(&speeds, |entry| entry.beat, probe::add_speed_segment_slow)
+    {
+        return Err(6);
+    }
+    Ok(laid(raw, processed))
 }
 
 #[cfg(feature = "port")]

@@ -2,8 +2,7 @@
 // a line is a letter for the call, the input's bits and the answer's, in 16 hexadecimal digits each.
 use libc::STDIN_FILENO;
 use libc::STDOUT_FILENO;
-ghost use Prim.Native.Nat.{_+_, _≤_};
-ghost use lib.ListN.{length};
+ghost use Prim.Native.Nat.{_≤_};
 
 const LINE: usize = 36;
 

@@ -18,17 +18,17 @@ loop-holds c = search needs
 sub-loop : tie.Need-sub-loop Inv-loop μ-loop
 sub-loop c = search needs
 
-add-number-at : tie.Need-add-number-at Inv-loop μ-loop
-add-number-at c = search needs
+add-hex-word : tie.Need-add-hex-word Inv-loop μ-loop
+add-hex-word c = search needs
 
-number-at-requires : tie.Need-number-at-requires Inv-loop μ-loop
-number-at-requires c κs = search needs
+hex-word-requires : tie.Need-hex-word-requires Inv-loop μ-loop
+hex-word-requires c κs = search needs
 
-add-number-at-2 : tie.Need-add-number-at-2 Inv-loop μ-loop
-add-number-at-2 c = search needs
+add-hex-word-2 : tie.Need-add-hex-word-2 Inv-loop μ-loop
+add-hex-word-2 c = search needs
 
-number-at-requires-2 : tie.Need-number-at-requires-2 Inv-loop μ-loop
-number-at-requires-2 c κs = search needs
+hex-word-requires-2 : tie.Need-hex-word-requires-2 Inv-loop μ-loop
+hex-word-requires-2 c κs = search needs
 
 shared-slice-read-same : tie.Need-shared-slice-read-same Inv-loop μ-loop
 shared-slice-read-same c = search needs
@@ -71,10 +71,10 @@ replay-spec =
     μ-loop
     loop-holds
     sub-loop
-    add-number-at
-    number-at-requires
-    add-number-at-2
-    number-at-requires-2
+    add-hex-word
+    hex-word-requires
+    add-hex-word-2
+    hex-word-requires-2
     shared-slice-read-same
     same-requires
     one-if-requires
