@@ -251,7 +251,6 @@ mod port {
             let [a, b, c, d, e, f, g, h, i, j, k, l, m, n, o] = raw;
             let [oa, ob, oc, od, oe, of, og, oh, oi, oj, ok, ol, om, on, oo] = out;
             // SAFETY: the columns are lent whole and apart, those of results from pointers that may be written.
-            #[rustfmt::skip]
             unsafe {
                 call(
                     a.0, a.1, b.0, b.1, c.0, c.1, d.0, d.1, e.0, e.1, f.0, f.1, g.0, g.1, h.0, h.1,

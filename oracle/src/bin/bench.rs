@@ -1,5 +1,6 @@
 //! bench: the port's times beside the original's, in one run on the same columns. Nanoseconds an entry for the loops, a call for tidying.
 
+use oracle::assembly;
 use oracle::calls::{self, Call, Visit};
 use oracle::cases::Cases;
 use oracle::charts;
@@ -7,9 +8,10 @@ use oracle::clock::{self, Columns, Cursor};
 use oracle::lookups::{self, Lists};
 use oracle::processing::{self, Format, Rooms, Sm, Ssc};
 use oracle::random::Random;
+use oracle::sm_stops;
 use oracle::speeds::{self, Columns as SpeedColumns};
 use oracle::tidying::{self, Rows, Scrolls, Tempos, Tidying};
-use oracle::timing::probe;
+use oracle::timing::{convert_warps_and_delays_to_sm_stops, probe};
 use oracle::timings::{Chart, DELAYS, STOPS, TEMPOS, WARPS};
 use std::hint::black_box;
 use std::time::{Duration, Instant};
@@ -46,6 +48,14 @@ fn main() {
     for (tempos, stops) in [(50, 30), (1_024, 1_024)] {
         bench.processing::<Ssc>(tempos, stops);
         bench.processing::<Sm>(tempos, stops);
+    }
+    for (name, counts) in [("a typical chart", [50, 30, 10, 10, 20, 20, 10]), ("full lists", [1_024; 7])] {
+        bench.assembly(&format!("SSC of {name}"), true, counts, false);
+        bench.assembly(&format!("SM of {name}"), false, counts, false);
+        bench.assembly(&format!("SM of {name}, with warps"), false, counts, true);
+    }
+    for entries in [16, 256] {
+        bench.sm_stops(entries);
     }
     println!(
         "nanoseconds a question of 2,000; the port counts events and tests each beat, and a run tests the timing once"
@@ -160,6 +170,46 @@ impl Bench {
             || {
                 black_box(probe::is_judgable_at_row(black_box(&timing), black_box(row)));
             },
+        );
+    }
+}
+
+impl Bench {
+    fn assembly(&mut self, name: &str, ssc: bool, counts: [usize; 7], backward: bool) {
+        let mut raw = assembly::typical(counts, backward);
+        let mut rooms = assembly::Rooms::new([1_024; 16], &mut Random::new(1, "bench of assembly"));
+        // full lists leave no place for made warps
+        if assembly::assemble(ssc, &raw, &mut rooms).number == 1 {
+            raw.numbers[assembly::WARPS].clear();
+            raw.numbers[assembly::WARPS + 1].clear();
+        }
+        assert_eq!(assembly::assemble(ssc, &raw, &mut rooms).number, 0, "{name}");
+        self.line(
+            &format!("compute_timing_segments, {name}"),
+            1,
+            || {
+                black_box(assembly::assemble(ssc, black_box(&raw), &mut rooms));
+            },
+            || drop(black_box(assembly::original(ssc, black_box(&raw)))),
+        );
+    }
+
+    /// A stop, a delay and a warp on every beat, and a tempo on every fourth.
+    fn sm_stops(&mut self, entries: usize) {
+        let beats: Vec<f32> = (0..entries).map(|place| place as f32).collect();
+        let list = |value: f32| (beats.clone(), vec![value; entries]);
+        let tempos = (beats.iter().step_by(4).copied().collect(), vec![120.0; entries.div_ceil(4)]);
+        let stops = beats.iter().flat_map(|beat| [*beat, 0.25]).collect();
+        let lists = sm_stops::Lists { tempos, stops, delays: list(0.5), warps: list(0.25) };
+        let [tempos, stops, delays, warps] = lists.pairs();
+        let mut work = vec![0.0; 6 * entries];
+        self.line(
+            &format!("convert_warps_and_delays_to_sm_stops of 3 x {entries}"),
+            1,
+            || {
+                black_box(black_box(&lists).port(&mut work));
+            },
+            || drop(black_box(convert_warps_and_delays_to_sm_stops(black_box(&tempos), black_box(&stops), black_box(&delays), black_box(&warps)))),
         );
     }
 }
