@@ -145,12 +145,14 @@ impl Cursor {
         Self { state: State { tempos, stops, delays, warps, row, time, end, warping }, asked }
     }
 
+    /// Bit for bit, but for the sign of a warp's end of zero: which of two zeros is the larger differs from one processor to another in the original.
     fn same(self, other: Self) -> bool {
         let (one, two) = (self.state, other.state);
+        let end = |state: State| (state.end + 0.0).answer();
         (one.tempos, one.stops, one.delays, one.warps, one.row, one.warping, self.asked)
             == (two.tempos, two.stops, two.delays, two.warps, two.row, two.warping, other.asked)
             && one.time.answer() == two.time.answer()
-            && one.end.answer() == two.end.answer()
+            && end(one) == end(two)
     }
 
     /// 9 or 0, by the rules.
@@ -290,7 +292,7 @@ fn expected(chart: &Chart, timing: &TimingData, cursor: Cursor, beat: f64) -> An
         after.same(Cursor { state: counted.state, asked: row }),
         "the counted walk: {chart:?}, {cursor:?}, beat {beat:?}"
     );
-    Answer { number: 0, time, count: counted.passed + 1, cursor: after }
+    Answer { number: 0, time, count: counted.passed + 1, cursor: Cursor { state: counted.state, asked: row } }
 }
 
 fn lowest(numbers: impl IntoIterator<Item = u32>) -> u32 {
