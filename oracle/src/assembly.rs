@@ -32,11 +32,7 @@ impl Raw {
     }
 
     fn segments(&self, list: usize) -> Vec<Segment> {
-        self.numbers[list]
-            .iter()
-            .zip(&self.numbers[list + 1])
-            .map(|(&beat, &value)| Segment { beat, value })
-            .collect()
+        self.numbers[list].iter().zip(&self.numbers[list + 1]).map(|(&beat, &value)| Segment { beat, value }).collect()
     }
 
     /// A list is refused for its length, its columns, a beat, then a value. Of tempos and stops what is not finite passes, to be dropped later.

@@ -1,12 +1,12 @@
 //! The clock: the original's cursor and the port's, and their comparison.
 
 use crate::cases::{LAST_ROW, Work, power};
-use crate::timings::{Chart, DELAYS, STOPS, TEMPOS, WARPS, beat_allowed};
 use crate::numbers::Number;
 use crate::random::Random;
 use crate::stored::{self, Case, Word};
 use crate::tally::Total;
 use crate::timing::{TimingData, get_time_for_beat, probe};
+use crate::timings::{Chart, DELAYS, STOPS, TEMPOS, WARPS, beat_allowed};
 use probe::{BeatCursor, Held};
 
 // ---- the port
@@ -460,7 +460,11 @@ pub fn stored_cases(cases: &mut Vec<Case>) {
         case
     };
     let from = |chart: &Chart, random: &mut Random| {
-        if random.below(3) == 0 { Cursor::fresh(chart.offset, chart.global) } else { Cursor::made_up(chart.lengths(), random) }
+        if random.below(3) == 0 {
+            Cursor::fresh(chart.offset, chart.global)
+        } else {
+            Cursor::made_up(chart.lengths(), random)
+        }
     };
     let mut random = Random::new(1, "stored questions");
     let question = |turn: u64| {

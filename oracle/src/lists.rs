@@ -81,7 +81,8 @@ pub fn values(length: usize, random: &mut Random) -> Vec<f64> {
                 1 if random.below(3) != 0 => last,
                 // about as far apart as values may be to count as the same
                 4 if random.below(3) == 0 => 60.0 + random.below(3) as f64,
-                4 => (last + random.sign() * one_of(&[0.0, 0.4e-6, 1e-6, 2e-6], random)).moved(random.below(3) as i64 - 1),
+                4 => (last + random.sign() * one_of(&[0.0, 0.4e-6, 1e-6, 2e-6], random))
+                    .moved(random.below(3) as i64 - 1),
                 1 => random.sign() * one_of(&[0.0, 60.0, 60f64.moved(1), 120.0], random),
                 _ => random.sign() * one_of(&ends, random),
             };

@@ -271,13 +271,7 @@ fn batch_differs(
 }
 
 /// What is expected of many rows, and what their room is left as.
-fn expected_batch(
-    lists: &Lists,
-    timing: Option<&TimingData>,
-    rows: &[i32],
-    room: usize,
-    wanted: &mut [u8],
-) -> Outcome {
+fn expected_batch(lists: &Lists, timing: Option<&TimingData>, rows: &[i32], room: usize, wanted: &mut [u8]) -> Outcome {
     match lists.number(&[0, 1, 2, 3], true, rows.iter().all(|row| row_allowed(*row))) {
         0 if rows.len() > room => Outcome::refused(7),
         0 => {

@@ -89,7 +89,11 @@ fn columns(input: &Input) -> Raw {
     let mut raw = Raw::default();
     for (entries, first) in input.lists.iter().zip([TEMPOS, STOPS, DELAYS, WARPS, SPEEDS, SCROLLS, FAKES]) {
         for entry in entries {
-            entry.numbers.iter().enumerate().for_each(|(place, bits)| raw.numbers[first + place].push(f64::from_bits(*bits)));
+            entry
+                .numbers
+                .iter()
+                .enumerate()
+                .for_each(|(place, bits)| raw.numbers[first + place].push(f64::from_bits(*bits)));
             if first == SPEEDS {
                 raw.units.push(entry.unit);
             }
@@ -208,7 +212,10 @@ pub fn written_out() -> Vec<Vec<u8>> {
     let number = "3FF0000000000000";
     let pair = |word: &str| format!("{word}={number},{number}\n");
     let speed = format!("speed={number},{number},{number},1\n");
-    let every = |format: &str| format!("format={format}\n") + &WORDS.map(|word| if word == "speed" { speed.clone() } else { pair(word) }).concat();
+    let every = |format: &str| {
+        format!("format={format}\n")
+            + &WORDS.map(|word| if word == "speed" { speed.clone() } else { pair(word) }).concat()
+    };
     let mut made = vec![
         WHOLE.to_string(),
         String::new(),

@@ -222,7 +222,9 @@ fn stored_case(lists: &Lists) -> Option<Case> {
     let (filled, work) = expected(lists, stored::ROOM);
     let Lists { tempos, stops, delays, warps } = lists;
     let mut case = Case::new(7);
-    [&tempos.0, &tempos.1, stops, &delays.0, &delays.1, &warps.0, &warps.1, &work].into_iter().for_each(|column| case.column(column));
+    [&tempos.0, &tempos.1, stops, &delays.0, &delays.1, &warps.0, &warps.1, &work]
+        .into_iter()
+        .for_each(|column| case.column(column));
     case.words([filled.number.into(), filled.count as u64, filled.own.into()]);
     case.if_short()
 }

@@ -209,7 +209,14 @@ impl Bench {
             || {
                 black_box(black_box(&lists).port(&mut work));
             },
-            || drop(black_box(convert_warps_and_delays_to_sm_stops(black_box(&tempos), black_box(&stops), black_box(&delays), black_box(&warps)))),
+            || {
+                drop(black_box(convert_warps_and_delays_to_sm_stops(
+                    black_box(&tempos),
+                    black_box(&stops),
+                    black_box(&delays),
+                    black_box(&warps),
+                )))
+            },
         );
     }
 }
