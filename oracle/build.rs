@@ -42,7 +42,7 @@ fn link_port(root: &Path) {
     println!("cargo::rustc-link-search=native={}", folder.display());
     for name in ["exports_leaf", "exports", "exports_assembly"] {
         let archive = folder.join(format!("lib{name}.a"));
-        assert!(archive.is_file(), "{} is missing: oracle/native-archive {name}", archive.display());
+        assert!(archive.is_file(), "{} is missing: bindings/native-archive {name}", archive.display());
         println!("cargo::rerun-if-changed={}", archive.display());
         println!("cargo::rustc-link-lib=static={name}");
     }

@@ -1,0 +1,127 @@
+/* A chart through the C functions: assembly, the clock, the lookups, and stops for SM. Prints what it found, and ends with 1 where an answer is not the expected one. */
+#include <stdio.h>
+#include <string.h>
+
+#include "marrighentu.h"
+
+enum { ROOM = MARRIGHENTU_MOST_ENTRIES };
+
+/* The columns of a timing, and how many entries each list has. */
+typedef struct {
+    float tempo_beats[ROOM], tempo_values[ROOM];
+    float stop_beats[ROOM], stop_values[ROOM];
+    float delay_beats[ROOM], delay_values[ROOM];
+    float warp_beats[ROOM], warp_lengths[ROOM];
+    float speed_beats[ROOM], speed_ratios[ROOM], speed_delays[ROOM];
+    uint8_t speed_units[ROOM];
+    float scroll_beats[ROOM], scroll_values[ROOM];
+    float fake_beats[ROOM], fake_lengths[ROOM];
+    marrighentu_assembled made;
+    double offset, global_offset;
+} timing;
+
+static int wrong;
+
+static void expect(bool met, const char *what) {
+    if (!met) {
+        printf("not as expected: %s\n", what);
+        wrong = 1;
+    }
+}
+
+/* The columns that every question of the clock takes. */
+#define CLOCK_COLUMNS(t)                                                                             \
+    (t)->tempo_beats, (t)->made.tempos, (t)->tempo_values, (t)->made.tempos,                         \
+    (t)->stop_beats, (t)->made.stops, (t)->stop_values, (t)->made.stops,                             \
+    (t)->delay_beats, (t)->made.delays, (t)->delay_values, (t)->made.delays,                         \
+    (t)->warp_beats, (t)->made.warps, (t)->warp_lengths, (t)->made.warps,                            \
+    (t)->offset, (t)->global_offset
+
+/* The columns that a lookup takes. */
+#define LOOKUP_COLUMNS(t)                                                                            \
+    (t)->stop_beats, (t)->made.stops, (t)->stop_values, (t)->made.stops,                             \
+    (t)->delay_beats, (t)->made.delays, (t)->delay_values, (t)->made.delays,                         \
+    (t)->warp_beats, (t)->made.warps, (t)->warp_lengths, (t)->made.warps,                            \
+    (t)->fake_beats, (t)->made.fakes, (t)->fake_lengths, (t)->made.fakes
+
+int main(void) {
+    /* a chart of an SM file: 120 beats a minute, a tempo of -120 from beat 4 to 8, which is a warp, a stop on beat 16, a fake on beat 20 */
+    const double tempo_beats[] = {0, 4, 8}, tempo_values[] = {120, -120, 120};
+    const double stop_beats[] = {16}, stop_values[] = {1};
+    const double fake_beats[] = {20}, fake_lengths[] = {1};
+    const double none[1] = {0};
+    const uint8_t no_units[1] = {0};
+    static timing chart;
+    timing *t = &chart;
+
+    t->made = marrighentu_compute_timing_segments_sm(
+        tempo_beats, 3, tempo_values, 3, stop_beats, 1, stop_values, 1, none, 0, none, 0, none, 0, none, 0,
+        none, 0, none, 0, none, 0, no_units, 0, none, 0, none, 0, fake_beats, 1, fake_lengths, 1,
+        t->tempo_beats, ROOM, t->tempo_values, ROOM, t->stop_beats, ROOM, t->stop_values, ROOM,
+        t->delay_beats, ROOM, t->delay_values, ROOM, t->warp_beats, ROOM, t->warp_lengths, ROOM,
+        t->speed_beats, ROOM, t->speed_ratios, ROOM, t->speed_delays, ROOM, t->speed_units, ROOM,
+        t->scroll_beats, ROOM, t->scroll_values, ROOM, t->fake_beats, ROOM, t->fake_lengths, ROOM);
+    expect(t->made.number == MARRIGHENTU_TAKEN, "the chart is taken");
+    expect(t->made.tempos == 1 && t->made.stops == 1 && t->made.warps == 1 && t->made.fakes == 1, "one of each list");
+    t->offset = 0.0 + (double)t->made.offset;
+    t->global_offset = 0.0;
+    printf("warp at beat %g for %g beats\n", (double)t->warp_beats[0], (double)t->warp_lengths[0]);
+
+    /* the timing is tested once; then the player's question is asked, one cursor lent for each */
+    expect(marrighentu_check_timing(CLOCK_COLUMNS(t)) == MARRIGHENTU_TAKEN, "the timing is taken");
+    marrighentu_made made = marrighentu_cursor_new(t->offset, t->global_offset);
+    expect(made.number == MARRIGHENTU_TAKEN && made.cursor.asked == INT32_MIN, "a fresh cursor");
+    marrighentu_cursor cursor = made.cursor;
+    const double beats[] = {2, 6, 12, 16, 17, 6};
+    const double expected[] = {1, 2, 2, 4, 5.5, 2};
+    for (size_t i = 0; i < sizeof beats / sizeof *beats; i++) {
+        marrighentu_answer answer = marrighentu_lent_time_for_beat_checked(&cursor, CLOCK_COLUMNS(t), beats[i]);
+        printf("beat %g at %g s, %zu steps\n", beats[i], answer.time, answer.count);
+        expect(answer.number == MARRIGHENTU_TAKEN && answer.time == expected[i], "the second of a beat");
+        expect(memcmp(&answer.cursor.state.tempos, &cursor.state.tempos, 4 * sizeof(size_t)) == 0 && answer.cursor.asked == cursor.asked, "the cursor is stored");
+    }
+
+    /* a refused question leaves the cursor as it was */
+    marrighentu_cursor before = cursor;
+    marrighentu_answer refused = marrighentu_lent_time_for_beat(&cursor, CLOCK_COLUMNS(t), 65536.5);
+    expect(refused.number == MARRIGHENTU_BAD_BEAT && refused.count == 0, "a beat beyond the limit");
+    expect(memcmp(&before, &cursor, sizeof cursor) == 0, "the cursor after a refusal");
+
+    /* many beats at once, one of them refused */
+    const double asked[] = {0, 1e9, 17};
+    uint32_t numbers[3];
+    double times[3];
+    size_t counts[3];
+    uint32_t number = marrighentu_lent_run(&cursor, CLOCK_COLUMNS(t), asked, 3, numbers, 3, times, 3, counts, 3);
+    expect(number == MARRIGHENTU_TAKEN && numbers[0] == 0 && numbers[1] == MARRIGHENTU_BAD_BEAT && numbers[2] == 0, "a run's numbers");
+    expect(times[0] == 0.0 && times[2] == 5.5 && counts[1] == 0, "a run's seconds");
+
+    /* which notes of a sheet are judged: one in the warp and one in the fake are not */
+    const int32_t rows[] = {0, 6 * 48, 12 * 48, 20 * 48 + 24};
+    uint8_t judged[4];
+    marrighentu_outcome outcome = marrighentu_judgable_rows(LOOKUP_COLUMNS(t), rows, 4, judged, 4);
+    expect(outcome.number == MARRIGHENTU_TAKEN && outcome.count == 4, "a sheet is taken");
+    for (size_t i = 0; i < 4; i++) printf("row %d is %s\n", (int)rows[i], judged[i] ? "judged" : "not judged");
+    expect(judged[0] == 1 && judged[1] == 0 && judged[2] == 1 && judged[3] == 0, "the judged rows");
+    marrighentu_looked looked = marrighentu_is_judgable_at_beat(LOOKUP_COLUMNS(t), 6.0);
+    expect(looked.number == MARRIGHENTU_TAKEN && !looked.yes, "a beat in the warp is not judged");
+
+    /* rows of the lists, one part behind another */
+    int32_t store[8];
+    marrighentu_stored stored = marrighentu_build_segment_row_storage(LOOKUP_COLUMNS(t), store, 8);
+    expect(stored.number == MARRIGHENTU_TAKEN && stored.stops == 1 && stored.delays == 0 && stored.warps == 1 && stored.fakes == 1, "the row store");
+    expect(store[0] == 16 * 48 && store[1] == 4 * 48 && store[2] == 20 * 48, "the rows of the row store");
+
+    /* the same timing as stops of an SM file */
+    const float flat[] = {16.0f, 1.0f};
+    float work[8];
+    marrighentu_filled filled = marrighentu_convert_warps_and_delays_to_sm_stops(
+        t->tempo_beats, t->made.tempos, t->tempo_values, t->made.tempos, flat, 2, t->delay_beats, t->made.delays, t->delay_values, t->made.delays,
+        t->warp_beats, t->made.warps, t->warp_lengths, t->made.warps, work, 8);
+    expect(filled.number == MARRIGHENTU_TAKEN && !filled.own && filled.count == 2, "stops for SM");
+    for (size_t i = 0; i < filled.count && i < 4; i++) printf("SM stop at beat %g of %g s\n", (double)work[2 * i], (double)work[2 * i + 1]);
+    expect(work[0] == 4.0f && work[1] == -4.0f && work[2] == 16.0f && work[3] == 1.0f, "the stops for SM");
+
+    printf(wrong ? "failed\n" : "all as expected\n");
+    return wrong;
+}

@@ -1,0 +1,405 @@
+/*
+ * Chart timing for dance games, proved right: the port's functions for C.
+ *
+ * Link target/native/libNAME.a of exports_leaf, exports, exports_assembly and lent_clock, which `bindings/native-archive NAME` makes.
+ *
+ * A column is a pointer and its length in numbers. A column that a call reads may be read-only and may be shared; one that it writes may overlap
+ * no other. The pointer of an empty column must not be null: any other address will do. That, and that each column is as long as is said, is all
+ * that a call asks; no number, list or cursor makes it do anything undefined, and every call returns.
+ *
+ * A call answers a number: 0 where it is taken, else why it is refused (MARRIGHENTU_TOO_LONG and so on), the lowest that holds. After a refusal
+ * every count is 0 and nothing that was lent has changed. A taken call fills the front of its rooms and leaves the rest as it was.
+ */
+#ifndef MARRIGHENTU_H
+#define MARRIGHENTU_H
+
+#include <stdbool.h>
+#include <stddef.h>
+#include <stdint.h>
+
+#ifdef __cplusplus
+extern "C" {
+#endif
+
+/* Why a call is refused. */
+enum marrighentu_refusal {
+    MARRIGHENTU_TAKEN = 0,
+    MARRIGHENTU_TOO_LONG = 1,    /* a list has more than 1,024 entries, made warps included */
+    MARRIGHENTU_UNEVEN = 2,      /* the columns of a list differ in length, or a flat list is odd */
+    MARRIGHENTU_BAD_BEAT = 3,    /* a beat beyond 65,536 or a row beyond 3,145,728 on either side, or one that is not finite */
+    MARRIGHENTU_BAD_VALUE = 4,   /* a value, a unit or an offset beyond its limit */
+    MARRIGHENTU_NOT_RISING = 5,  /* rows of a list do not rise strictly, or the tempos do not start at beat 0 */
+    MARRIGHENTU_FALLS = 6,       /* scrolls or speeds out of order, so that an entry has no place */
+    MARRIGHENTU_NO_ROOM = 7,     /* a result is longer than its room */
+    MARRIGHENTU_NO_TEMPO = 8,    /* SM stops: a warp and no tempo */
+    MARRIGHENTU_BAD_CURSOR = 9   /* a cursor that no question left behind */
+};
+
+enum { MARRIGHENTU_MOST_ENTRIES = 1024, MARRIGHENTU_ROWS_PER_BEAT = 48 };
+
+/* What a speed's delay is counted in. */
+enum marrighentu_unit { MARRIGHENTU_BEATS = 0, MARRIGHENTU_SECONDS = 1 };
+
+/* How far a walk through a timing has come: a place in each list, the row and the second of the last event passed, the beat where the
+ * warp ends, and whether it is warping. */
+typedef struct {
+    size_t tempos;
+    size_t stops;
+    size_t delays;
+    size_t warps;
+    int32_t row;
+    bool warping;
+    double time;
+    double end;
+} marrighentu_state;
+
+/* A cursor, which its holder lends for each question; marrighentu_cursor_new makes it. */
+typedef struct {
+    marrighentu_state state;
+    int32_t asked; /* the row asked last; the least int32_t where none was */
+} marrighentu_cursor;
+
+/* A question's number, its second, the events it passed and one, and the cursor after it. */
+typedef struct {
+    uint32_t number;
+    double time;
+    size_t count;
+    marrighentu_cursor cursor;
+} marrighentu_answer;
+
+/* A number and a cursor. */
+typedef struct {
+    uint32_t number;
+    marrighentu_cursor cursor;
+} marrighentu_made;
+
+/* A lookup's number and answer; no after a refusal. */
+typedef struct {
+    uint32_t number;
+    bool yes;
+} marrighentu_looked;
+
+/* A number, and how many entries were written. */
+typedef struct {
+    uint32_t number;
+    size_t count;
+} marrighentu_outcome;
+
+/* A number, and how many rows each part of the row store has. */
+typedef struct {
+    uint32_t number;
+    size_t stops;
+    size_t delays;
+    size_t warps;
+    size_t fakes;
+} marrighentu_stored;
+
+/* A number, the entries written to the work list, and whether the stops that were given are the answer instead. */
+typedef struct {
+    uint32_t number;
+    size_t count;
+    bool own;
+} marrighentu_filled;
+
+/* A number, how many entries of each list were written, and the seconds to add to the song's offset. */
+typedef struct {
+    uint32_t number;
+    size_t tempos;
+    size_t stops;
+    size_t delays;
+    size_t warps;
+    size_t speeds;
+    size_t scrolls;
+    size_t fakes;
+    float offset;
+} marrighentu_assembled;
+
+/* ---- rows and beats */
+
+/* The beat of a row. */
+double marrighentu_note_row_to_beat(int32_t row);
+
+/* The row of a beat: the nearest, of two that are equally near the even one, held at the ends of an int32_t. */
+int32_t marrighentu_beat_to_note_row(double beat);
+
+/* ---- assembly */
+
+/* The timing lists of an SM chart from its raw lists, in any order: tempos in beats a minute, stops and delays in seconds, warps and fakes in
+ * beats. Tempos that are negative or beyond 9,999,999 and negative stops become warps. A room of MARRIGHENTU_MOST_ENTRIES is always enough.
+ */
+marrighentu_assembled marrighentu_compute_timing_segments_sm(
+    const double *tempo_beats, size_t tempo_beats_length,
+    const double *tempo_values, size_t tempo_values_length,
+    const double *stop_beats, size_t stop_beats_length,
+    const double *stop_values, size_t stop_values_length,
+    const double *delay_beats, size_t delay_beats_length,
+    const double *delay_values, size_t delay_values_length,
+    const double *warp_beats, size_t warp_beats_length,
+    const double *warp_lengths, size_t warp_lengths_length,
+    const double *speed_beats, size_t speed_beats_length,
+    const double *speed_ratios, size_t speed_ratios_length,
+    const double *speed_delays, size_t speed_delays_length,
+    const uint8_t *speed_units, size_t speed_units_length,
+    const double *scroll_beats, size_t scroll_beats_length,
+    const double *scroll_values, size_t scroll_values_length,
+    const double *fake_beats, size_t fake_beats_length,
+    const double *fake_lengths, size_t fake_lengths_length,
+    float *out_tempo_beats, size_t out_tempo_beats_length,
+    float *out_tempo_values, size_t out_tempo_values_length,
+    float *out_stop_beats, size_t out_stop_beats_length,
+    float *out_stop_values, size_t out_stop_values_length,
+    float *out_delay_beats, size_t out_delay_beats_length,
+    float *out_delay_values, size_t out_delay_values_length,
+    float *out_warp_beats, size_t out_warp_beats_length,
+    float *out_warp_lengths, size_t out_warp_lengths_length,
+    float *out_speed_beats, size_t out_speed_beats_length,
+    float *out_speed_ratios, size_t out_speed_ratios_length,
+    float *out_speed_delays, size_t out_speed_delays_length,
+    uint8_t *out_speed_units, size_t out_speed_units_length,
+    float *out_scroll_beats, size_t out_scroll_beats_length,
+    float *out_scroll_values, size_t out_scroll_values_length,
+    float *out_fake_beats, size_t out_fake_beats_length,
+    float *out_fake_lengths, size_t out_fake_lengths_length);
+
+/* The same for an SSC chart: tempos and stops that are not positive are left out. */
+marrighentu_assembled marrighentu_compute_timing_segments_ssc(
+    const double *tempo_beats, size_t tempo_beats_length,
+    const double *tempo_values, size_t tempo_values_length,
+    const double *stop_beats, size_t stop_beats_length,
+    const double *stop_values, size_t stop_values_length,
+    const double *delay_beats, size_t delay_beats_length,
+    const double *delay_values, size_t delay_values_length,
+    const double *warp_beats, size_t warp_beats_length,
+    const double *warp_lengths, size_t warp_lengths_length,
+    const double *speed_beats, size_t speed_beats_length,
+    const double *speed_ratios, size_t speed_ratios_length,
+    const double *speed_delays, size_t speed_delays_length,
+    const uint8_t *speed_units, size_t speed_units_length,
+    const double *scroll_beats, size_t scroll_beats_length,
+    const double *scroll_values, size_t scroll_values_length,
+    const double *fake_beats, size_t fake_beats_length,
+    const double *fake_lengths, size_t fake_lengths_length,
+    float *out_tempo_beats, size_t out_tempo_beats_length,
+    float *out_tempo_values, size_t out_tempo_values_length,
+    float *out_stop_beats, size_t out_stop_beats_length,
+    float *out_stop_values, size_t out_stop_values_length,
+    float *out_delay_beats, size_t out_delay_beats_length,
+    float *out_delay_values, size_t out_delay_values_length,
+    float *out_warp_beats, size_t out_warp_beats_length,
+    float *out_warp_lengths, size_t out_warp_lengths_length,
+    float *out_speed_beats, size_t out_speed_beats_length,
+    float *out_speed_ratios, size_t out_speed_ratios_length,
+    float *out_speed_delays, size_t out_speed_delays_length,
+    uint8_t *out_speed_units, size_t out_speed_units_length,
+    float *out_scroll_beats, size_t out_scroll_beats_length,
+    float *out_scroll_values, size_t out_scroll_values_length,
+    float *out_fake_beats, size_t out_fake_beats_length,
+    float *out_fake_lengths, size_t out_fake_lengths_length);
+
+/* ---- the clock
+ *
+ * A timing is the columns of its tempos, stops, delays and warps as assembly writes them, and two offsets in seconds: the song's, with the offset that
+ * assembly answered added, and the machine's. */
+
+/* The number that a question answers for a timing, 0 to 5. */
+uint32_t marrighentu_check_timing(
+    const float *tempo_beats, size_t tempo_beats_length,
+    const float *tempo_values, size_t tempo_values_length,
+    const float *stop_beats, size_t stop_beats_length,
+    const float *stop_values, size_t stop_values_length,
+    const float *delay_beats, size_t delay_beats_length,
+    const float *delay_values, size_t delay_values_length,
+    const float *warp_beats, size_t warp_beats_length,
+    const float *warp_lengths, size_t warp_lengths_length,
+    double offset, double global_offset);
+
+/* A cursor that was not asked yet, for a timing with these offsets. Offsets beyond 2^20 are refused with 4. */
+marrighentu_made marrighentu_cursor_new(
+    double offset, double global_offset);
+
+/* At what second is this beat? Everything is tested: the timing, the beat, the cursor. The cursor is moved on; after a refusal it is as it was. */
+marrighentu_answer marrighentu_lent_time_for_beat(
+    marrighentu_cursor *cursor,
+    const float *tempo_beats, size_t tempo_beats_length,
+    const float *tempo_values, size_t tempo_values_length,
+    const float *stop_beats, size_t stop_beats_length,
+    const float *stop_values, size_t stop_values_length,
+    const float *delay_beats, size_t delay_beats_length,
+    const float *delay_values, size_t delay_values_length,
+    const float *warp_beats, size_t warp_beats_length,
+    const float *warp_lengths, size_t warp_lengths_length,
+    double offset, double global_offset,
+    double beat);
+
+/* The same for a timing that marrighentu_check_timing took and that has not changed since: only the beat and the cursor are tested, so that
+ * the cost does not grow with the lists. This is the question for a player. Over other lists it still returns and does nothing undefined.
+ */
+marrighentu_answer marrighentu_lent_time_for_beat_checked(
+    marrighentu_cursor *cursor,
+    const float *tempo_beats, size_t tempo_beats_length,
+    const float *tempo_values, size_t tempo_values_length,
+    const float *stop_beats, size_t stop_beats_length,
+    const float *stop_values, size_t stop_values_length,
+    const float *delay_beats, size_t delay_beats_length,
+    const float *delay_values, size_t delay_values_length,
+    const float *warp_beats, size_t warp_beats_length,
+    const float *warp_lengths, size_t warp_lengths_length,
+    double offset, double global_offset,
+    double beat);
+
+/* The second of each beat, with its number and count, in three columns; the timing and the cursor are tested once. A refused beat has number 3,
+ * second 0 and count 0 and leaves the cursor as it was; the run itself is taken then. 7 where a column is shorter than the beats.
+ */
+uint32_t marrighentu_lent_run(
+    marrighentu_cursor *cursor,
+    const float *tempo_beats, size_t tempo_beats_length,
+    const float *tempo_values, size_t tempo_values_length,
+    const float *stop_beats, size_t stop_beats_length,
+    const float *stop_values, size_t stop_values_length,
+    const float *delay_beats, size_t delay_beats_length,
+    const float *delay_values, size_t delay_values_length,
+    const float *warp_beats, size_t warp_beats_length,
+    const float *warp_lengths, size_t warp_lengths_length,
+    double offset, double global_offset,
+    const double *beats, size_t beats_length,
+    uint32_t *numbers, size_t numbers_length,
+    double *times, size_t times_length,
+    size_t *counts, size_t counts_length);
+
+/* The second of a beat from a fresh cursor. */
+marrighentu_answer marrighentu_get_time_for_beat(
+    const float *tempo_beats, size_t tempo_beats_length,
+    const float *tempo_values, size_t tempo_values_length,
+    const float *stop_beats, size_t stop_beats_length,
+    const float *stop_values, size_t stop_values_length,
+    const float *delay_beats, size_t delay_beats_length,
+    const float *delay_values, size_t delay_values_length,
+    const float *warp_beats, size_t warp_beats_length,
+    const float *warp_lengths, size_t warp_lengths_length,
+    double offset, double global_offset,
+    double beat);
+
+/* ---- lookups: which notes are judged */
+
+/* Whether a row is warped: the last warp at or before it reaches beyond it, and no positive stop or delay is on it. */
+marrighentu_looked marrighentu_is_warp_at_row(
+    const float *stop_beats, size_t stop_beats_length,
+    const float *stop_values, size_t stop_values_length,
+    const float *delay_beats, size_t delay_beats_length,
+    const float *delay_values, size_t delay_values_length,
+    const float *warp_beats, size_t warp_beats_length,
+    const float *warp_lengths, size_t warp_lengths_length,
+    int32_t row);
+
+/* The same of a beat's row. */
+marrighentu_looked marrighentu_is_warp_at_beat(
+    const float *stop_beats, size_t stop_beats_length,
+    const float *stop_values, size_t stop_values_length,
+    const float *delay_beats, size_t delay_beats_length,
+    const float *delay_values, size_t delay_values_length,
+    const float *warp_beats, size_t warp_beats_length,
+    const float *warp_lengths, size_t warp_lengths_length,
+    double beat);
+
+/* Whether a row is fake: the last fake at or before it reaches beyond it. */
+marrighentu_looked marrighentu_is_fake_at_row(
+    const float *fake_beats, size_t fake_beats_length,
+    const float *fake_lengths, size_t fake_lengths_length,
+    int32_t row);
+
+/* The same of a beat's row. */
+marrighentu_looked marrighentu_is_fake_at_beat(
+    const float *fake_beats, size_t fake_beats_length,
+    const float *fake_lengths, size_t fake_lengths_length,
+    double beat);
+
+/* Whether a note on a row is judged: the row is neither warped nor fake. */
+marrighentu_looked marrighentu_is_judgable_at_row(
+    const float *stop_beats, size_t stop_beats_length,
+    const float *stop_values, size_t stop_values_length,
+    const float *delay_beats, size_t delay_beats_length,
+    const float *delay_values, size_t delay_values_length,
+    const float *warp_beats, size_t warp_beats_length,
+    const float *warp_lengths, size_t warp_lengths_length,
+    const float *fake_beats, size_t fake_beats_length,
+    const float *fake_lengths, size_t fake_lengths_length,
+    int32_t row);
+
+/* The same of a beat's row. */
+marrighentu_looked marrighentu_is_judgable_at_beat(
+    const float *stop_beats, size_t stop_beats_length,
+    const float *stop_values, size_t stop_values_length,
+    const float *delay_beats, size_t delay_beats_length,
+    const float *delay_values, size_t delay_values_length,
+    const float *warp_beats, size_t warp_beats_length,
+    const float *warp_lengths, size_t warp_lengths_length,
+    const float *fake_beats, size_t fake_beats_length,
+    const float *fake_lengths, size_t fake_lengths_length,
+    double beat);
+
+/* 1 for each row on which a note is judged and 0 for each other, for a whole note sheet: the lists are tested once, and rising rows are cheapest. */
+marrighentu_outcome marrighentu_judgable_rows(
+    const float *stop_beats, size_t stop_beats_length,
+    const float *stop_values, size_t stop_values_length,
+    const float *delay_beats, size_t delay_beats_length,
+    const float *delay_values, size_t delay_values_length,
+    const float *warp_beats, size_t warp_beats_length,
+    const float *warp_lengths, size_t warp_lengths_length,
+    const float *fake_beats, size_t fake_beats_length,
+    const float *fake_lengths, size_t fake_lengths_length,
+    const int32_t *rows, size_t rows_length,
+    uint8_t *out, size_t out_length);
+
+/* The rows of positive stops, positive delays, warps and fakes, one part behind another, each rising. */
+marrighentu_stored marrighentu_build_segment_row_storage(
+    const float *stop_beats, size_t stop_beats_length,
+    const float *stop_values, size_t stop_values_length,
+    const float *delay_beats, size_t delay_beats_length,
+    const float *delay_values, size_t delay_values_length,
+    const float *warp_beats, size_t warp_beats_length,
+    const float *warp_lengths, size_t warp_lengths_length,
+    const float *fake_beats, size_t fake_beats_length,
+    const float *fake_lengths, size_t fake_lengths_length,
+    int32_t *rows, size_t rows_length);
+
+/* ---- stops for SM */
+
+/* The stops that an SM file needs to play a timing without delays and warps. Stops and work list are flat: beat, seconds, beat, seconds.
+ * Where the answer says `own`, the stops that were given are the result and nothing was written; else the first `count` pairs of the work list.
+ */
+marrighentu_filled marrighentu_convert_warps_and_delays_to_sm_stops(
+    const float *tempo_beats, size_t tempo_beats_length,
+    const float *tempo_values, size_t tempo_values_length,
+    const float *stops, size_t stops_length,
+    const float *delay_beats, size_t delay_beats_length,
+    const float *delay_values, size_t delay_values_length,
+    const float *warp_beats, size_t warp_beats_length,
+    const float *warp_lengths, size_t warp_lengths_length,
+    float *work, size_t work_length);
+
+/* ---- the layout that the port's functions have: a compiler that lays a struct out otherwise is refused */
+
+#ifdef __cplusplus
+#define MARRIGHENTU_LAYOUT(test) static_assert(test, "layout")
+#else
+#define MARRIGHENTU_LAYOUT(test) _Static_assert(test, "layout")
+#endif
+MARRIGHENTU_LAYOUT(sizeof(size_t) == 8 && sizeof(bool) == 1);
+MARRIGHENTU_LAYOUT(sizeof(marrighentu_state) == 56 && offsetof(marrighentu_state, warps) == 24);
+MARRIGHENTU_LAYOUT(offsetof(marrighentu_state, row) == 32 && offsetof(marrighentu_state, warping) == 36);
+MARRIGHENTU_LAYOUT(offsetof(marrighentu_state, time) == 40 && offsetof(marrighentu_state, end) == 48);
+MARRIGHENTU_LAYOUT(sizeof(marrighentu_cursor) == 64 && offsetof(marrighentu_cursor, asked) == 56);
+MARRIGHENTU_LAYOUT(sizeof(marrighentu_answer) == 88 && offsetof(marrighentu_answer, time) == 8);
+MARRIGHENTU_LAYOUT(offsetof(marrighentu_answer, count) == 16 && offsetof(marrighentu_answer, cursor) == 24);
+MARRIGHENTU_LAYOUT(sizeof(marrighentu_made) == 72 && offsetof(marrighentu_made, cursor) == 8);
+MARRIGHENTU_LAYOUT(sizeof(marrighentu_looked) == 8 && offsetof(marrighentu_looked, yes) == 4);
+MARRIGHENTU_LAYOUT(sizeof(marrighentu_outcome) == 16 && offsetof(marrighentu_outcome, count) == 8);
+MARRIGHENTU_LAYOUT(sizeof(marrighentu_stored) == 40 && offsetof(marrighentu_stored, fakes) == 32);
+MARRIGHENTU_LAYOUT(sizeof(marrighentu_filled) == 24 && offsetof(marrighentu_filled, own) == 16);
+MARRIGHENTU_LAYOUT(sizeof(marrighentu_assembled) == 72 && offsetof(marrighentu_assembled, offset) == 64);
+
+#ifdef __cplusplus
+}
+#endif
+
+#endif

@@ -1,0 +1,340 @@
+//! The port's functions by their C names. A slice crosses as its pointer and its length.
+
+/// How far a walk through a timing's events has come.
+#[derive(Clone, Copy, Debug, PartialEq)]
+#[repr(C)]
+pub struct State {
+    pub tempos: usize,
+    pub stops: usize,
+    pub delays: usize,
+    pub warps: usize,
+    pub row: i32,
+    pub warping: bool,
+    pub time: f64,
+    pub end: f64,
+}
+
+#[derive(Clone, Copy, Debug, PartialEq)]
+#[repr(C)]
+pub struct Cursor {
+    pub state: State,
+    pub asked: i32,
+}
+
+#[derive(Clone, Copy, Debug)]
+#[repr(C)]
+pub struct Answer {
+    pub number: u32,
+    pub time: f64,
+    pub count: usize,
+    pub cursor: Cursor,
+}
+
+/// A number and a cursor: what a new cursor and a run answer.
+#[derive(Clone, Copy, Debug)]
+#[repr(C)]
+pub struct Numbered {
+    pub number: u32,
+    pub cursor: Cursor,
+}
+
+#[derive(Clone, Copy, Debug)]
+#[repr(C)]
+pub struct Looked {
+    pub number: u32,
+    pub yes: bool,
+}
+
+#[derive(Clone, Copy, Debug)]
+#[repr(C)]
+pub struct Outcome {
+    pub number: u32,
+    pub count: usize,
+}
+
+#[derive(Clone, Copy, Debug)]
+#[repr(C)]
+pub struct Stored {
+    pub number: u32,
+    pub stops: usize,
+    pub delays: usize,
+    pub warps: usize,
+    pub fakes: usize,
+}
+
+#[derive(Clone, Copy, Debug)]
+#[repr(C)]
+pub struct Filled {
+    pub number: u32,
+    pub count: usize,
+    pub own: bool,
+}
+
+#[derive(Clone, Copy, Debug)]
+#[repr(C)]
+pub struct Assembled {
+    pub number: u32,
+    pub tempos: usize,
+    pub stops: usize,
+    pub delays: usize,
+    pub warps: usize,
+    pub speeds: usize,
+    pub scrolls: usize,
+    pub fakes: usize,
+    pub offset: f32,
+}
+
+/// Safe calls: `slice` is a column that is read, `room` one that is written, `lent` a struct that is changed, `value` a number or a struct.
+macro_rules! calls {
+    ($($(#[$doc:meta])* fn $name:ident($($kind:tt $arg:ident: $type:ty),* $(,)?) $(-> $answer:ty)? = $symbol:literal;)*) => {
+        $($(#[$doc])*
+        #[inline(always)]
+        #[allow(clippy::too_many_arguments)]
+        pub fn $name($($arg: calls!(@taken $kind $type)),*) $(-> $answer)? {
+            calls!(@declared $symbol [$($kind $arg: $type,)*] [$(-> $answer)?] [] []);
+        })*
+    };
+    (@taken slice $type:ty) => { &[$type] };
+    (@taken room $type:ty) => { &mut [$type] };
+    (@taken lent $type:ty) => { &mut $type };
+    (@taken value $type:ty) => { $type };
+    // the C declaration, its parameters one by one, and the call
+    (@declared $symbol:literal [slice $arg:ident: $type:ty, $($rest:tt)*] $answer:tt [$($params:tt)*] [$($given:tt)*]) => {
+        calls!(@declared $symbol [$($rest)*] $answer [$($params)* _: *const $type, _: usize,] [$($given)* $arg.as_ptr(), $arg.len(),])
+    };
+    (@declared $symbol:literal [room $arg:ident: $type:ty, $($rest:tt)*] $answer:tt [$($params:tt)*] [$($given:tt)*]) => {
+        calls!(@declared $symbol [$($rest)*] $answer [$($params)* _: *mut $type, _: usize,] [$($given)* $arg.as_mut_ptr(), $arg.len(),])
+    };
+    (@declared $symbol:literal [lent $arg:ident: $type:ty, $($rest:tt)*] $answer:tt [$($params:tt)*] [$($given:tt)*]) => {
+        calls!(@declared $symbol [$($rest)*] $answer [$($params)* _: *mut $type,] [$($given)* std::ptr::from_mut($arg),])
+    };
+    (@declared $symbol:literal [value $arg:ident: $type:ty, $($rest:tt)*] $answer:tt [$($params:tt)*] [$($given:tt)*]) => {
+        calls!(@declared $symbol [$($rest)*] $answer [$($params)* _: $type,] [$($given)* $arg,])
+    };
+    (@declared $symbol:literal [] [$(-> $answer:ty)?] [$($params:tt)*] [$($given:tt)*]) => {{
+        unsafe extern "C" {
+            #[link_name = $symbol]
+            fn call($($params)*) $(-> $answer)?;
+        }
+        // SAFETY: every slice is lent whole for the call, and what else crosses is numbers and structs of numbers, of which every pattern is taken.
+        return unsafe { call($($given)*) };
+    }};
+}
+
+calls! {
+    fn note_row_to_beat(value row: i32) -> f64 = "marrighentu_note_row_to_beat";
+    fn beat_to_note_row(value beat: f64) -> i32 = "marrighentu_beat_to_note_row";
+    fn assemble_sm(
+        slice tempo_beats: f64,
+        slice tempo_values: f64,
+        slice stop_beats: f64,
+        slice stop_values: f64,
+        slice delay_beats: f64,
+        slice delay_values: f64,
+        slice warp_beats: f64,
+        slice warp_lengths: f64,
+        slice speed_beats: f64,
+        slice speed_ratios: f64,
+        slice speed_delays: f64,
+        slice speed_units: u8,
+        slice scroll_beats: f64,
+        slice scroll_values: f64,
+        slice fake_beats: f64,
+        slice fake_lengths: f64,
+        room out_tempo_beats: f32,
+        room out_tempo_values: f32,
+        room out_stop_beats: f32,
+        room out_stop_values: f32,
+        room out_delay_beats: f32,
+        room out_delay_values: f32,
+        room out_warp_beats: f32,
+        room out_warp_lengths: f32,
+        room out_speed_beats: f32,
+        room out_speed_ratios: f32,
+        room out_speed_delays: f32,
+        room out_speed_units: u8,
+        room out_scroll_beats: f32,
+        room out_scroll_values: f32,
+        room out_fake_beats: f32,
+        room out_fake_lengths: f32,
+    ) -> Assembled = "marrighentu_compute_timing_segments_sm";
+    fn assemble_ssc(
+        slice tempo_beats: f64,
+        slice tempo_values: f64,
+        slice stop_beats: f64,
+        slice stop_values: f64,
+        slice delay_beats: f64,
+        slice delay_values: f64,
+        slice warp_beats: f64,
+        slice warp_lengths: f64,
+        slice speed_beats: f64,
+        slice speed_ratios: f64,
+        slice speed_delays: f64,
+        slice speed_units: u8,
+        slice scroll_beats: f64,
+        slice scroll_values: f64,
+        slice fake_beats: f64,
+        slice fake_lengths: f64,
+        room out_tempo_beats: f32,
+        room out_tempo_values: f32,
+        room out_stop_beats: f32,
+        room out_stop_values: f32,
+        room out_delay_beats: f32,
+        room out_delay_values: f32,
+        room out_warp_beats: f32,
+        room out_warp_lengths: f32,
+        room out_speed_beats: f32,
+        room out_speed_ratios: f32,
+        room out_speed_delays: f32,
+        room out_speed_units: u8,
+        room out_scroll_beats: f32,
+        room out_scroll_values: f32,
+        room out_fake_beats: f32,
+        room out_fake_lengths: f32,
+    ) -> Assembled = "marrighentu_compute_timing_segments_ssc";
+    fn check_timing(
+        slice tempo_beats: f32,
+        slice tempo_values: f32,
+        slice stop_beats: f32,
+        slice stop_values: f32,
+        slice delay_beats: f32,
+        slice delay_values: f32,
+        slice warp_beats: f32,
+        slice warp_lengths: f32,
+        value offset: f64,
+        value global: f64,
+    ) -> u32 = "marrighentu_check_timing";
+    fn cursor_new(value offset: f64, value global: f64) -> Numbered = "marrighentu_cursor_new";
+    fn time_for_beat_checked(
+        lent cursor: Cursor,
+        slice tempo_beats: f32,
+        slice tempo_values: f32,
+        slice stop_beats: f32,
+        slice stop_values: f32,
+        slice delay_beats: f32,
+        slice delay_values: f32,
+        slice warp_beats: f32,
+        slice warp_lengths: f32,
+        value offset: f64,
+        value global: f64,
+        value beat: f64,
+    ) -> Answer = "marrighentu_lent_time_for_beat_checked";
+    fn run(
+        lent cursor: Cursor,
+        slice tempo_beats: f32,
+        slice tempo_values: f32,
+        slice stop_beats: f32,
+        slice stop_values: f32,
+        slice delay_beats: f32,
+        slice delay_values: f32,
+        slice warp_beats: f32,
+        slice warp_lengths: f32,
+        value offset: f64,
+        value global: f64,
+        slice beats: f64,
+        room numbers: u32,
+        room times: f64,
+        room counts: usize,
+    ) -> u32 = "marrighentu_lent_run";
+    fn build_segment_row_storage(
+        slice stop_beats: f32,
+        slice stop_values: f32,
+        slice delay_beats: f32,
+        slice delay_values: f32,
+        slice warp_beats: f32,
+        slice warp_lengths: f32,
+        slice fake_beats: f32,
+        slice fake_lengths: f32,
+        room rows: i32,
+    ) -> Stored = "marrighentu_build_segment_row_storage";
+    fn is_warp_at_row(
+        slice stop_beats: f32,
+        slice stop_values: f32,
+        slice delay_beats: f32,
+        slice delay_values: f32,
+        slice warp_beats: f32,
+        slice warp_lengths: f32,
+        value row: i32,
+    ) -> Looked = "marrighentu_is_warp_at_row";
+    fn is_warp_at_beat(
+        slice stop_beats: f32,
+        slice stop_values: f32,
+        slice delay_beats: f32,
+        slice delay_values: f32,
+        slice warp_beats: f32,
+        slice warp_lengths: f32,
+        value beat: f64,
+    ) -> Looked = "marrighentu_is_warp_at_beat";
+    fn is_fake_at_row(
+        slice fake_beats: f32,
+        slice fake_lengths: f32,
+        value row: i32,
+    ) -> Looked = "marrighentu_is_fake_at_row";
+    fn is_fake_at_beat(
+        slice fake_beats: f32,
+        slice fake_lengths: f32,
+        value beat: f64,
+    ) -> Looked = "marrighentu_is_fake_at_beat";
+    fn is_judgable_at_row(
+        slice stop_beats: f32,
+        slice stop_values: f32,
+        slice delay_beats: f32,
+        slice delay_values: f32,
+        slice warp_beats: f32,
+        slice warp_lengths: f32,
+        slice fake_beats: f32,
+        slice fake_lengths: f32,
+        value row: i32,
+    ) -> Looked = "marrighentu_is_judgable_at_row";
+    fn is_judgable_at_beat(
+        slice stop_beats: f32,
+        slice stop_values: f32,
+        slice delay_beats: f32,
+        slice delay_values: f32,
+        slice warp_beats: f32,
+        slice warp_lengths: f32,
+        slice fake_beats: f32,
+        slice fake_lengths: f32,
+        value beat: f64,
+    ) -> Looked = "marrighentu_is_judgable_at_beat";
+    fn judgable_rows(
+        slice stop_beats: f32,
+        slice stop_values: f32,
+        slice delay_beats: f32,
+        slice delay_values: f32,
+        slice warp_beats: f32,
+        slice warp_lengths: f32,
+        slice fake_beats: f32,
+        slice fake_lengths: f32,
+        slice rows: i32,
+        room out: u8,
+    ) -> Outcome = "marrighentu_judgable_rows";
+    fn convert_warps_and_delays_to_sm_stops(
+        slice tempo_beats: f32,
+        slice tempo_values: f32,
+        slice stops: f32,
+        slice delay_beats: f32,
+        slice delay_values: f32,
+        slice warp_beats: f32,
+        slice warp_lengths: f32,
+        room work: f32,
+    ) -> Filled = "marrighentu_convert_warps_and_delays_to_sm_stops";
+}
+
+/// The layout of each struct is that of the C header, where the same figures stand.
+const _: () = {
+    use std::mem::{align_of, offset_of, size_of};
+    assert!(size_of::<usize>() == 8);
+    assert!(size_of::<State>() == 56 && align_of::<State>() == 8);
+    assert!(offset_of!(State, warps) == 24 && offset_of!(State, row) == 32 && offset_of!(State, warping) == 36);
+    assert!(offset_of!(State, time) == 40 && offset_of!(State, end) == 48);
+    assert!(size_of::<Cursor>() == 64 && offset_of!(Cursor, asked) == 56);
+    assert!(size_of::<Answer>() == 88 && offset_of!(Answer, time) == 8 && offset_of!(Answer, count) == 16);
+    assert!(offset_of!(Answer, cursor) == 24);
+    assert!(size_of::<Numbered>() == 72 && offset_of!(Numbered, cursor) == 8);
+    assert!(size_of::<Looked>() == 8 && offset_of!(Looked, yes) == 4);
+    assert!(size_of::<Outcome>() == 16 && offset_of!(Outcome, count) == 8);
+    assert!(size_of::<Stored>() == 40 && offset_of!(Stored, fakes) == 32);
+    assert!(size_of::<Filled>() == 24 && offset_of!(Filled, own) == 16);
+    assert!(size_of::<Assembled>() == 72 && offset_of!(Assembled, offset) == 64);
+};

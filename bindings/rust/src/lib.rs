@@ -1,0 +1,55 @@
+//! Chart timing for dance games, proved right.
+//!
+//! A chart says on which beat a note falls; this crate says at which second, and whether a note there is judged at all.
+//! It is a safe, thin layer over functions that are proved to meet their contracts for every input, and that answer bit for bit what the
+//! timing part of rssp answers. Text is not read here: a chart comes as its seven lists of numbers.
+//!
+//! ```
+//! use marrighentu::{Chart, Format, Timing};
+//!
+//! // 120 beats a minute, and a stop of one second on beat 4
+//! let chart = Chart { tempos: vec![(0.0, 120.0)], stops: vec![(4.0, 1.0)], ..Chart::default() };
+//! let timing = Timing::assemble(Format::Ssc, &chart, 0.0, 0.0)?;
+//!
+//! let mut cursor = timing.cursor();
+//! assert_eq!(cursor.time_for_beat(4.0)?, 2.0);
+//! assert_eq!(cursor.time_for_beat(5.0)?, 3.5);
+//! # Ok::<(), marrighentu::Refusal>(())
+//! ```
+//!
+//! What is proved ends at the C functions that this crate calls. Its own code, which lends columns to them and reads their answers, is tested.
+
+mod cursor;
+mod ffi;
+mod lists;
+mod refusal;
+mod timing;
+
+pub use cursor::{Answer, Cursor};
+pub use lists::{Chart, Columns, Format, Lists, Speed, SpeedUnit};
+pub use refusal::Refusal;
+pub use timing::{RowStore, Timing};
+
+/// Rows to a beat.
+pub const ROWS_PER_BEAT: i32 = 48;
+
+/// The beat of a row.
+///
+/// ```
+/// assert_eq!(marrighentu::note_row_to_beat(72), 1.5);
+/// ```
+#[must_use]
+pub fn note_row_to_beat(row: i32) -> f64 {
+    ffi::note_row_to_beat(row)
+}
+
+/// The row of a beat: the nearest, of two that are equally near the even one, held at the ends of an `i32`.
+///
+/// ```
+/// assert_eq!(marrighentu::beat_to_note_row(0.03125), 2);
+/// assert_eq!(marrighentu::beat_to_note_row(f64::INFINITY), 0);
+/// ```
+#[must_use]
+pub fn beat_to_note_row(beat: f64) -> i32 {
+    ffi::beat_to_note_row(beat)
+}

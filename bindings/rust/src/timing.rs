@@ -1,0 +1,440 @@
+//! A timing: a chart's lists, tidy, with its offsets.
+
+use crate::cursor::Cursor;
+use crate::ffi;
+use crate::lists::{Chart, Columns, Format, Lists, Speed, SpeedUnit};
+use crate::refusal::{Refusal, taken};
+
+/// The most entries that a list may have.
+const MOST_ENTRIES: usize = 1_024;
+
+/// The seven lists of a chart as the clock and the lookups take them, and its offsets.
+///
+/// Its lists are tested once, when it is made, and can't change after that.
+#[derive(Clone, Debug, PartialEq)]
+pub struct Timing {
+    pub(crate) tempos: Columns<f32>,
+    pub(crate) stops: Columns<f32>,
+    pub(crate) delays: Columns<f32>,
+    pub(crate) warps: Columns<f32>,
+    speeds: Vec<Speed<f32>>,
+    scrolls: Columns<f32>,
+    fakes: Columns<f32>,
+    pub(crate) offset: f64,
+    pub(crate) global: f64,
+}
+
+/// The rows of stops, delays, warps and fakes, one list behind another.
+#[derive(Clone, Debug, PartialEq, Eq)]
+pub struct RowStore {
+    rows: Vec<i32>,
+    ends: [usize; 4],
+}
+
+impl RowStore {
+    fn part(&self, list: usize) -> &[i32] {
+        let start = if list == 0 { 0 } else { self.ends[list - 1] };
+        &self.rows[start..self.ends[list]]
+    }
+
+    /// The rows with a positive stop, rising, each once.
+    #[must_use]
+    pub fn stops(&self) -> &[i32] {
+        self.part(0)
+    }
+
+    /// The rows with a positive delay, rising, each once.
+    #[must_use]
+    pub fn delays(&self) -> &[i32] {
+        self.part(1)
+    }
+
+    /// The row of each warp, rising.
+    #[must_use]
+    pub fn warps(&self) -> &[i32] {
+        self.part(2)
+    }
+
+    /// The row of each fake, rising.
+    #[must_use]
+    pub fn fakes(&self) -> &[i32] {
+        self.part(3)
+    }
+}
+
+impl Timing {
+    /// The timing of a chart: its lists put in order, quantised and narrowed as the format has it, and SM's negative and fast tempos and
+    /// negative stops made into warps.
+    ///
+    /// `song_offset` is the chart's own offset; where SM's stops before beat 0 move it, they are added. `global_offset` is the machine's.
+    ///
+    /// ```
+    /// use marrighentu::{Chart, Format, Timing};
+    ///
+    /// // in SM a tempo below zero is a warp, which ends when the time it owes is worked off
+    /// let chart = Chart { tempos: vec![(0.0, 120.0), (4.0, -120.0), (8.0, 120.0)], ..Chart::default() };
+    /// let timing = Timing::assemble(Format::Sm, &chart, 0.0, 0.0)?;
+    /// assert_eq!(timing.tempos().iter().collect::<Vec<_>>(), [(0.0, 120.0)]);
+    /// assert_eq!(timing.warps().iter().collect::<Vec<_>>(), [(4.0, 8.0)]);
+    /// # Ok::<(), marrighentu::Refusal>(())
+    /// ```
+    ///
+    /// # Errors
+    /// The reason with the lowest number over all lists; [`Refusal::BadValue`] too where the offsets are beyond 2^20 seconds.
+    pub fn assemble(format: Format, chart: &Chart, song_offset: f64, global_offset: f64) -> Result<Timing, Refusal> {
+        let tempos = Columns::of(&chart.tempos);
+        let stops = Columns::of(&chart.stops);
+        let delays = Columns::of(&chart.delays);
+        let warps = Columns::of(&chart.warps);
+        let scrolls = Columns::of(&chart.scrolls);
+        let fakes = Columns::of(&chart.fakes);
+        let speed_beats: Vec<f64> = chart.speeds.iter().map(|speed| speed.beat).collect();
+        let speed_ratios: Vec<f64> = chart.speeds.iter().map(|speed| speed.ratio).collect();
+        let speed_delays: Vec<f64> = chart.speeds.iter().map(|speed| speed.delay).collect();
+        let speed_units: Vec<u8> = chart.speeds.iter().map(|speed| speed.unit.number()).collect();
+
+        // No list of a timing is longer than this, so that room is never short.
+        let room = || Columns { beats: vec![0.0f32; MOST_ENTRIES], values: vec![0.0f32; MOST_ENTRIES] };
+        let [mut out_tempos, mut out_stops, mut out_delays, mut out_warps, mut out_scrolls, mut out_fakes] =
+            std::array::from_fn(|_| room());
+        let [mut out_beats, mut out_ratios, mut out_spans] = std::array::from_fn(|_| vec![0.0f32; MOST_ENTRIES]);
+        let mut out_units = vec![0u8; MOST_ENTRIES];
+        let assemble = match format {
+            Format::Sm => ffi::assemble_sm,
+            Format::Ssc => ffi::assemble_ssc,
+        };
+        let made = assemble(
+            &tempos.beats,
+            &tempos.values,
+            &stops.beats,
+            &stops.values,
+            &delays.beats,
+            &delays.values,
+            &warps.beats,
+            &warps.values,
+            &speed_beats,
+            &speed_ratios,
+            &speed_delays,
+            &speed_units,
+            &scrolls.beats,
+            &scrolls.values,
+            &fakes.beats,
+            &fakes.values,
+            &mut out_tempos.beats,
+            &mut out_tempos.values,
+            &mut out_stops.beats,
+            &mut out_stops.values,
+            &mut out_delays.beats,
+            &mut out_delays.values,
+            &mut out_warps.beats,
+            &mut out_warps.values,
+            &mut out_beats,
+            &mut out_ratios,
+            &mut out_spans,
+            &mut out_units,
+            &mut out_scrolls.beats,
+            &mut out_scrolls.values,
+            &mut out_fakes.beats,
+            &mut out_fakes.values,
+        );
+        taken(made.number, ())?;
+        let front = |columns: Columns<f32>, count: usize| Columns {
+            beats: columns.beats[..count].to_vec(),
+            values: columns.values[..count].to_vec(),
+        };
+        let speeds = (0..made.speeds)
+            .map(|i| Speed { beat: out_beats[i], ratio: out_ratios[i], delay: out_spans[i], unit: SpeedUnit::of(out_units[i]) })
+            .collect();
+        Timing {
+            tempos: front(out_tempos, made.tempos),
+            stops: front(out_stops, made.stops),
+            delays: front(out_delays, made.delays),
+            warps: front(out_warps, made.warps),
+            speeds,
+            scrolls: front(out_scrolls, made.scrolls),
+            fakes: front(out_fakes, made.fakes),
+            offset: song_offset + f64::from(made.offset),
+            global: global_offset,
+        }
+        .checked()
+    }
+
+    /// A timing of lists that are tidy already, as another program kept them. `offset` is the song's and the beat-0 offset together.
+    ///
+    /// # Errors
+    /// What the clock refuses: lists that are too long, numbers beyond their limits, rows that do not rise strictly, a first tempo that is
+    /// not at beat 0. Scrolls and speeds are kept as they are given.
+    pub fn from_lists(lists: &Lists, offset: f64, global_offset: f64) -> Result<Timing, Refusal> {
+        Timing {
+            tempos: Columns::of(&lists.tempos),
+            stops: Columns::of(&lists.stops),
+            delays: Columns::of(&lists.delays),
+            warps: Columns::of(&lists.warps),
+            speeds: lists.speeds.clone(),
+            scrolls: Columns::of(&lists.scrolls),
+            fakes: Columns::of(&lists.fakes),
+            offset,
+            global: global_offset,
+        }
+        .checked()
+    }
+
+    fn checked(self) -> Result<Timing, Refusal> {
+        let number = ffi::check_timing(
+            &self.tempos.beats,
+            &self.tempos.values,
+            &self.stops.beats,
+            &self.stops.values,
+            &self.delays.beats,
+            &self.delays.values,
+            &self.warps.beats,
+            &self.warps.values,
+            self.offset,
+            self.global,
+        );
+        taken(number, self)
+    }
+
+    #[must_use]
+    pub fn tempos(&self) -> &Columns<f32> {
+        &self.tempos
+    }
+
+    #[must_use]
+    pub fn stops(&self) -> &Columns<f32> {
+        &self.stops
+    }
+
+    #[must_use]
+    pub fn delays(&self) -> &Columns<f32> {
+        &self.delays
+    }
+
+    #[must_use]
+    pub fn warps(&self) -> &Columns<f32> {
+        &self.warps
+    }
+
+    #[must_use]
+    pub fn speeds(&self) -> &[Speed<f32>] {
+        &self.speeds
+    }
+
+    #[must_use]
+    pub fn scrolls(&self) -> &Columns<f32> {
+        &self.scrolls
+    }
+
+    #[must_use]
+    pub fn fakes(&self) -> &Columns<f32> {
+        &self.fakes
+    }
+
+    /// The song's offset and what SM's stops before beat 0 add to it, in seconds.
+    #[must_use]
+    pub fn offset(&self) -> f64 {
+        self.offset
+    }
+
+    /// The machine's offset, in seconds.
+    #[must_use]
+    pub fn global_offset(&self) -> f64 {
+        self.global
+    }
+
+    /// A cursor that was not asked yet.
+    #[must_use]
+    pub fn cursor(&self) -> Cursor<'_> {
+        Cursor::fresh(self)
+    }
+
+    /// The time of each beat, in the order of the list. A beat that is refused does not stop the ones after it.
+    ///
+    /// ```
+    /// use marrighentu::{Chart, Format, Refusal, Timing};
+    ///
+    /// let chart = Chart { tempos: vec![(0.0, 60.0), (4.0, 120.0)], ..Chart::default() };
+    /// let timing = Timing::assemble(Format::Ssc, &chart, 0.0, 0.0)?;
+    /// assert_eq!(timing.times(&[2.0, 1e9, 6.0]), [Ok(2.0), Err(Refusal::BadBeat), Ok(5.0)]);
+    /// # Ok::<(), Refusal>(())
+    /// ```
+    #[must_use]
+    pub fn times(&self, beats: &[f64]) -> Vec<Result<f64, Refusal>> {
+        self.cursor().ask_all(beats).into_iter().map(|answer| answer.map(|answer| answer.time)).collect()
+    }
+
+    /// Whether a row is warped: the last warp that starts at or before it reaches beyond it, and no positive stop or delay is on the row.
+    ///
+    /// # Errors
+    /// [`Refusal::BadBeat`] for a row beyond 3,145,728; [`Refusal::NotRising`] or another where the lists came from
+    /// [`from_lists`](Timing::from_lists) and are none that the lookups take. This goes for all lookups.
+    pub fn is_warp_at_row(&self, row: i32) -> Result<bool, Refusal> {
+        answered(ffi::is_warp_at_row(
+            &self.stops.beats,
+            &self.stops.values,
+            &self.delays.beats,
+            &self.delays.values,
+            &self.warps.beats,
+            &self.warps.values,
+            row,
+        ))
+    }
+
+    /// Whether the row of a beat is warped.
+    ///
+    /// # Errors
+    /// As [`is_warp_at_row`](Timing::is_warp_at_row).
+    pub fn is_warp_at_beat(&self, beat: f64) -> Result<bool, Refusal> {
+        answered(ffi::is_warp_at_beat(
+            &self.stops.beats,
+            &self.stops.values,
+            &self.delays.beats,
+            &self.delays.values,
+            &self.warps.beats,
+            &self.warps.values,
+            beat,
+        ))
+    }
+
+    /// Whether a row is fake: the last fake that starts at or before it reaches beyond it.
+    ///
+    /// # Errors
+    /// As [`is_warp_at_row`](Timing::is_warp_at_row).
+    pub fn is_fake_at_row(&self, row: i32) -> Result<bool, Refusal> {
+        answered(ffi::is_fake_at_row(&self.fakes.beats, &self.fakes.values, row))
+    }
+
+    /// Whether the row of a beat is fake.
+    ///
+    /// # Errors
+    /// As [`is_warp_at_row`](Timing::is_warp_at_row).
+    pub fn is_fake_at_beat(&self, beat: f64) -> Result<bool, Refusal> {
+        answered(ffi::is_fake_at_beat(&self.fakes.beats, &self.fakes.values, beat))
+    }
+
+    /// Whether a note on a row is judged: the row is neither warped nor fake.
+    ///
+    /// ```
+    /// use marrighentu::{Chart, Format, Timing};
+    ///
+    /// let chart = Chart { warps: vec![(4.0, 2.0)], fakes: vec![(8.0, 1.0)], ..Chart::default() };
+    /// let timing = Timing::assemble(Format::Ssc, &chart, 0.0, 0.0)?;
+    /// assert!(timing.is_judgable_at_row(3 * 48)?);
+    /// assert!(!timing.is_judgable_at_row(5 * 48)?);
+    /// assert!(timing.is_judgable_at_beat(6.0)?);
+    /// assert!(!timing.is_judgable_at_beat(8.5)?);
+    /// # Ok::<(), marrighentu::Refusal>(())
+    /// ```
+    ///
+    /// # Errors
+    /// As [`is_warp_at_row`](Timing::is_warp_at_row).
+    pub fn is_judgable_at_row(&self, row: i32) -> Result<bool, Refusal> {
+        answered(ffi::is_judgable_at_row(
+            &self.stops.beats,
+            &self.stops.values,
+            &self.delays.beats,
+            &self.delays.values,
+            &self.warps.beats,
+            &self.warps.values,
+            &self.fakes.beats,
+            &self.fakes.values,
+            row,
+        ))
+    }
+
+    /// Whether a note on a beat is judged.
+    ///
+    /// # Errors
+    /// As [`is_warp_at_row`](Timing::is_warp_at_row).
+    pub fn is_judgable_at_beat(&self, beat: f64) -> Result<bool, Refusal> {
+        answered(ffi::is_judgable_at_beat(
+            &self.stops.beats,
+            &self.stops.values,
+            &self.delays.beats,
+            &self.delays.values,
+            &self.warps.beats,
+            &self.warps.values,
+            &self.fakes.beats,
+            &self.fakes.values,
+            beat,
+        ))
+    }
+
+    /// Whether a note is judged on each row of a list. The timing's lists are tested once for all rows, and rising rows are cheapest: a
+    /// whole note sheet is asked by one call.
+    ///
+    /// # Errors
+    /// As [`is_warp_at_row`](Timing::is_warp_at_row), where any of the rows is beyond the limit.
+    pub fn judgable_rows(&self, rows: &[i32]) -> Result<Vec<bool>, Refusal> {
+        let mut answers = vec![0; rows.len()];
+        let outcome = ffi::judgable_rows(
+            &self.stops.beats,
+            &self.stops.values,
+            &self.delays.beats,
+            &self.delays.values,
+            &self.warps.beats,
+            &self.warps.values,
+            &self.fakes.beats,
+            &self.fakes.values,
+            rows,
+            &mut answers,
+        );
+        taken(outcome.number, ())?;
+        Ok(answers.into_iter().map(|answer| answer == 1).collect())
+    }
+
+    /// The rows of stops, delays, warps and fakes.
+    ///
+    /// # Errors
+    /// None for lists that [`assemble`](Timing::assemble) made.
+    pub fn row_store(&self) -> Result<RowStore, Refusal> {
+        let room = self.stops.len() + self.delays.len() + self.warps.len() + self.fakes.len();
+        let mut rows = vec![0; room];
+        let stored = ffi::build_segment_row_storage(
+            &self.stops.beats,
+            &self.stops.values,
+            &self.delays.beats,
+            &self.delays.values,
+            &self.warps.beats,
+            &self.warps.values,
+            &self.fakes.beats,
+            &self.fakes.values,
+            &mut rows,
+        );
+        taken(stored.number, ())?;
+        let mut end = 0;
+        let ends = [stored.stops, stored.delays, stored.warps, stored.fakes].map(|count| {
+            end += count;
+            end
+        });
+        rows.truncate(end);
+        Ok(RowStore { rows, ends })
+    }
+
+    /// The stops that an SM file would need to play this timing without delays and warps: a beat and seconds each.
+    ///
+    /// # Errors
+    /// [`Refusal::NoTempo`] where there is a warp and no tempo, which lists that [`assemble`](Timing::assemble) made never have.
+    pub fn sm_stops(&self) -> Result<Vec<(f32, f32)>, Refusal> {
+        let stops: Vec<f32> = self.stops.iter().flat_map(|(beat, seconds)| [beat, seconds]).collect();
+        let mut work = vec![0.0; 2 * (self.stops.len() + self.delays.len() + self.warps.len())];
+        let filled = ffi::convert_warps_and_delays_to_sm_stops(
+            &self.tempos.beats,
+            &self.tempos.values,
+            &stops,
+            &self.delays.beats,
+            &self.delays.values,
+            &self.warps.beats,
+            &self.warps.values,
+            &mut work,
+        );
+        taken(filled.number, ())?;
+        let flat = if filled.own { stops } else { work };
+        let count = if filled.own { self.stops.len() } else { filled.count };
+        Ok(flat.chunks_exact(2).take(count).map(|entry| (entry[0], entry[1])).collect())
+    }
+}
+
+fn answered(looked: ffi::Looked) -> Result<bool, Refusal> {
+    taken(looked.number, looked.yes)
+}
