@@ -92,8 +92,9 @@ int main(void) {
     uint32_t numbers[3];
     double times[3];
     size_t counts[3];
-    uint32_t number = marrighentu_lent_run(&cursor, CLOCK_COLUMNS(t), asked, 3, numbers, 3, times, 3, counts, 3);
-    expect(number == MARRIGHENTU_TAKEN && numbers[0] == 0 && numbers[1] == MARRIGHENTU_BAD_BEAT && numbers[2] == 0, "a run's numbers");
+    marrighentu_made ran = marrighentu_lent_run(&cursor, CLOCK_COLUMNS(t), asked, 3, numbers, 3, times, 3, counts, 3);
+    expect(ran.number == MARRIGHENTU_TAKEN && ran.cursor.asked == cursor.asked && cursor.asked == 17 * 48, "a run");
+    expect( numbers[0] == 0 && numbers[1] == MARRIGHENTU_BAD_BEAT && numbers[2] == 0, "a run's numbers");
     expect(times[0] == 0.0 && times[2] == 5.5 && counts[1] == 0, "a run's seconds");
 
     /* which notes of a sheet are judged: one in the warp and one in the fake are not */

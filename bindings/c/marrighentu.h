@@ -67,7 +67,7 @@ typedef struct {
     marrighentu_cursor cursor;
 } marrighentu_answer;
 
-/* A number and a cursor. */
+/* A number and a cursor: of a new cursor, and of a run. */
 typedef struct {
     uint32_t number;
     marrighentu_cursor cursor;
@@ -250,7 +250,7 @@ marrighentu_answer marrighentu_lent_time_for_beat_checked(
 /* The second of each beat, with its number and count, in three columns; the timing and the cursor are tested once. A refused beat has number 3,
  * second 0 and count 0 and leaves the cursor as it was; the run itself is taken then. 7 where a column is shorter than the beats.
  */
-uint32_t marrighentu_lent_run(
+marrighentu_made marrighentu_lent_run(
     marrighentu_cursor *cursor,
     const float *tempo_beats, size_t tempo_beats_length,
     const float *tempo_values, size_t tempo_values_length,

@@ -14,7 +14,10 @@ fn main() {
     println!("cargo::rustc-link-search=native={}", root.join("target/native").display());
     for name in ARCHIVES {
         let made = Command::new(root.join("bindings/native-archive")).arg(name).status();
-        assert!(made.is_ok_and(|status| status.success()), "bindings/native-archive {name} failed: is the Rattle kit's `rt` on the PATH?");
+        assert!(
+            made.is_ok_and(|status| status.success()),
+            "bindings/native-archive {name} failed: is the Rattle kit's `rt` on the PATH?"
+        );
         println!("cargo::rustc-link-lib=static={name}");
     }
 }

@@ -89,7 +89,7 @@ impl<'timing> Cursor<'timing> {
         let mut numbers = vec![0; beats.len()];
         let mut times = vec![0.0; beats.len()];
         let mut counts = vec![0; beats.len()];
-        let number = ffi::run(
+        let ran = ffi::run(
             &mut self.at,
             &t.tempos.beats,
             &t.tempos.values,
@@ -106,7 +106,7 @@ impl<'timing> Cursor<'timing> {
             &mut times,
             &mut counts,
         );
-        if let Err(refusal) = taken(number, ()) {
+        if let Err(refusal) = taken(ran.number, ()) {
             return vec![Err(refusal); beats.len()];
         }
         numbers
@@ -135,30 +135,14 @@ mod tests {
         };
         let timing = Timing::from_lists(&lists, 0.5, 0.25).unwrap();
         let mut cursor = timing.cursor();
-        let fresh = ffi::State {
-            tempos: 0,
-            stops: 0,
-            delays: 0,
-            warps: 0,
-            row: 0,
-            warping: false,
-            time: -0.75,
-            end: 0.0,
-        };
+        let fresh =
+            ffi::State { tempos: 0, stops: 0, delays: 0, warps: 0, row: 0, warping: false, time: -0.75, end: 0.0 };
         assert_eq!(cursor.at, ffi::Cursor { state: fresh, asked: i32::MIN });
         let answer = cursor.ask(9.0).unwrap();
-        let state = ffi::State {
-            tempos: 3,
-            stops: 2,
-            delays: 1,
-            warps: 4,
-            row: 384,
-            warping: true,
-            time: 6.75,
-            end: 12.0,
-        };
+        let state =
+            ffi::State { tempos: 3, stops: 2, delays: 1, warps: 4, row: 384, warping: true, time: 6.5, end: 12.0 };
         assert_eq!(cursor.at, ffi::Cursor { state, asked: 432 });
-        assert_eq!(answer, Answer { time: 6.5, steps: 13 });
+        assert_eq!(answer, Answer { time: 6.25, steps: 13 });
         let before = cursor.at;
         assert_eq!(cursor.ask(70_000.0), Err(Refusal::BadBeat));
         assert_eq!(cursor.at, before);

@@ -235,7 +235,7 @@ calls! {
         room numbers: u32,
         room times: f64,
         room counts: usize,
-    ) -> u32 = "marrighentu_lent_run";
+    ) -> Numbered = "marrighentu_lent_run";
     fn build_segment_row_storage(
         slice stop_beats: f32,
         slice stop_values: f32,

@@ -143,7 +143,12 @@ impl Timing {
             values: columns.values[..count].to_vec(),
         };
         let speeds = (0..made.speeds)
-            .map(|i| Speed { beat: out_beats[i], ratio: out_ratios[i], delay: out_spans[i], unit: SpeedUnit::of(out_units[i]) })
+            .map(|i| Speed {
+                beat: out_beats[i],
+                ratio: out_ratios[i],
+                delay: out_spans[i],
+                unit: SpeedUnit::of(out_units[i]),
+            })
             .collect();
         Timing {
             tempos: front(out_tempos, made.tempos),
