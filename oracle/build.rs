@@ -40,7 +40,7 @@ fn include_original(here: &Path, root: &Path) {
 fn link_port(root: &Path) {
     let folder = root.join("target/native");
     println!("cargo::rustc-link-search=native={}", folder.display());
-    for name in ["exports_leaf", "exports", "exports_assembly"] {
+    for name in ["exports_leaf", "exports", "exports_assembly", "lent_clock"] {
         let archive = folder.join(format!("lib{name}.a"));
         assert!(archive.is_file(), "{} is missing: bindings/native-archive {name}", archive.display());
         println!("cargo::rerun-if-changed={}", archive.display());

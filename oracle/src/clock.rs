@@ -75,6 +75,9 @@ port! {
     fn time_for_beat(cursor: Cursor; beat: f64) -> Answer = "marrighentu_time_for_beat";
     fn time_for_beat_checked(cursor: Cursor; beat: f64) -> Answer = "marrighentu_time_for_beat_checked";
     fn fresh_time_for_beat(; beat: f64) -> Answer = "marrighentu_get_time_for_beat";
+    fn lent_time_for_beat(cursor: &mut Cursor; beat: f64) -> Answer = "marrighentu_lent_time_for_beat";
+    fn lent_time_for_beat_checked(cursor: &mut Cursor; beat: f64) -> Answer = "marrighentu_lent_time_for_beat_checked";
+    fn lent_run_over(cursor: &mut Cursor; beats: *const f64, beats_len: usize, numbers: *mut u32, numbers_len: usize, times: *mut f64, times_len: usize, counts: *mut usize, counts_len: usize) -> Numbered = "marrighentu_lent_run";
     fn run_over(cursor: Cursor; beats: *const f64, beats_len: usize, numbers: *mut u32, numbers_len: usize, times: *mut f64, times_len: usize, counts: *mut usize, counts_len: usize) -> Numbered = "marrighentu_run";
 }
 
@@ -87,29 +90,36 @@ pub struct Columns {
 }
 
 /// A run over the front of each column, as long as its room.
-#[inline(always)]
-pub fn run(
-    cursor: Cursor,
-    chart: &Chart,
-    beats: &[f64],
-    columns: &mut Columns,
-    [numbers, times, counts]: [usize; 3],
-) -> Numbered {
-    let (numbers, times, counts) =
-        (&mut columns.numbers[..numbers], &mut columns.times[..times], &mut columns.counts[..counts]);
-    run_over(
-        cursor,
-        chart,
-        beats.as_ptr(),
-        beats.len(),
-        numbers.as_mut_ptr(),
-        numbers.len(),
-        times.as_mut_ptr(),
-        times.len(),
-        counts.as_mut_ptr(),
-        counts.len(),
-    )
+macro_rules! run_by {
+    ($name:ident, $cursor:ty, $over:ident) => {
+        #[inline(always)]
+        pub fn $name(
+            cursor: $cursor,
+            chart: &Chart,
+            beats: &[f64],
+            columns: &mut Columns,
+            [numbers, times, counts]: [usize; 3],
+        ) -> Numbered {
+            let (numbers, times, counts) =
+                (&mut columns.numbers[..numbers], &mut columns.times[..times], &mut columns.counts[..counts]);
+            $over(
+                cursor,
+                chart,
+                beats.as_ptr(),
+                beats.len(),
+                numbers.as_mut_ptr(),
+                numbers.len(),
+                times.as_mut_ptr(),
+                times.len(),
+                counts.as_mut_ptr(),
+                counts.len(),
+            )
+        }
+    };
 }
+
+run_by!(run, Cursor, run_over);
+run_by!(lent_run, &mut Cursor, lent_run_over);
 
 pub fn cursor_new(offset: f64, global: f64) -> Numbered {
     unsafe extern "C" {
@@ -372,17 +382,22 @@ impl Asked {
         }
     }
 
-    /// One question, the tested form and the player's, which is asked where the timing is sound; the cursor after it.
+    /// One question, the tested form and the player's, which is asked where the timing is sound, each with the cursor by value and lent; the cursor after it.
     fn question(&self, cursor: Cursor, beat: f64, found: &mut Found) -> Cursor {
         let chart = &self.chart;
         let wanted = self.answer(cursor, beat);
-        let got = time_for_beat(cursor, chart, beat);
-        found.check(wanted.same(&got), || format!("{chart:?}, {cursor:?}, beat {beat:?}: {wanted:?}, port {got:?}"));
-        if self.number == 0 {
-            let got = time_for_beat_checked(cursor, chart, beat);
-            found.check(wanted.same(&got), || {
-                format!("{chart:?}, {cursor:?}, beat {beat:?}: {wanted:?}, player's {got:?}")
+        let mut check = |name: &str, got: Answer, after: Cursor| {
+            found.check(wanted.same(&got) && after.same(wanted.cursor), || {
+                format!("{chart:?}, {cursor:?}, beat {beat:?}: {wanted:?}, {name} {got:?} {after:?}")
             });
+        };
+        let mut lent = cursor;
+        check("port", time_for_beat(cursor, chart, beat), wanted.cursor);
+        check("lent", lent_time_for_beat(&mut lent, chart, beat), lent);
+        if self.number == 0 {
+            let mut lent = cursor;
+            check("player's", time_for_beat_checked(cursor, chart, beat), wanted.cursor);
+            check("player's lent", lent_time_for_beat_checked(&mut lent, chart, beat), lent);
         }
         wanted.cursor
     }
@@ -391,15 +406,18 @@ impl Asked {
     fn run(&self, cursor: Cursor, beats: &[f64], rooms: [usize; 3], random: &mut Random, found: &mut Found) {
         let chart = &self.chart;
         let mut wanted = Columns::by_chance(rooms, random);
-        let mut got = wanted.clone();
+        let (mut by_value, mut by_lent, mut lent) = (wanted.clone(), wanted.clone(), cursor);
         let ran = self.expected_run(cursor, beats, rooms, &mut wanted);
-        let answer = run(cursor, chart, beats, &mut got, rooms);
-        let same = answer.number == ran.number && answer.cursor.same(ran.cursor) && got.same(&wanted);
-        found.check(same, || {
-            format!(
-                "{chart:?}, {cursor:?}, beats {beats:?}, rooms {rooms:?}: {ran:?} {wanted:?}, port {answer:?} {got:?}"
-            )
-        });
+        let answer = run(cursor, chart, beats, &mut by_value, rooms);
+        let lent_answer = lent_run(&mut lent, chart, beats, &mut by_lent, rooms);
+        for (answer, after, got) in [(answer, answer.cursor, by_value), (lent_answer, lent, by_lent)] {
+            let cursors = answer.cursor.same(ran.cursor) && after.same(ran.cursor);
+            found.check(answer.number == ran.number && cursors && got.same(&wanted), || {
+                format!(
+                    "{chart:?}, {cursor:?}, beats {beats:?}, rooms {rooms:?}: {ran:?} {wanted:?}, port {answer:?} {after:?} {got:?}"
+                )
+            });
+        }
     }
 
     /// What is expected of a run, and what its columns are left as.
@@ -550,8 +568,8 @@ pub fn compare_all(work: Work, total: &mut Total) {
         }
     }
     timings.add("check_timing and Cursor::new", total);
-    questions.add("time_for_beat, both forms", total);
+    questions.add("time_for_beat, four forms", total);
     fresh.add("get_time_for_beat", total);
     made_up.add("time_for_beat of made-up cursors", total);
-    runs.add("runs", total);
+    runs.add("runs, by value and lent", total);
 }

@@ -281,11 +281,20 @@ impl Bench {
             },
             &mut original,
         );
-        type Question = fn(Cursor, &Chart, f64) -> clock::Answer;
-        let forms: [(&str, Question); 2] = [
-            ("time_for_beat_checked", |cursor, chart, beat| clock::time_for_beat_checked(cursor, chart, beat)),
+        type Question = fn(&mut Cursor, &Chart, f64) -> f64;
+        let forms: [(&str, Question); 3] = [
+            ("lent_time_for_beat_checked", |cursor, chart, beat| {
+                clock::lent_time_for_beat_checked(cursor, chart, beat).time
+            }),
+            ("time_for_beat_checked", |cursor, chart, beat| {
+                let answer = clock::time_for_beat_checked(*cursor, chart, beat);
+                *cursor = answer.cursor;
+                answer.time
+            }),
             ("time_for_beat, tests of the lists and all,", |cursor, chart, beat| {
-                clock::time_for_beat(cursor, chart, beat)
+                let answer = clock::time_for_beat(*cursor, chart, beat);
+                *cursor = answer.cursor;
+                answer.time
             }),
         ];
         for (form, ask) in forms {
@@ -295,8 +304,7 @@ impl Bench {
                 || {
                     let mut cursor = fresh;
                     for (beat, time) in black_box(&beats).iter().zip(black_box(&mut columns.times)) {
-                        let answer = ask(cursor, black_box(chart), *beat);
-                        (*time, cursor) = (answer.time, answer.cursor);
+                        *time = ask(&mut cursor, black_box(chart), *beat);
                     }
                 },
                 &mut original,
