@@ -54,8 +54,8 @@ int main(void) {
     static timing chart;
     timing *t = &chart;
 
-    t->made = marrighentu_compute_timing_segments_sm(
-        tempo_beats, 3, tempo_values, 3, stop_beats, 1, stop_values, 1, none, 0, none, 0, none, 0, none, 0,
+    t->made = marrighentu_compute_timing_segments(
+        MARRIGHENTU_SM, tempo_beats, 3, tempo_values, 3, stop_beats, 1, stop_values, 1, none, 0, none, 0, none, 0, none, 0,
         none, 0, none, 0, none, 0, no_units, 0, none, 0, none, 0, fake_beats, 1, fake_lengths, 1,
         t->tempo_beats, ROOM, t->tempo_values, ROOM, t->stop_beats, ROOM, t->stop_values, ROOM,
         t->delay_beats, ROOM, t->delay_values, ROOM, t->warp_beats, ROOM, t->warp_lengths, ROOM,

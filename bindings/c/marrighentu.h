@@ -37,6 +37,9 @@ enum marrighentu_refusal {
 
 enum { MARRIGHENTU_MOST_ENTRIES = 1024, MARRIGHENTU_ROWS_PER_BEAT = 48 };
 
+/* The file format of a chart. */
+enum marrighentu_format { MARRIGHENTU_SM = 0, MARRIGHENTU_SSC = 1 };
+
 /* What a speed's delay is counted in. */
 enum marrighentu_unit { MARRIGHENTU_BEATS = 0, MARRIGHENTU_SECONDS = 1 };
 
@@ -124,45 +127,12 @@ int32_t marrighentu_beat_to_note_row(double beat);
 
 /* ---- assembly */
 
-/* The timing lists of an SM chart from its raw lists, in any order: tempos in beats a minute, stops and delays in seconds, warps and fakes in
- * beats. Tempos that are negative or beyond 9,999,999 and negative stops become warps. A room of MARRIGHENTU_MOST_ENTRIES is always enough.
+/* The timing lists of a chart from its raw lists, in any order: tempos in beats a minute, stops and delays in seconds, warps and fakes in beats.
+ * The format is MARRIGHENTU_SM, where tempos that are negative or beyond 9,999,999 and negative stops become warps, or MARRIGHENTU_SSC, where
+ * tempos and stops that are not positive are left out; any other number is taken for SSC. A room of MARRIGHENTU_MOST_ENTRIES is always enough.
  */
-marrighentu_assembled marrighentu_compute_timing_segments_sm(
-    const double *tempo_beats, size_t tempo_beats_length,
-    const double *tempo_values, size_t tempo_values_length,
-    const double *stop_beats, size_t stop_beats_length,
-    const double *stop_values, size_t stop_values_length,
-    const double *delay_beats, size_t delay_beats_length,
-    const double *delay_values, size_t delay_values_length,
-    const double *warp_beats, size_t warp_beats_length,
-    const double *warp_lengths, size_t warp_lengths_length,
-    const double *speed_beats, size_t speed_beats_length,
-    const double *speed_ratios, size_t speed_ratios_length,
-    const double *speed_delays, size_t speed_delays_length,
-    const uint8_t *speed_units, size_t speed_units_length,
-    const double *scroll_beats, size_t scroll_beats_length,
-    const double *scroll_values, size_t scroll_values_length,
-    const double *fake_beats, size_t fake_beats_length,
-    const double *fake_lengths, size_t fake_lengths_length,
-    float *out_tempo_beats, size_t out_tempo_beats_length,
-    float *out_tempo_values, size_t out_tempo_values_length,
-    float *out_stop_beats, size_t out_stop_beats_length,
-    float *out_stop_values, size_t out_stop_values_length,
-    float *out_delay_beats, size_t out_delay_beats_length,
-    float *out_delay_values, size_t out_delay_values_length,
-    float *out_warp_beats, size_t out_warp_beats_length,
-    float *out_warp_lengths, size_t out_warp_lengths_length,
-    float *out_speed_beats, size_t out_speed_beats_length,
-    float *out_speed_ratios, size_t out_speed_ratios_length,
-    float *out_speed_delays, size_t out_speed_delays_length,
-    uint8_t *out_speed_units, size_t out_speed_units_length,
-    float *out_scroll_beats, size_t out_scroll_beats_length,
-    float *out_scroll_values, size_t out_scroll_values_length,
-    float *out_fake_beats, size_t out_fake_beats_length,
-    float *out_fake_lengths, size_t out_fake_lengths_length);
-
-/* The same for an SSC chart: tempos and stops that are not positive are left out. */
-marrighentu_assembled marrighentu_compute_timing_segments_ssc(
+marrighentu_assembled marrighentu_compute_timing_segments(
+    uint32_t format,
     const double *tempo_beats, size_t tempo_beats_length,
     const double *tempo_values, size_t tempo_values_length,
     const double *stop_beats, size_t stop_beats_length,

@@ -220,51 +220,103 @@ mod port {
     type Column<T> = (*const T, usize);
 
     /// A slice crosses as its pointer and its length.
-    macro_rules! call {
-        ($name:literal, $raw:expr, $rooms:expr) => {{
-            #[rustfmt::skip]
-            unsafe extern "C" {
-                #[link_name = $name]
-                fn call(
-                    a: *const f64, al: usize, b: *const f64, bl: usize, c: *const f64, cl: usize, d: *const f64, dl: usize,
-                    e: *const f64, el: usize, f: *const f64, fl: usize, g: *const f64, gl: usize, h: *const f64, hl: usize,
-                    i: *const f64, il: usize, j: *const f64, jl: usize, k: *const f64, kl: usize, u: *const u8, ul: usize,
-                    l: *const f64, ll: usize, m: *const f64, ml: usize, n: *const f64, nl: usize, o: *const f64, ol: usize,
-                    oa: *const f32, oal: usize, ob: *const f32, obl: usize, oc: *const f32, ocl: usize, od: *const f32, odl: usize,
-                    oe: *const f32, oel: usize, of: *const f32, ofl: usize, og: *const f32, ogl: usize, oh: *const f32, ohl: usize,
-                    oi: *const f32, oil: usize, oj: *const f32, ojl: usize, ok: *const f32, okl: usize, ou: *const u8, oul: usize,
-                    ol: *const f32, oll: usize, om: *const f32, oml: usize, on: *const f32, onl: usize, oo: *const f32, ool: usize,
-                ) -> Assembled;
-            }
-            let raw: [Column<f64>; 15] = $raw.numbers.each_ref().map(|column| (column.as_ptr(), column.len()));
-            let (unit, units) = ($raw.units.as_ptr(), $raw.units.len());
-            let mut place = 0;
-            let out: [Column<f32>; 15] = $rooms.numbers.each_mut().map(|room| {
-                place += 1;
-                (room.as_mut_ptr().cast_const(), $rooms.lengths[place - 1])
-            });
-            let (out_unit, out_units) = ($rooms.units.as_mut_ptr().cast_const(), $rooms.lengths[UNITS]);
-            let [a, b, c, d, e, f, g, h, i, j, k, l, m, n, o] = raw;
-            let [oa, ob, oc, od, oe, of, og, oh, oi, oj, ok, ol, om, on, oo] = out;
-            // SAFETY: the columns are lent whole and apart, those of results from pointers that may be written.
-            unsafe {
-                call(
-                    a.0, a.1, b.0, b.1, c.0, c.1, d.0, d.1, e.0, e.1, f.0, f.1, g.0, g.1, h.0, h.1,
-                    i.0, i.1, j.0, j.1, k.0, k.1, unit, units, l.0, l.1, m.0, m.1, n.0, n.1, o.0, o.1,
-                    oa.0, oa.1, ob.0, ob.1, oc.0, oc.1, od.0, od.1, oe.0, oe.1, of.0, of.1, og.0, og.1, oh.0, oh.1,
-                    oi.0, oi.1, oj.0, oj.1, ok.0, ok.1, out_unit, out_units, ol.0, ol.1, om.0, om.1, on.0, on.1, oo.0, oo.1,
-                )
-            }
-        }};
-    }
-
     pub fn assemble(ssc: bool, raw: &Raw, rooms: &mut Rooms) -> Assembled {
         let fit = rooms.numbers.iter().map(Vec::len).chain([rooms.units.len()]).zip(rooms.lengths);
         assert!(fit.into_iter().all(|(room, length)| length <= room));
-        if ssc {
-            call!("marrighentu_compute_timing_segments_ssc", raw, rooms)
-        } else {
-            call!("marrighentu_compute_timing_segments_sm", raw, rooms)
+        #[rustfmt::skip]
+        unsafe extern "C" {
+            #[link_name = "marrighentu_compute_timing_segments"]
+            fn call(
+                format: u32,
+                a: *const f64, al: usize, b: *const f64, bl: usize, c: *const f64, cl: usize, d: *const f64, dl: usize,
+                e: *const f64, el: usize, f: *const f64, fl: usize, g: *const f64, gl: usize, h: *const f64, hl: usize,
+                i: *const f64, il: usize, j: *const f64, jl: usize, k: *const f64, kl: usize, u: *const u8, ul: usize,
+                l: *const f64, ll: usize, m: *const f64, ml: usize, n: *const f64, nl: usize, o: *const f64, ol: usize,
+                oa: *const f32, oal: usize, ob: *const f32, obl: usize, oc: *const f32, ocl: usize, od: *const f32, odl: usize,
+                oe: *const f32, oel: usize, of: *const f32, ofl: usize, og: *const f32, ogl: usize, oh: *const f32, ohl: usize,
+                oi: *const f32, oil: usize, oj: *const f32, ojl: usize, ok: *const f32, okl: usize, ou: *const u8, oul: usize,
+                ol: *const f32, oll: usize, om: *const f32, oml: usize, on: *const f32, onl: usize, oo: *const f32, ool: usize,
+            ) -> Assembled;
+        }
+        let from: [Column<f64>; 15] = raw.numbers.each_ref().map(|column| (column.as_ptr(), column.len()));
+        let (unit, units) = (raw.units.as_ptr(), raw.units.len());
+        let mut place = 0;
+        let out: [Column<f32>; 15] = rooms.numbers.each_mut().map(|room| {
+            place += 1;
+            (room.as_mut_ptr().cast_const(), rooms.lengths[place - 1])
+        });
+        let (out_unit, out_units) = (rooms.units.as_mut_ptr().cast_const(), rooms.lengths[UNITS]);
+        let [a, b, c, d, e, f, g, h, i, j, k, l, m, n, o] = from;
+        let [oa, ob, oc, od, oe, of, og, oh, oi, oj, ok, ol, om, on, oo] = out;
+        // SAFETY: the columns are lent whole and apart, those of results from pointers that may be written.
+        unsafe {
+            call(
+                u32::from(ssc),
+                a.0,
+                a.1,
+                b.0,
+                b.1,
+                c.0,
+                c.1,
+                d.0,
+                d.1,
+                e.0,
+                e.1,
+                f.0,
+                f.1,
+                g.0,
+                g.1,
+                h.0,
+                h.1,
+                i.0,
+                i.1,
+                j.0,
+                j.1,
+                k.0,
+                k.1,
+                unit,
+                units,
+                l.0,
+                l.1,
+                m.0,
+                m.1,
+                n.0,
+                n.1,
+                o.0,
+                o.1,
+                oa.0,
+                oa.1,
+                ob.0,
+                ob.1,
+                oc.0,
+                oc.1,
+                od.0,
+                od.1,
+                oe.0,
+                oe.1,
+                of.0,
+                of.1,
+                og.0,
+                og.1,
+                oh.0,
+                oh.1,
+                oi.0,
+                oi.1,
+                oj.0,
+                oj.1,
+                ok.0,
+                ok.1,
+                out_unit,
+                out_units,
+                ol.0,
+                ol.1,
+                om.0,
+                om.1,
+                on.0,
+                on.1,
+                oo.0,
+                oo.1,
+            )
         }
     }
 

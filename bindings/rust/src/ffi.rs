@@ -124,7 +124,8 @@ macro_rules! calls {
 calls! {
     fn note_row_to_beat(value row: i32) -> f64 = "marrighentu_note_row_to_beat";
     fn beat_to_note_row(value beat: f64) -> i32 = "marrighentu_beat_to_note_row";
-    fn assemble_sm(
+    fn compute_timing_segments(
+        value format: u32,
         slice tempo_beats: f64,
         slice tempo_values: f64,
         slice stop_beats: f64,
@@ -157,41 +158,7 @@ calls! {
         room out_scroll_values: f32,
         room out_fake_beats: f32,
         room out_fake_lengths: f32,
-    ) -> Assembled = "marrighentu_compute_timing_segments_sm";
-    fn assemble_ssc(
-        slice tempo_beats: f64,
-        slice tempo_values: f64,
-        slice stop_beats: f64,
-        slice stop_values: f64,
-        slice delay_beats: f64,
-        slice delay_values: f64,
-        slice warp_beats: f64,
-        slice warp_lengths: f64,
-        slice speed_beats: f64,
-        slice speed_ratios: f64,
-        slice speed_delays: f64,
-        slice speed_units: u8,
-        slice scroll_beats: f64,
-        slice scroll_values: f64,
-        slice fake_beats: f64,
-        slice fake_lengths: f64,
-        room out_tempo_beats: f32,
-        room out_tempo_values: f32,
-        room out_stop_beats: f32,
-        room out_stop_values: f32,
-        room out_delay_beats: f32,
-        room out_delay_values: f32,
-        room out_warp_beats: f32,
-        room out_warp_lengths: f32,
-        room out_speed_beats: f32,
-        room out_speed_ratios: f32,
-        room out_speed_delays: f32,
-        room out_speed_units: u8,
-        room out_scroll_beats: f32,
-        room out_scroll_values: f32,
-        room out_fake_beats: f32,
-        room out_fake_lengths: f32,
-    ) -> Assembled = "marrighentu_compute_timing_segments_ssc";
+    ) -> Assembled = "marrighentu_compute_timing_segments";
     fn check_timing(
         slice tempo_beats: f32,
         slice tempo_values: f32,

@@ -9,6 +9,15 @@ pub enum Format {
     Ssc,
 }
 
+impl Format {
+    pub(crate) fn number(self) -> u32 {
+        match self {
+            Format::Sm => 0,
+            Format::Ssc => 1,
+        }
+    }
+}
+
 /// What a speed's delay is counted in.
 #[derive(Clone, Copy, Debug, PartialEq, Eq, Hash, Default)]
 pub enum SpeedUnit {

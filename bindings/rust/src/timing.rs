@@ -99,11 +99,8 @@ impl Timing {
             std::array::from_fn(|_| room());
         let [mut out_beats, mut out_ratios, mut out_spans] = std::array::from_fn(|_| vec![0.0f32; MOST_ENTRIES]);
         let mut out_units = vec![0u8; MOST_ENTRIES];
-        let assemble = match format {
-            Format::Sm => ffi::assemble_sm,
-            Format::Ssc => ffi::assemble_ssc,
-        };
-        let made = assemble(
+        let made = ffi::compute_timing_segments(
+            format.number(),
             &tempos.beats,
             &tempos.values,
             &stops.beats,

@@ -1,7 +1,10 @@
--- `exports_assembly::marrighentu_compute_timing_segments_sm` is the call for one format. Assumes nothing.
+-- `exports_assembly::marrighentu_compute_timing_segments` is the call with the format that is named. Assumes nothing.
 use borrow.Author.Needs.{needs}
-use Rattle.exports_assembly.proofs.marrighentu_compute_timing_segments_sm.Statement.{statement}
-use Rattle.exports_assembly.proofs.marrighentu_compute_timing_segments_sm.Tie as tie
+use Rattle.exports_assembly.proofs.marrighentu_compute_timing_segments.Statement.{statement}
+use Rattle.exports_assembly.proofs.marrighentu_compute_timing_segments.Tie as tie
+
+format-of-requires : tie.Need-format-of-requires
+format-of-requires c κs = search needs
 
 compute-timing-segments-requires : tie.Need-compute-timing-segments-requires
 compute-timing-segments-requires c κs = search needs
@@ -55,12 +58,13 @@ same-length-16 : tie.Need-same-length-16
 same-length-16 c = c .before .out-fake-lengths .given
 
 returns : tie.Need-returns
-returns c = c .before .before .before .before .before .before .before .before .before .before .before .before .before .before .before .before .before .before .before .before .before .before .before .before .before .before .before .before .before .before .before .before .compute-timing-segments .ensures
+returns c = rw (c .before .before .before .before .before .before .before .before .before .before .before .before .before .before .before .before .before .before .before .before .before .before .before .before .before .before .before .before .before .before .before .before .before .before .before .before .before .before .before .before .before .before .before .before .before .before .before .before .before .format-of .ensures) at (c .before .before .before .before .before .before .before .before .before .before .before .before .before .before .before .before .before .before .before .before .before .before .before .before .before .before .before .before .before .before .before .before .compute-timing-segments .ensures)
 
-pub marrighentu-compute-timing-segments-sm-spec : {M : Type 1} → statement M
-marrighentu-compute-timing-segments-sm-spec =
+pub marrighentu-compute-timing-segments-spec : {M : Type 1} → statement M
+marrighentu-compute-timing-segments-spec =
     tie.close
     (tie.spec
+    format-of-requires
     compute-timing-segments-requires
     same-length
     same-length-2
