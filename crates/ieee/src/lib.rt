@@ -1,3 +1,4 @@
+// A float to the nearest whole number of an i32, and an f64 narrowed to f32, as IEEE 754 has them.
 ghost use mathlib.Core.Path.{_≡_};
 ghost use mathlib.Core.Bool.{false, not};
 ghost use lib.Dec.{T};
