@@ -3,12 +3,14 @@ use Prim.Native.Nat.{ℕ, _-_, _≤_, _<_}
 use mathlib.Core.Bool.{Bool, true, false}
 use mathlib.Core.List.{List}
 use mathlib.Core.Path.{_≡_}
-use lib.Dec.{eqb}
+use lib.Dec.{ltb, eqb}
 use lib.ListN.{length, getD}
-use lib.Ieee.{Float, nan}
+use lib.Ieee.{Float, nan, le, lt}
 use Rattle.picks.specs.Pick.{pick}
 use Rattle.lookup.specs.declared.Cursor.{Cursor}
-use Rattle.lookup.specs.Lookups.{keyOf, rowsRise}
+use Rattle.lookup.specs.declared.Place.{Place}
+use Rattle.lookup.specs.declared.Span.{Span}
+use Rattle.lookup.specs.Lookups.{keyOf, rowsRise, warpCovers, fakeCovers}
 
 -- the key of the entry at a place
 abbrev pub keyAt : List Float → ℕ → ℕ
@@ -41,7 +43,46 @@ pub record Between (key : ℕ) (beats : List Float) (low high : ℕ) : Type 0 wh
 abbrev pub ofLast : (Float → Float → Bool) → Bool → List Float → List Float → ℕ → Bool
 ofLast test none beats values n = pick (eqb n 0) none (test (getD beats (n - 1) nan) (getD values (n - 1) nan))
 
--- a cursor that stands where its row says
-pub record Stands (warpBeats fakeBeats : List Float) (cursor : Cursor) : Type 0 where
-  pub warps : Passed (cursor .key) warpBeats (cursor .warps)
-  pub fakes : Passed (cursor .key) fakeBeats (cursor .fakes)
+-- ---- where a row stands in a list
+
+-- the row of the last of the first n entries, and of the entry after them; the lowest and the highest key where there is none
+abbrev pub keyBefore : List Float → ℕ → ℕ
+keyBefore beats n = pick (eqb n 0) 0 (keyAt beats (n - 1))
+
+abbrev pub keyAfter : List Float → ℕ → ℕ
+keyAfter beats n = pick (ltb n (length beats)) (keyAt beats n) 4294967295
+
+-- a place whose keys are those of the entries around it
+pub record Stands (beats : List Float) (place : Place) : Type 0 where
+  pub within : place .count ≤ length beats
+  pub from : place .from ≡ keyBefore beats (place .count)
+  pub until : place .until ≡ keyAfter beats (place .count)
+
+-- ---- what an entry covers
+
+abbrev pub spanCovers : Span → Float → Bool
+spanCovers span at = pick (le (span .start) at) (lt at (span .end)) false
+
+abbrev pub noSpan : Span
+noSpan = record { start = nan; end = nan }
+
+-- a span that says what a test says of the last of the first n entries
+abbrev pub Spans : (Float → Float → Float → Bool) → List Float → List Float → ℕ → Span → Type 0
+Spans test beats lengths n span = (at : Float) → spanCovers span at ≡ ofLast (test at) false beats lengths n
+
+-- ---- the cursor
+module _ (stopBeats stopValues delayBeats delayValues warpBeats warpLengths fakeBeats fakeLengths : List Float) where
+  pub record AllUsable : Type 0 where
+    pub stops : Usable stopBeats stopValues
+    pub delays : Usable delayBeats delayValues
+    pub warps : Usable warpBeats warpLengths
+    pub fakes : Usable fakeBeats fakeLengths
+
+module _ (stopBeats delayBeats warpBeats warpLengths fakeBeats fakeLengths : List Float) (cursor : Cursor) where
+  pub record AllStand : Type 0 where
+    pub stops : Stands stopBeats (cursor .stops)
+    pub delays : Stands delayBeats (cursor .delays)
+    pub warps : Stands warpBeats (cursor .warps)
+    pub fakes : Stands fakeBeats (cursor .fakes)
+    pub warp : Spans warpCovers warpBeats warpLengths (cursor .warps .count) (cursor .warp)
+    pub fake : Spans fakeCovers fakeBeats fakeLengths (cursor .fakes .count) (cursor .fake)

@@ -14,7 +14,7 @@ ghost use Rattle.rows.specs.Rows.{beatOf};
 ghost use Rattle.limits.specs.Numbers.{rangeOf, inRange, every, rowIn};
 ghost use Rattle.order.specs.RowKey.{rowKey};
 ghost use Rattle.lookup.specs.Lookups.{keyOf, lastPasses, isPaused, warpCovers, fakeCovers, isWarped, isFake, isJudgable, askedRow, rowsRise, risingNumber, askedNumber, warpNumber, fakeNumber, judgableNumber, looked, byte, Judged};
-ghost use Rattle.lookup.specs.Finding.{Usable, Passed, Split, Between, ofLast, Stands};
+ghost use Rattle.lookup.specs.Finding.{Usable, AllUsable, Passed, Split, Between, keyBefore, keyAfter, Stands, spanCovers, noSpan, Spans, AllStand};
 
 // ---- rows that rise
 
@@ -94,65 +94,141 @@ fn count_on(beats: &[f32], key: u32, from: usize) -> usize
     n
 }
 
+// ---- where a row stands in a list
+
+// How many entries are at or before each row from the key `from` up to the key `until`, and not at it.
+struct Place {
+    count: usize,
+    from: u32,
+    until: u32,
+}
+
+// The row of the last of the first n entries; the lowest key where there is none.
+fn key_before(beats: &[f32], n: usize) -> u32
+    requires { ⌜ n ≤ length (now beats) ⌝ }
+    ensures { λ r. ⌜ r ≡ keyBefore (now (beats .entry)) n ⌝ }
+{
+    if n == 0 {
+        return 0;
+    }
+    row_key(beats[n - 1])
+}
+
+// The row of the entry after them; the highest key where there is none.
+fn key_after(beats: &[f32], n: usize) -> u32
+    ensures { λ r. ⌜ r ≡ keyAfter (now (beats .entry)) n ⌝ }
+{
+    if n < beats.len() {
+        return row_key(beats[n]);
+    }
+    4294967295
+}
+
+fn place_after(beats: &[f32], n: usize) -> Place
+    requires { ⌜ n ≤ length (now beats) ⌝ }
+    ensures { λ r. ⌜ (r .count ≡ n) × Stands (now (beats .entry)) r ⌝ }
+{
+    Place {
+        count: n,
+        from: key_before(beats, n),
+        until: key_after(beats, n),
+    }
+}
+
+// The place of a row, by halves.
+fn place_of(beats: &[f32], key: u32) -> Place
+    requires { ⌜ rowsRise (now beats) ≡ true ⌝ }
+    ensures { λ r. ⌜ Stands (now (beats .entry)) r × Split key (now (beats .entry)) (r .count) ⌝ }
+{
+    place_after(beats, count_at(beats, key))
+}
+
+// The same, from the place of another row: most rows have the same place as the row before them, and a row that falls is looked for.
+fn reach(beats: &[f32], place: Place, key: u32) -> Place
+    requires { ⌜ rowsRise (now beats) ≡ true ⌝ }
+    requires { ⌜ Stands (now beats) place ⌝ }
+    ensures { λ r. ⌜ Stands (now (beats .entry)) r × Split key (now (beats .entry)) (r .count) ⌝ }
+{
+    if key < place.from {
+        return place_of(beats, key);
+    }
+    if key < place.until {
+        return place;
+    }
+    place_after(beats, count_on(beats, key, place.count))
+}
+
 // ---- an entry's test
 
-// Whether a warp covers a beat.
-fn warp_covers(at: f32, beat: f32, length: f32) -> bool
-    ensures { λ r. ⌜ r ≡ warpCovers at beat length ⌝ }
+// Covers the beats from `start` on and before `end`.
+struct Span {
+    start: f32,
+    end: f32,
+}
+
+fn covers(span: Span, at: f32) -> bool
+    ensures { λ r. ⌜ r ≡ spanCovers span at ⌝ }
 {
-    if length > 0.0 {
-        if beat <= at {
-            return at < beat + length;
-        }
-        return false;
+    if span.start <= at {
+        return at < span.end;
     }
     false
 }
 
-// Whether a fake covers a beat.
-fn fake_covers(at: f32, beat: f32, length: f32) -> bool
-    ensures { λ r. ⌜ r ≡ fakeCovers at beat length ⌝ }
+// Covers nothing.
+fn no_span() -> Span
+    ensures { λ r. ⌜ r ≡ noSpan ⌝ }
 {
-    if beat <= at {
-        return at
-            < ieee::narrow_f64(
-                std::num::f32_to_f64_with_nan(beat) + std::num::f32_to_f64_with_nan(length),
-            );
+    Span {
+        start: 0.0 / 0.0,
+        end: 0.0 / 0.0,
     }
-    false
 }
 
-// Whether the last of the first n warps covers the beat.
-fn last_warp_covers(warp_beats: &[f32], warp_lengths: &[f32], n: usize, at: f32) -> bool
+// What the last of the first n warps covers.
+fn warp_span(warp_beats: &[f32], warp_lengths: &[f32], n: usize) -> Span
     requires { ⌜ (length (now «warp_beats») ≡ length (now «warp_lengths»)) × (n ≤ length (now «warp_beats»)) ⌝ }
-    ensures { λ r. ⌜ r ≡ ofLast (warpCovers at) false (now («warp_beats» .entry)) (now («warp_lengths» .entry)) n ⌝ }
+    ensures { λ r. ⌜ Spans warpCovers (now («warp_beats» .entry)) (now («warp_lengths» .entry)) n r ⌝ }
 {
     if n == 0 {
-        return false;
+        return no_span();
     }
-    warp_covers(at, warp_beats[n - 1], warp_lengths[n - 1])
+    if warp_lengths[n - 1] > 0.0 {
+        return Span {
+            start: warp_beats[n - 1],
+            end: warp_beats[n - 1] + warp_lengths[n - 1],
+        };
+    }
+    no_span()
 }
 
-fn last_fake_covers(fake_beats: &[f32], fake_lengths: &[f32], n: usize, at: f32) -> bool
+// What the last of the first n fakes covers.
+fn fake_span(fake_beats: &[f32], fake_lengths: &[f32], n: usize) -> Span
     requires { ⌜ (length (now «fake_beats») ≡ length (now «fake_lengths»)) × (n ≤ length (now «fake_beats»)) ⌝ }
-    ensures { λ r. ⌜ r ≡ ofLast (fakeCovers at) false (now («fake_beats» .entry)) (now («fake_lengths» .entry)) n ⌝ }
+    ensures { λ r. ⌜ Spans fakeCovers (now («fake_beats» .entry)) (now («fake_lengths» .entry)) n r ⌝ }
 {
     if n == 0 {
-        return false;
+        return no_span();
     }
-    fake_covers(at, fake_beats[n - 1], fake_lengths[n - 1])
+    Span {
+        start: fake_beats[n - 1],
+        end: ieee::narrow_f64(
+            std::num::f32_to_f64_with_nan(fake_beats[n - 1])
+                + std::num::f32_to_f64_with_nan(fake_lengths[n - 1]),
+        ),
+    }
 }
 
-// Whether an entry above 0 is on a row.
-fn is_paused(beats: &[f32], values: &[f32], key: u32) -> bool
-    requires { ⌜ Usable (now beats) (now values) ⌝ }
+// Whether an entry above 0 is on the row of a place.
+fn is_paused(beats: &[f32], values: &[f32], place: Place, key: u32) -> bool
+    requires { ⌜ Usable (now beats) (now values) × Stands (now beats) place × Split key (now beats) (place .count) ⌝ }
     ensures { λ r. ⌜ r ≡ isPaused key (now (beats .entry)) (now (values .entry)) ⌝ }
 {
-    let n = count_at(beats, key);
-    if n == 0 {
+    if place.from != key {
         return false;
     }
-    if row_key(beats[n - 1]) != key {
+    let n = place.count;
+    if n == 0 {
         return false;
     }
     values[n - 1] > 0.0
@@ -164,15 +240,18 @@ fn is_unpaused(
     stop_values: &[f32],
     delay_beats: &[f32],
     delay_values: &[f32],
+    stops: Place,
+    delays: Place,
     key: u32,
 ) -> bool
-    requires { ⌜ Usable (now «stop_beats») (now «stop_values») × Usable (now «delay_beats») (now «delay_values») ⌝ }
+    requires { ⌜ Usable (now «stop_beats») (now «stop_values») × Stands (now «stop_beats») stops × Split key (now «stop_beats») (stops .count) ⌝ }
+    requires { ⌜ Usable (now «delay_beats») (now «delay_values») × Stands (now «delay_beats») delays × Split key (now «delay_beats») (delays .count) ⌝ }
     ensures { λ r. ⌜ r ≡ pick (isPaused key (now («stop_beats» .entry)) (now («stop_values» .entry))) false (not (isPaused key (now («delay_beats» .entry)) (now («delay_values» .entry)))) ⌝ }
 {
-    if is_paused(stop_beats, stop_values, key) {
+    if is_paused(stop_beats, stop_values, stops, key) {
         return false;
     }
-    !is_paused(delay_beats, delay_values, key)
+    !is_paused(delay_beats, delay_values, delays, key)
 }
 
 // ---- one question, of lists that can be looked into
@@ -191,13 +270,19 @@ fn warped_after(
     requires { ⌜ Usable (now «stop_beats») (now «stop_values») × Usable (now «delay_beats») (now «delay_values») × Usable (now «warp_beats») (now «warp_lengths») × Split (rowKey row) (now «warp_beats») n ⌝ }
     ensures { λ r. ⌜ r ≡ isWarped (now («stop_beats» .entry)) (now («stop_values» .entry)) (now («delay_beats» .entry)) (now («delay_values» .entry)) (now («warp_beats» .entry)) (now («warp_lengths» .entry)) row ⌝ }
 {
-    if last_warp_covers(warp_beats, warp_lengths, n, rows::note_row_to_beat_f32(row)) {
+    let key = order::key_of_row(row);
+    if covers(
+        warp_span(warp_beats, warp_lengths, n),
+        rows::note_row_to_beat_f32(row),
+    ) {
         return is_unpaused(
             stop_beats,
             stop_values,
             delay_beats,
             delay_values,
-            order::key_of_row(row),
+            place_of(stop_beats, key),
+            place_of(delay_beats, key),
+            key,
         );
     }
     false
@@ -208,7 +293,10 @@ fn fake_after(fake_beats: &[f32], fake_lengths: &[f32], n: usize, row: i32) -> b
     requires { ⌜ Usable (now «fake_beats») (now «fake_lengths») × Split (rowKey row) (now «fake_beats») n ⌝ }
     ensures { λ r. ⌜ r ≡ isFake (now («fake_beats» .entry)) (now («fake_lengths» .entry)) row ⌝ }
 {
-    last_fake_covers(fake_beats, fake_lengths, n, rows::note_row_to_beat_f32(row))
+    covers(
+        fake_span(fake_beats, fake_lengths, n),
+        rows::note_row_to_beat_f32(row),
+    )
 }
 
 fn judgable_after(
@@ -224,7 +312,7 @@ fn judgable_after(
     fakes: usize,
     row: i32,
 ) -> bool
-    requires { ⌜ Usable (now «stop_beats») (now «stop_values») × Usable (now «delay_beats») (now «delay_values») × Usable (now «warp_beats») (now «warp_lengths») × Usable (now «fake_beats») (now «fake_lengths») ⌝ }
+    requires { ⌜ AllUsable (now «stop_beats») (now «stop_values») (now «delay_beats») (now «delay_values») (now «warp_beats») (now «warp_lengths») (now «fake_beats») (now «fake_lengths») ⌝ }
     requires { ⌜ Split (rowKey row) (now «warp_beats») warps × Split (rowKey row) (now «fake_beats») fakes ⌝ }
     ensures { λ r. ⌜ r ≡ isJudgable (now («stop_beats» .entry)) (now («stop_values» .entry)) (now («delay_beats» .entry)) (now («delay_values» .entry)) (now («warp_beats» .entry)) (now («warp_lengths» .entry)) (now («fake_beats» .entry)) (now («fake_lengths» .entry)) row ⌝ }
 {
@@ -575,25 +663,89 @@ pub fn is_judgable_at_beat(
 
 // ---- many rows
 
-// How many warps and fakes are at or before a row, that row as a key, and its answer.
+// The place of a row in each list, what its warp and its fake cover, and its answer. Stops and delays are only looked into in a warp.
 struct Cursor {
-    warps: usize,
-    fakes: usize,
-    key: u32,
+    stops: Place,
+    delays: Place,
+    warps: Place,
+    fakes: Place,
+    warp: Span,
+    fake: Span,
     answer: u8,
-}
-
-// Where a cursor goes on from: a row that falls restarts it.
-fn start_of(next: usize, last: u32, key: u32) -> usize
-    ensures { λ r. ⌜ r ≡ pick (ltb key last) 0 next ⌝ }
-{
-    if key < last { 0 } else { next }
 }
 
 fn byte_of(answer: bool) -> u8
     ensures { λ r. ⌜ r ≡ byte answer ⌝ }
 {
     if answer { 1 } else { 0 }
+}
+
+// What the last of the first n warps covers, where it is known of the first `known`.
+fn warp_onward(
+    warp_beats: &[f32],
+    warp_lengths: &[f32],
+    span: Span,
+    known: usize,
+    n: usize,
+) -> Span
+    requires { ⌜ (length (now «warp_beats») ≡ length (now «warp_lengths»)) × (n ≤ length (now «warp_beats»)) × Spans warpCovers (now «warp_beats») (now «warp_lengths») known span ⌝ }
+    ensures { λ r. ⌜ Spans warpCovers (now («warp_beats» .entry)) (now («warp_lengths» .entry)) n r ⌝ }
+{
+    if n == known {
+        return span;
+    }
+    warp_span(warp_beats, warp_lengths, n)
+}
+
+// The same of fakes.
+fn fake_onward(
+    fake_beats: &[f32],
+    fake_lengths: &[f32],
+    span: Span,
+    known: usize,
+    n: usize,
+) -> Span
+    requires { ⌜ (length (now «fake_beats») ≡ length (now «fake_lengths»)) × (n ≤ length (now «fake_beats»)) × Spans fakeCovers (now «fake_beats») (now «fake_lengths») known span ⌝ }
+    ensures { λ r. ⌜ Spans fakeCovers (now («fake_beats» .entry)) (now («fake_lengths» .entry)) n r ⌝ }
+{
+    if n == known {
+        return span;
+    }
+    fake_span(fake_beats, fake_lengths, n)
+}
+
+// Whether a row is neither warped nor fake.
+fn neither(warped: bool, fake: bool) -> bool
+    ensures { λ r. ⌜ r ≡ pick warped false (not fake) ⌝ }
+{
+    if warped {
+        return false;
+    }
+    !fake
+}
+
+fn first_cursor(
+    stop_beats: &[f32],
+    stop_values: &[f32],
+    delay_beats: &[f32],
+    delay_values: &[f32],
+    warp_beats: &[f32],
+    warp_lengths: &[f32],
+    fake_beats: &[f32],
+    fake_lengths: &[f32],
+) -> Cursor
+    requires { ⌜ AllUsable (now «stop_beats») (now «stop_values») (now «delay_beats») (now «delay_values») (now «warp_beats») (now «warp_lengths») (now «fake_beats») (now «fake_lengths») ⌝ }
+    ensures { λ r. ⌜ AllStand (now («stop_beats» .entry)) (now («delay_beats» .entry)) (now («warp_beats» .entry)) (now («warp_lengths» .entry)) (now («fake_beats» .entry)) (now («fake_lengths» .entry)) r ⌝ }
+{
+    Cursor {
+        stops: place_after(stop_beats, 0),
+        delays: place_after(delay_beats, 0),
+        warps: place_after(warp_beats, 0),
+        fakes: place_after(fake_beats, 0),
+        warp: warp_span(warp_beats, warp_lengths, 0),
+        fake: fake_span(fake_beats, fake_lengths, 0),
+        answer: 0,
+    }
 }
 
 fn judge(
@@ -608,31 +760,61 @@ fn judge(
     cursor: Cursor,
     row: i32,
 ) -> Cursor
-    requires { ⌜ Usable (now «stop_beats») (now «stop_values») × Usable (now «delay_beats») (now «delay_values») × Usable (now «warp_beats») (now «warp_lengths») × Usable (now «fake_beats») (now «fake_lengths») ⌝ }
-    requires { ⌜ Stands (now «warp_beats») (now «fake_beats») cursor ⌝ }
-    ensures { λ r. ⌜ Stands (now («warp_beats» .entry)) (now («fake_beats» .entry)) r × (r .answer ≡ byte (isJudgable (now («stop_beats» .entry)) (now («stop_values» .entry)) (now («delay_beats» .entry)) (now («delay_values» .entry)) (now («warp_beats» .entry)) (now («warp_lengths» .entry)) (now («fake_beats» .entry)) (now («fake_lengths» .entry)) row)) ⌝ }
+    requires { ⌜ AllUsable (now «stop_beats») (now «stop_values») (now «delay_beats») (now «delay_values») (now «warp_beats») (now «warp_lengths») (now «fake_beats») (now «fake_lengths») ⌝ }
+    requires { ⌜ AllStand (now «stop_beats») (now «delay_beats») (now «warp_beats») (now «warp_lengths») (now «fake_beats») (now «fake_lengths») cursor ⌝ }
+    ensures { λ r. ⌜ AllStand (now («stop_beats» .entry)) (now («delay_beats» .entry)) (now («warp_beats» .entry)) (now («warp_lengths» .entry)) (now («fake_beats» .entry)) (now («fake_lengths» .entry)) r × (r .answer ≡ byte (isJudgable (now («stop_beats» .entry)) (now («stop_values» .entry)) (now («delay_beats» .entry)) (now («delay_values» .entry)) (now («warp_beats» .entry)) (now («warp_lengths» .entry)) (now («fake_beats» .entry)) (now («fake_lengths» .entry)) row)) ⌝ }
 {
     let key = order::key_of_row(row);
-    let warps = count_on(warp_beats, key, start_of(cursor.warps, cursor.key, key));
-    let fakes = count_on(fake_beats, key, start_of(cursor.fakes, cursor.key, key));
-    let yes = judgable_after(
+    let at = rows::note_row_to_beat_f32(row);
+    let warps = reach(warp_beats, cursor.warps, key);
+    let fakes = reach(fake_beats, cursor.fakes, key);
+    let warp = warp_onward(
+        warp_beats,
+        warp_lengths,
+        cursor.warp,
+        cursor.warps.count,
+        warps.count,
+    );
+    let fake = fake_onward(
+        fake_beats,
+        fake_lengths,
+        cursor.fake,
+        cursor.fakes.count,
+        fakes.count,
+    );
+    let is_fake = covers(fake, at);
+    let old_stops = cursor.stops;
+    let old_delays = cursor.delays;
+    if !covers(warp, at) {
+        return Cursor {
+            stops: old_stops,
+            delays: old_delays,
+            warps: warps,
+            fakes: fakes,
+            warp: warp,
+            fake: fake,
+            answer: byte_of(!is_fake),
+        };
+    }
+    let stops = reach(stop_beats, old_stops, key);
+    let delays = reach(delay_beats, old_delays, key);
+    let unpaused = is_unpaused(
         stop_beats,
         stop_values,
         delay_beats,
         delay_values,
-        warp_beats,
-        warp_lengths,
-        fake_beats,
-        fake_lengths,
-        warps,
-        fakes,
-        row,
+        stops,
+        delays,
+        key,
     );
     Cursor {
+        stops: stops,
+        delays: delays,
         warps: warps,
         fakes: fakes,
-        key: key,
-        answer: byte_of(yes),
+        warp: warp,
+        fake: fake,
+        answer: byte_of(neither(unpaused, is_fake)),
     }
 }
 
@@ -648,16 +830,20 @@ fn judge_rows(
     rows: &[i32],
     out: &mut [u8],
 )
-    requires { ⌜ Usable (now «stop_beats») (now «stop_values») × Usable (now «delay_beats») (now «delay_values») × Usable (now «warp_beats») (now «warp_lengths») × Usable (now «fake_beats») (now «fake_lengths») ⌝ }
+    requires { ⌜ AllUsable (now «stop_beats») (now «stop_values») (now «delay_beats») (now «delay_values») (now «warp_beats») (now «warp_lengths») (now «fake_beats») (now «fake_lengths») ⌝ }
     requires { ⌜ length (now rows) ≤ length (now out) ⌝ }
     ensures { λ _. ⌜ now (out .exit) ≡ laidEach (λ (asked : ℤ). byte (isJudgable (now («stop_beats» .entry)) (now («stop_values» .entry)) (now («delay_beats» .entry)) (now («delay_values» .entry)) (now («warp_beats» .entry)) (now («warp_lengths» .entry)) (now («fake_beats» .entry)) (now («fake_lengths» .entry)) asked)) (now (rows .entry)) (now (out .entry)) ⌝ }
 {
-    let mut cursor = Cursor {
-        warps: 0,
-        fakes: 0,
-        key: 0,
-        answer: 0,
-    };
+    let mut cursor = first_cursor(
+        stop_beats,
+        stop_values,
+        delay_beats,
+        delay_values,
+        warp_beats,
+        warp_lengths,
+        fake_beats,
+        fake_lengths,
+    );
     let mut i = 0;
     while i < rows.len() {
         cursor = judge(
