@@ -16,6 +16,10 @@ use Rattle.lookup.specs.Lookups.{keyOf, rowsRise, warpCovers, fakeCovers
 abbrev pub keyAt : List Float → ℕ → ℕ
 keyAt beats place = keyOf (getD beats place nan)
 
+-- 1 where the row of a beat is not above the row of the beat before it
+abbrev pub notAbove : Float → Float → ℕ
+notAbove before beat = pick (ltb (keyOf before) (keyOf beat)) 0 1
+
 -- a list that can be looked into
 abbrev pub Usable : List Float → List Float → Type 0
 Usable beats values = (length beats ≡ length values) × (rowsRise beats ≡ true)

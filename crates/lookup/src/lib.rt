@@ -11,10 +11,10 @@ ghost use Rattle.columns.specs.Each.{laidEach};
 ghost use lib.ListN.{length, getD};
 ghost use Rattle.picks.specs.Pick.{pick};
 ghost use Rattle.rows.specs.Rows.{beatOf};
-ghost use Rattle.limits.specs.Numbers.{rangeOf, inRange, every, rowIn};
+ghost use Rattle.limits.specs.Numbers.{rangeOf, inRange, every, miss, rowIn};
 ghost use Rattle.order.specs.RowKey.{rowKey};
 ghost use Rattle.lookup.specs.Lookups.{keyOf, lastPasses, isPaused, warpCovers, fakeCovers, isWarped, isFake, isJudgable, askedRow, rowsRise, risingNumber, askedNumber, warpNumber, fakeNumber, judgableNumber, looked, byte, Judged};
-ghost use Rattle.lookup.specs.Finding.{Usable, AllUsable, Passed, Split, Between, keyBefore, keyAfter, Stands, spanCovers, noSpan, Spans, AllStand};
+ghost use Rattle.lookup.specs.Finding.{notAbove, Usable, AllUsable, Passed, Split, Between, keyBefore, keyAfter, Stands, spanCovers, noSpan, Spans, AllStand};
 
 // ---- rows that rise
 
@@ -25,17 +25,32 @@ fn row_key(beat: f32) -> u32
     order::key_of_row(rows::beat_to_note_row_f32(beat))
 }
 
+// 1 where the row of a beat is not above the row of the beat before it.
+fn one_not_above(before: f32, beat: f32) -> usize
+    ensures { λ r. ⌜ r ≡ notAbove before beat ⌝ }
+{
+    if row_key(before) < row_key(beat) {
+        0
+    } else {
+        1
+    }
+}
+
+// All are counted, which a loop does for several entries at a time.
 fn rows_rise(beats: &[f32]) -> bool
     ensures { λ r. ⌜ r ≡ rowsRise (now (beats .entry)) ⌝ }
 {
+    if beats.len() == 0 {
+        return true;
+    }
+    let last = beats.len() - 1;
+    let mut falls: usize = 0;
     let mut i = 0;
-    while i + 1 < beats.len() {
-        if row_key(beats[i + 1]) <= row_key(beats[i]) {
-            return false;
-        }
+    while i < last {
+        falls += one_not_above(beats[i], beats[i + 1]);
         i += 1;
     }
-    true
+    falls == 0
 }
 
 // ---- where the entries at or before a row end
@@ -681,13 +696,7 @@ fn byte_of(answer: bool) -> u8
 }
 
 // What the last of the first n warps covers, where it is known of the first `known`.
-fn warp_onward(
-    warp_beats: &[f32],
-    warp_lengths: &[f32],
-    span: Span,
-    known: usize,
-    n: usize,
-) -> Span
+fn warp_onward(warp_beats: &[f32], warp_lengths: &[f32], span: Span, known: usize, n: usize) -> Span
     requires { ⌜ (length (now «warp_beats») ≡ length (now «warp_lengths»)) × (n ≤ length (now «warp_beats»)) × Spans warpCovers (now «warp_beats») (now «warp_lengths») known span ⌝ }
     ensures { λ r. ⌜ Spans warpCovers (now («warp_beats» .entry)) (now («warp_lengths» .entry)) n r ⌝ }
 {
@@ -698,13 +707,7 @@ fn warp_onward(
 }
 
 // The same of fakes.
-fn fake_onward(
-    fake_beats: &[f32],
-    fake_lengths: &[f32],
-    span: Span,
-    known: usize,
-    n: usize,
-) -> Span
+fn fake_onward(fake_beats: &[f32], fake_lengths: &[f32], span: Span, known: usize, n: usize) -> Span
     requires { ⌜ (length (now «fake_beats») ≡ length (now «fake_lengths»)) × (n ≤ length (now «fake_beats»)) × Spans fakeCovers (now «fake_beats») (now «fake_lengths») known span ⌝ }
     ensures { λ r. ⌜ Spans fakeCovers (now («fake_beats» .entry)) (now («fake_lengths» .entry)) n r ⌝ }
 {
@@ -863,18 +866,23 @@ fn judge_rows(
     }
 }
 
+fn one_beyond(row: i32) -> usize
+    ensures { λ r. ⌜ r ≡ miss rowIn row ⌝ }
+{
+    if limits::row_taken(row) { 0 } else { 1 }
+}
+
 // Whether every row is within the limit.
 fn rows_taken(rows: &[i32]) -> bool
     ensures { λ r. ⌜ r ≡ every rowIn (now (rows .entry)) ⌝ }
 {
+    let mut beyond: usize = 0;
     let mut i = 0;
     while i < rows.len() {
-        if !limits::row_taken(rows[i]) {
-            return false;
-        }
+        beyond += one_beyond(rows[i]);
         i += 1;
     }
-    true
+    beyond == 0
 }
 
 // 1 for each row that is judgable and 0 for each that is not, over the front of the room. Refused as the single question is, with 3 where

@@ -17,7 +17,7 @@ covers-requires : tie.Need-covers-requires
 covers-requires c κs = search needs
 
 returns : tie.Need-returns
-returns c = 
+returns c =
     let start = c .before .before .before .before .before in
     let said = rw (c .before .note-row-to-beat-f32 .ensures, toZ-ofZ w32 (start .args .row) (start .fits .row)) at (c .covers .ensures) in
     said ∙ sym (in-fake (start .args .row) (start .args .n) (c .before .before .fake-span .result) (start .args .fake-beats .now) (start .args .fake-lengths .now) (start .pre .0) (start .pre .1) (c .before .before .fake-span .ensures))

@@ -10,7 +10,7 @@ no-span-requires : tie.Need-no-span-requires
 no-span-requires c κs = search needs
 
 returns : tie.Need-returns
-returns c = 
+returns c =
     let start = c .before .before .before .before in
     rw (c .no-span .ensures) (spans-nothing fakeCovers (start .args .fake-beats .now) (start .args .fake-lengths .now) (start .args .n) (c .before .if1 .taken))
 

@@ -23,13 +23,13 @@ fake-span-requires c κs = (c .before .before .before .before .before .before .b
 
 returns : tie.Need-returns
 returns c = record {
-      stops = c .before .before .before .before .before .place-after .ensures .1;
-      delays = c .before .before .before .before .place-after2 .ensures .1;
-      warps = c .before .before .before .place-after3 .ensures .1;
-      fakes = c .before .before .place-after4 .ensures .1;
-      warp = rw (c .before .before .before .place-after3 .ensures .0) (c .before .warp-span .ensures);
-      fake = rw (c .before .before .place-after4 .ensures .0) (c .fake-span .ensures);
-    }
+  stops = c .before .before .before .before .before .place-after .ensures .1;
+  delays = c .before .before .before .before .place-after2 .ensures .1;
+  warps = c .before .before .before .place-after3 .ensures .1;
+  fakes = c .before .before .place-after4 .ensures .1;
+  warp = rw (c .before .before .before .place-after3 .ensures .0) (c .before .warp-span .ensures);
+  fake = rw (c .before .before .place-after4 .ensures .0) (c .fake-span .ensures);
+}
 
 pub first-cursor-spec : {M : Type 1} → statement M
 first-cursor-spec =

@@ -38,21 +38,23 @@ byte-of-requires : tie.Need-byte-of-requires
 byte-of-requires c κs = search needs
 
 returns : tie.Need-returns
-returns c = 
+returns c =
     let start = c .before .before .before .before .before .before .before .before .before .before .before .before .before .before .before .before .before .before .before .before in
     let back = toZ-ofZ w32 (start .args .row) (start .fits .row) in
     let key = rw back at (c .before .before .before .before .before .before .before .before .before .before .before .key-of-row .ensures) in
     let beat = rw back at (c .before .before .before .before .before .before .before .before .before .before .note-row-to-beat-f32 .ensures) in
     let fake = in-fake (start .args .row) (c .before .before .before .before .before .before .before .before .reach2 .result .count) (c .before .before .before .before .before .before .fake-onward .result) (start .args .fake-beats .now) (start .args .fake-lengths .now) (start .pre .0 .fakes) (rw key at (c .before .before .before .before .before .before .before .before .reach2 .ensures .1)) (c .before .before .before .before .before .before .fake-onward .ensures) ∙ sym (rw beat at (c .before .before .before .before .before .covers .ensures)) in
-    let warped = warped-outside (start .args .row) (c .before .before .before .before .before .before .before .before .before .reach .result .count) (c .before .before .before .before .before .before .before .warp-onward .result) (start .args .stop-beats .now) (start .args .stop-values .now) (start .args .delay-beats .now) (start .args .delay-values .now) (start .args .warp-beats .now) (start .args .warp-lengths .now) (start .pre .0 .warps) (rw key at (c .before .before .before .before .before .before .before .before .before .reach .ensures .1)) (c .before .before .before .before .before .before .before .warp-onward .ensures) (sym (rw beat at (c .before .before .covers2 .ensures)) ∙ not-true (c .before .before .covers2 .result) (c .before .if1 .taken)) in
-    (record {
-      stops = start .pre .1 .stops;
-      delays = start .pre .1 .delays;
-      warps = c .before .before .before .before .before .before .before .before .before .reach .ensures .0;
-      fakes = c .before .before .before .before .before .before .before .before .reach2 .ensures .0;
-      warp = c .before .before .before .before .before .before .before .warp-onward .ensures;
-      fake = c .before .before .before .before .before .before .fake-onward .ensures;
-    }, c .byte-of .ensures ∙ ap (λ (t : Bool). byte t) (sym (judged (start .args .stop-beats .now) (start .args .stop-values .now) (start .args .delay-beats .now) (start .args .delay-values .now) (start .args .warp-beats .now) (start .args .warp-lengths .now) (start .args .fake-beats .now) (start .args .fake-lengths .now) (start .args .row) _ _ warped fake)))
+    let warped = warped-outside (start .args .row) (c .before .before .before .before .before .before .before .before .before .reach .result .count) (c .before .before .before .before .before .before .before .warp-onward .result) (start .args .stop-beats .now) (start .args .stop-values .now) (start .args .delay-beats .now) (start .args .delay-values .now) (start .args .warp-beats .now) (start .args .warp-lengths .now) (start .pre .0 .warps) (rw key at (c .before .before .before .before .before .before .before .before .before .reach .ensures .1)) (c .before .before .before .before .before .before .before .warp-onward .ensures) (sym (rw beat at (c .before .before .covers2 .ensures)) ∙ not-true (c .before .before .covers2 .result) (c .before .if1 .taken)) in (
+      record {
+        stops = start .pre .1 .stops;
+        delays = start .pre .1 .delays;
+        warps = c .before .before .before .before .before .before .before .before .before .reach .ensures .0;
+        fakes = c .before .before .before .before .before .before .before .before .reach2 .ensures .0;
+        warp = c .before .before .before .before .before .before .before .warp-onward .ensures;
+        fake = c .before .before .before .before .before .before .fake-onward .ensures;
+      },
+      c .byte-of .ensures ∙ ap (λ (t : Bool). byte t) (sym (judged (start .args .stop-beats .now) (start .args .stop-values .now) (start .args .delay-beats .now) (start .args .delay-values .now) (start .args .warp-beats .now) (start .args .warp-lengths .now) (start .args .fake-beats .now) (start .args .fake-lengths .now) (start .args .row) _ _ warped fake)),
+    )
 
 reach-requires-3 : tie.Need-reach-requires-3
 reach-requires-3 c κs = (c .before .before .before .before .before .before .before .before .before .before .before .before .before .before .before .before .before .before .before .pre .0 .stops .1, c .before .before .before .before .before .before .before .before .before .before .before .before .before .before .before .before .before .before .before .pre .1 .stops)
@@ -70,21 +72,23 @@ byte-of-requires-2 : tie.Need-byte-of-requires-2
 byte-of-requires-2 c κs = search needs
 
 returns-2 : tie.Need-returns-2
-returns-2 c = 
+returns-2 c =
     let start = c .before .before .before .before .before .before .before .before .before .before .before .before .before .before .before .before .before .before .before .before .before .before .before .before in
     let back = toZ-ofZ w32 (start .args .row) (start .fits .row) in
     let key = rw back at (c .before .before .before .before .before .before .before .before .before .before .before .before .before .before .before .key-of-row .ensures) in
     let beat = rw back at (c .before .before .before .before .before .before .before .before .before .before .before .before .before .before .note-row-to-beat-f32 .ensures) in
     let fake = in-fake (start .args .row) (c .before .before .before .before .before .before .before .before .before .before .before .before .reach2 .result .count) (c .before .before .before .before .before .before .before .before .before .before .fake-onward .result) (start .args .fake-beats .now) (start .args .fake-lengths .now) (start .pre .0 .fakes) (rw key at (c .before .before .before .before .before .before .before .before .before .before .before .before .reach2 .ensures .1)) (c .before .before .before .before .before .before .before .before .before .before .fake-onward .ensures) ∙ sym (rw beat at (c .before .before .before .before .before .before .before .before .before .covers .ensures)) in
-    let warped = warped-inside (start .args .row) (c .before .before .before .before .before .before .before .before .before .before .before .before .before .reach .result .count) (c .before .before .before .before .before .before .before .before .before .before .before .warp-onward .result) (start .args .stop-beats .now) (start .args .stop-values .now) (start .args .delay-beats .now) (start .args .delay-values .now) (start .args .warp-beats .now) (start .args .warp-lengths .now) (start .pre .0 .warps) (rw key at (c .before .before .before .before .before .before .before .before .before .before .before .before .before .reach .ensures .1)) (c .before .before .before .before .before .before .before .before .before .before .before .warp-onward .ensures) (sym (rw beat at (c .before .before .before .before .before .before .covers2 .ensures)) ∙ not-false (c .before .before .before .before .before .before .covers2 .result) (c .before .before .before .before .before .if1 .left)) ∙ sym (rw key at (c .before .before .is-unpaused .ensures)) in
-    (record {
-      stops = c .before .before .before .before .reach3 .ensures .0;
-      delays = c .before .before .before .reach4 .ensures .0;
-      warps = c .before .before .before .before .before .before .before .before .before .before .before .before .before .reach .ensures .0;
-      fakes = c .before .before .before .before .before .before .before .before .before .before .before .before .reach2 .ensures .0;
-      warp = c .before .before .before .before .before .before .before .before .before .before .before .warp-onward .ensures;
-      fake = c .before .before .before .before .before .before .before .before .before .before .fake-onward .ensures;
-    }, c .byte-of2 .ensures ∙ ap (λ (t : Bool). byte t) (c .before .neither .ensures ∙ sym (judged (start .args .stop-beats .now) (start .args .stop-values .now) (start .args .delay-beats .now) (start .args .delay-values .now) (start .args .warp-beats .now) (start .args .warp-lengths .now) (start .args .fake-beats .now) (start .args .fake-lengths .now) (start .args .row) _ _ warped fake)))
+    let warped = warped-inside (start .args .row) (c .before .before .before .before .before .before .before .before .before .before .before .before .before .reach .result .count) (c .before .before .before .before .before .before .before .before .before .before .before .warp-onward .result) (start .args .stop-beats .now) (start .args .stop-values .now) (start .args .delay-beats .now) (start .args .delay-values .now) (start .args .warp-beats .now) (start .args .warp-lengths .now) (start .pre .0 .warps) (rw key at (c .before .before .before .before .before .before .before .before .before .before .before .before .before .reach .ensures .1)) (c .before .before .before .before .before .before .before .before .before .before .before .warp-onward .ensures) (sym (rw beat at (c .before .before .before .before .before .before .covers2 .ensures)) ∙ not-false (c .before .before .before .before .before .before .covers2 .result) (c .before .before .before .before .before .if1 .left)) ∙ sym (rw key at (c .before .before .is-unpaused .ensures)) in (
+      record {
+        stops = c .before .before .before .before .reach3 .ensures .0;
+        delays = c .before .before .before .reach4 .ensures .0;
+        warps = c .before .before .before .before .before .before .before .before .before .before .before .before .before .reach .ensures .0;
+        fakes = c .before .before .before .before .before .before .before .before .before .before .before .before .reach2 .ensures .0;
+        warp = c .before .before .before .before .before .before .before .before .before .before .before .warp-onward .ensures;
+        fake = c .before .before .before .before .before .before .before .before .before .before .fake-onward .ensures;
+      },
+      c .byte-of2 .ensures ∙ ap (λ (t : Bool). byte t) (c .before .neither .ensures ∙ sym (judged (start .args .stop-beats .now) (start .args .stop-values .now) (start .args .delay-beats .now) (start .args .delay-values .now) (start .args .warp-beats .now) (start .args .warp-lengths .now) (start .args .fake-beats .now) (start .args .fake-lengths .now) (start .args .row) _ _ warped fake)),
+    )
 
 pub judge-spec : {M : Type 1} → statement M
 judge-spec =

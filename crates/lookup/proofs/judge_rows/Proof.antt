@@ -46,7 +46,7 @@ loop-less : tie.Need-loop-less Inv-loop μ-loop
 loop-less c = omega (arith, c .before .before .loop-test .taken)
 
 loop-again : tie.Need-loop-again Inv-loop μ-loop
-loop-again c = 
+loop-again c =
     let start = c .before .before .before .before .before .before .before .before .before .before .before .before .before .before in
     let inv = c .before .before .before .loop .inv in
     let asked = getD (start .args .rows .now) (c .before .before .before .loop .i) (pos 0) in

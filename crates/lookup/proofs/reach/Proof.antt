@@ -12,12 +12,12 @@ returns : tie.Need-returns
 returns c = search needs
 
 returns-2 : tie.Need-returns-2
-returns-2 c = 
+returns-2 c =
     let start = c .before .before .before .before .before in
     (start .pre .1, same-place (start .args .beats .now) (rises (start .args .beats .now) (start .pre .0)) (start .args .key) (start .args .place) (start .pre .1) (c .before .before .if1 .left) (c .if2 .taken))
 
 count-on-requires : tie.Need-count-on-requires
-count-on-requires c κs = 
+count-on-requires c κs =
     let start = c .before .before .before .before .before in
     (start .pre .0, passed-from (start .args .beats .now) (rises (start .args .beats .now) (start .pre .0)) (start .args .key) (start .args .place) (start .pre .1) (c .before .before .if1 .left))
 

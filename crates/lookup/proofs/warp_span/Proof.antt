@@ -12,7 +12,7 @@ no-span-requires : tie.Need-no-span-requires
 no-span-requires c κs = search needs
 
 returns : tie.Need-returns
-returns c = 
+returns c =
     let start = c .before .before .before .before in
     rw (c .no-span .ensures) (spans-nothing warpCovers (start .args .warp-beats .now) (start .args .warp-lengths .now) (start .args .n) (c .before .if1 .taken))
 

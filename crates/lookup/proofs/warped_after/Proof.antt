@@ -29,14 +29,14 @@ is-unpaused-requires : tie.Need-is-unpaused-requires
 is-unpaused-requires c κs = ((c .before .before .before .before .before .before .before .before .before .before .before .before .before .pre .0, c .before .place-of .ensures .0, c .before .place-of .ensures .1), (c .before .before .before .before .before .before .before .before .before .before .before .before .before .pre .1, c .place-of2 .ensures .0, c .place-of2 .ensures .1))
 
 returns : tie.Need-returns
-returns c = 
+returns c =
     let start = c .before .before .before .before .before .before .before .before .before .before .before .before .before .before in
     let back = toZ-ofZ w32 (start .args .row) (start .fits .row) in
     let said = rw (c .before .before .before .before .before .note-row-to-beat-f32 .ensures, back) at (c .before .before .before .before .covers .ensures) in
     rw (warped-inside (start .args .row) (start .args .n) (c .before .before .before .before .before .before .warp-span .result) (start .args .stop-beats .now) (start .args .stop-values .now) (start .args .delay-beats .now) (start .args .delay-values .now) (start .args .warp-beats .now) (start .args .warp-lengths .now) (start .pre .2) (start .pre .3) (c .before .before .before .before .before .before .warp-span .ensures) (sym said ∙ c .before .before .before .if1 .taken)) (rw (c .before .before .before .before .before .before .before .key-of-row .ensures, back) at (c .is-unpaused .ensures))
 
 returns-2 : tie.Need-returns-2
-returns-2 c = 
+returns-2 c =
     let start = c .before .before .before .before .before .before .before .before .before .before .before in
     let back = toZ-ofZ w32 (start .args .row) (start .fits .row) in
     let said = rw (c .before .before .note-row-to-beat-f32 .ensures, back) at (c .before .covers .ensures) in
