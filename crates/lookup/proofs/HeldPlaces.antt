@@ -13,32 +13,41 @@ use lib.Ieee.{Float, nan, lt}
 use Rattle.picks.specs.Pick.{pick}
 use Rattle.limits.specs.Numbers.{nothing}
 use Rattle.order.proofs.Compare.{below?}
-use Rattle.lookup.specs.declared.Place.{Place}
 use Rattle.lookup.specs.Lookups.{isPaused}
-use Rattle.lookup.specs.Finding.{keyAt, keyBefore, Passed, Past, Split, ofLast, Stands, Usable}
+use Rattle.lookup.specs.Finding.{keyAt, keyBefore, keyAfter, Passed, Past, Split, ofLast, Stands, Usable}
 use Rattle.lookup.proofs.RowsRise.{Rising, rises}
-use Rattle.lookup.proofs.FoundEntries.{passed-to, past-from, of-next, pausesOn, pause-found}
+use Rattle.lookup.proofs.FoundEntries.{passed-to, past-from, ended, of-next, pausesOn, pause-found}
 
 before-next : (beats : List Float) (m : ℕ) → keyBefore beats (suc m) ≡ keyAt beats m
 before-next beats m = let e : suc m - 1 ≡ m = omega arith in rw (ne-eqb (suc m) 0 (λ e. omega arith), e)
 
-module _ (beats : List Float) (rising : Rising beats) (key : ℕ) (place : Place) (stands : Stands beats place) where
-  pub passed-from : place .from ≤ key → Passed key beats (place .count)
-  passed-from h = go (place .count) (stands .within) (stands .from)
-    where
-      go : (n : ℕ) → n ≤ length beats → place .from ≡ keyBefore beats n → Passed key beats n
-      go zero l e = (l, λ at k. absurd (omega arith))
-      go (suc m) l e = rw (← add-one m) (passed-to key beats rising m (omega arith) (omega (arith, e ∙ before-next beats m)))
+module _ (beats : List Float) (count from until : ℕ) (stands : Stands beats count from until) where
+  -- the place after it, past one entry more
+  pub stands-next : count < length beats → Stands beats (count + 1) until (keyAfter beats (count + 1))
+  stands-next h =
+      let here : until ≡ keyAt beats count = rw (lt-ltb count (length beats) h) at (stands .after) in
+      record { within = omega arith; before = rw (add-one count) (here ∙ sym (before-next beats count)); after = refl }
 
-  past-until : key < place .until → Past key beats (place .count)
-  past-until h =
-      ⊎-elim
-      (λ t. past-from key beats rising (place .count) (omega (arith, rw (lt-ltb (place .count) (length beats) t) at (stands .until))))
-      (λ t. λ at l k. absurd (omega arith))
-      (below? (place .count) (length beats))
+  module _ (rising : Rising beats) (key : ℕ) where
+    passed-from : from ≤ key → Passed key beats count
+    passed-from h = go count (stands .within) (stands .before)
+      where
+        go : (n : ℕ) → n ≤ length beats → from ≡ keyBefore beats n → Passed key beats n
+        go zero l e = (l, λ at k. absurd (omega arith))
+        go (suc m) l e = rw (← add-one m) (passed-to key beats rising m (omega arith) (omega (arith, e ∙ before-next beats m)))
 
-  pub same-place : place .from ≤ key → key < place .until → Split key beats (place .count)
-  same-place h k = record { passed = passed-from h; past = past-until k }
+    past-until : key < until → Past key beats count
+    past-until h =
+        ⊎-elim
+        (λ t. past-from key beats rising count (omega (arith, rw (lt-ltb count (length beats) t) at (stands .after))))
+        (λ t. λ at l k. absurd (omega arith))
+        (below? count (length beats))
+
+    pub same-place : from ≤ key → key < until → Split key beats count
+    same-place h k = record { passed = passed-from h; past = past-until k }
+
+    pub last-place : from ≤ key → count ≡ length beats → Split key beats count
+    last-place h e = ended key beats count (passed-from h) (omega arith)
 
 -- ---- a pause on the row of a place
 module _ (key : ℕ) (beats values : List Float) where
@@ -52,6 +61,6 @@ module _ (key : ℕ) (beats values : List Float) where
       let here : suc m - 1 ≡ m = omega arith in
       of-next (pausesOn key) false beats values m ∙ rw (e ∙ before-next beats m, ne-eqb (suc m) 0 (λ e. omega arith), here)
 
-  pub pause-on-row : (place : Place) → Usable beats values → Stands beats place → Split key beats (place .count)
-      → isPaused key beats values ≡ pick (eqb (place .from) key) (pick (eqb (place .count) 0) false (lt nothing (getD values (place .count - 1) nan))) false
-  pause-on-row place usable stands split = pause-found key beats values (place .count) (usable .0) (rises beats (usable .1)) split ∙ on-last (place .count) (place .from) (stands .from)
+  pub pause-on-row : (count from until : ℕ) → Usable beats values → Stands beats count from until → Split key beats count
+      → isPaused key beats values ≡ pick (eqb from key) (pick (eqb count 0) false (lt nothing (getD values (count - 1) nan))) false
+  pause-on-row count from until usable stands split = pause-found key beats values count (usable .0) (rises beats (usable .1)) split ∙ on-last count from (stands .before)

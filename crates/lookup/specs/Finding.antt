@@ -5,12 +5,14 @@ use mathlib.Core.List.{List}
 use mathlib.Core.Path.{_≡_}
 use lib.Dec.{ltb, eqb}
 use lib.ListN.{length, getD}
-use lib.Ieee.{Float, nan, le, lt}
+use lib.Ieee.{Float, nan, le, lt, add, binary32, binary64}
+use Rattle.ieee.specs.Narrowing.{narrow}
+use Rattle.limits.specs.Numbers.{nothing}
 use Rattle.picks.specs.Pick.{pick}
 use Rattle.lookup.specs.declared.Cursor.{Cursor}
 use Rattle.lookup.specs.declared.Place.{Place}
-use Rattle.lookup.specs.declared.Span.{Span}
-use Rattle.lookup.specs.Lookups.{keyOf, rowsRise, warpCovers, fakeCovers}
+use Rattle.lookup.specs.declared.Held.{Held}
+use Rattle.lookup.specs.Lookups.{keyOf, rowsRise}
 
 -- the key of the entry at a place
 abbrev pub keyAt : List Float → ℕ → ℕ
@@ -57,22 +59,37 @@ abbrev pub keyAfter : List Float → ℕ → ℕ
 keyAfter beats n = pick (ltb n (length beats)) (keyAt beats n) 4294967295
 
 -- a place whose keys are those of the entries around it
-pub record Stands (beats : List Float) (place : Place) : Type 0 where
-  pub within : place .count ≤ length beats
-  pub from : place .from ≡ keyBefore beats (place .count)
-  pub until : place .until ≡ keyAfter beats (place .count)
+pub record Stands (beats : List Float) (count from until : ℕ) : Type 0 where
+  pub within : count ≤ length beats
+  pub before : from ≡ keyBefore beats count
+  pub after : until ≡ keyAfter beats count
+
+abbrev pub PlaceStands : List Float → Place → Type 0
+PlaceStands beats place = Stands beats (place .count) (place .from) (place .until)
 
 -- ---- what an entry covers
 
-abbrev pub spanCovers : Span → Float → Bool
-spanCovers span at = pick (le (span .start) at) (lt at (span .end)) false
+abbrev pub spanCovers : (start end at : Float) → Bool
+spanCovers start end at = pick (le start at) (lt at end) false
 
-abbrev pub noSpan : Span
-noSpan = record { start = nan; end = nan }
+-- the start and the end of the last of the first n entries; a NaN where nothing is covered
+abbrev pub startOf : List Float → ℕ → Float
+startOf beats n = pick (eqb n 0) nan (getD beats (n - 1) nan)
 
--- a span that says what a test says of the last of the first n entries
-abbrev pub Spans : (Float → Float → Float → Bool) → List Float → List Float → ℕ → Span → Type 0
-Spans test beats lengths n span = (at : Float) → spanCovers span at ≡ ofLast (test at) false beats lengths n
+unfoldable pub warpEnd : (beats lengths : List Float) → ℕ → Float
+warpEnd beats lengths n = pick (eqb n 0) nan (pick (lt nothing (getD lengths (n - 1) nan)) (add binary32 (getD beats (n - 1) nan) (getD lengths (n - 1) nan)) nan)
+
+unfoldable pub fakeEnd : (beats lengths : List Float) → ℕ → Float
+fakeEnd beats lengths n = pick (eqb n 0) nan (narrow (add binary64 (getD beats (n - 1) nan) (getD lengths (n - 1) nan)))
+
+-- a place that holds what its last entry covers
+pub record Holds (endOf : List Float → List Float → ℕ → Float) (beats lengths : List Float) (count from until : ℕ) (start end : Float) : Type 0 where
+  pub stands : Stands beats count from until
+  pub first : start ≡ startOf beats count
+  pub last : end ≡ endOf beats lengths count
+
+abbrev pub HeldStands : (List Float → List Float → ℕ → Float) → (beats lengths : List Float) → Held → Type 0
+HeldStands endOf beats lengths held = Holds endOf beats lengths (held .count) (held .from) (held .until) (held .start) (held .end)
 
 -- ---- the cursor
 module _ (stopBeats stopValues delayBeats delayValues warpBeats warpLengths fakeBeats fakeLengths : List Float) where
@@ -84,9 +101,7 @@ module _ (stopBeats stopValues delayBeats delayValues warpBeats warpLengths fake
 
 module _ (stopBeats delayBeats warpBeats warpLengths fakeBeats fakeLengths : List Float) (cursor : Cursor) where
   pub record AllStand : Type 0 where
-    pub stops : Stands stopBeats (cursor .stops)
-    pub delays : Stands delayBeats (cursor .delays)
-    pub warps : Stands warpBeats (cursor .warps)
-    pub fakes : Stands fakeBeats (cursor .fakes)
-    pub warp : Spans warpCovers warpBeats warpLengths (cursor .warps .count) (cursor .warp)
-    pub fake : Spans fakeCovers fakeBeats fakeLengths (cursor .fakes .count) (cursor .fake)
+    pub stops : PlaceStands stopBeats (cursor .stops)
+    pub delays : PlaceStands delayBeats (cursor .delays)
+    pub warps : HeldStands warpEnd warpBeats warpLengths (cursor .warps)
+    pub fakes : HeldStands fakeEnd fakeBeats fakeLengths (cursor .fakes)

@@ -13,8 +13,8 @@ ghost use Rattle.picks.specs.Pick.{pick};
 ghost use Rattle.rows.specs.Rows.{beatOf};
 ghost use Rattle.limits.specs.Numbers.{rangeOf, inRange, every, miss, rowIn};
 ghost use Rattle.order.specs.RowKey.{rowKey};
-ghost use Rattle.lookup.specs.Lookups.{keyOf, lastPasses, isPaused, warpCovers, fakeCovers, isWarped, isFake, isJudgable, askedRow, rowsRise, risingNumber, askedNumber, warpNumber, fakeNumber, judgableNumber, looked, byte, Judged};
-ghost use Rattle.lookup.specs.Finding.{notAbove, Usable, AllUsable, Passed, Split, Between, keyBefore, keyAfter, Stands, spanCovers, noSpan, Spans, AllStand};
+ghost use Rattle.lookup.specs.Lookups.{keyOf, lastPasses, isPaused, isWarped, isFake, isJudgable, askedRow, rowsRise, risingNumber, askedNumber, warpNumber, fakeNumber, judgableNumber, looked, byte, Judged};
+ghost use Rattle.lookup.specs.Finding.{notAbove, Usable, AllUsable, Passed, Split, Between, keyBefore, keyAfter, Stands, PlaceStands, spanCovers, startOf, warpEnd, fakeEnd, Holds, HeldStands, AllStand};
 
 // ---- rows that rise
 
@@ -93,22 +93,6 @@ fn count_at(beats: &[f32], key: u32) -> usize
     low
 }
 
-// The same, from a place before which all are.
-fn count_on(beats: &[f32], key: u32, from: usize) -> usize
-    requires { ⌜ rowsRise (now beats) ≡ true ⌝ }
-    requires { ⌜ Passed key (now beats) from ⌝ }
-    ensures { λ r. ⌜ Split key (now (beats .entry)) r ⌝ }
-{
-    let mut n = from;
-    while n < beats.len() {
-        if row_key(beats[n]) > key {
-            return n;
-        }
-        n += 1;
-    }
-    n
-}
-
 // ---- where a row stands in a list
 
 // How many entries are at or before each row from the key `from` up to the key `until`, and not at it.
@@ -141,7 +125,7 @@ fn key_after(beats: &[f32], n: usize) -> u32
 
 fn place_after(beats: &[f32], n: usize) -> Place
     requires { ⌜ n ≤ length (now beats) ⌝ }
-    ensures { λ r. ⌜ (r .count ≡ n) × Stands (now (beats .entry)) r ⌝ }
+    ensures { λ r. ⌜ (r .count ≡ n) × PlaceStands (now (beats .entry)) r ⌝ }
 {
     Place {
         count: n,
@@ -153,90 +137,124 @@ fn place_after(beats: &[f32], n: usize) -> Place
 // The place of a row, by halves.
 fn place_of(beats: &[f32], key: u32) -> Place
     requires { ⌜ rowsRise (now beats) ≡ true ⌝ }
-    ensures { λ r. ⌜ Stands (now (beats .entry)) r × Split key (now (beats .entry)) (r .count) ⌝ }
+    ensures { λ r. ⌜ PlaceStands (now (beats .entry)) r × Split key (now (beats .entry)) (r .count) ⌝ }
 {
     place_after(beats, count_at(beats, key))
 }
 
-// The same, from the place of another row: most rows have the same place as the row before them, and a row that falls is looked for.
-fn reach(beats: &[f32], place: Place, key: u32) -> Place
+// The same, on from a place that it is not before.
+fn place_on(beats: &[f32], count: usize, from: u32, until: u32, key: u32) -> Place
     requires { ⌜ rowsRise (now beats) ≡ true ⌝ }
-    requires { ⌜ Stands (now beats) place ⌝ }
-    ensures { λ r. ⌜ Stands (now (beats .entry)) r × Split key (now (beats .entry)) (r .count) ⌝ }
+    requires { ⌜ Stands (now beats) count from until × (from ≤ key) ⌝ }
+    ensures { λ r. ⌜ PlaceStands (now (beats .entry)) r × Split key (now (beats .entry)) (r .count) ⌝ }
 {
-    if key < place.from {
+    let mut n = count;
+    let mut before = from;
+    let mut next = until;
+    while next <= key {
+        if n == beats.len() {
+            return Place {
+                count: n,
+                from: before,
+                until: next,
+            };
+        }
+        n += 1;
+        before = next;
+        next = key_after(beats, n);
+    }
+    Place {
+        count: n,
+        from: before,
+        until: next,
+    }
+}
+
+// The same, from any place.
+fn move_place(beats: &[f32], count: usize, from: u32, until: u32, key: u32) -> Place
+    requires { ⌜ rowsRise (now beats) ≡ true ⌝ }
+    requires { ⌜ Stands (now beats) count from until ⌝ }
+    ensures { λ r. ⌜ PlaceStands (now (beats .entry)) r × Split key (now (beats .entry)) (r .count) ⌝ }
+{
+    if key < from {
         return place_of(beats, key);
     }
-    if key < place.until {
-        return place;
+    place_on(beats, count, from, until, key)
+}
+
+// The same: most rows have the place of the row before them, which is seen here, so that only what moves is a call.
+fn reach(beats: &[f32], count: usize, from: u32, until: u32, key: u32) -> Place
+    requires { ⌜ rowsRise (now beats) ≡ true ⌝ }
+    requires { ⌜ Stands (now beats) count from until ⌝ }
+    ensures { λ r. ⌜ PlaceStands (now (beats .entry)) r × Split key (now (beats .entry)) (r .count) ⌝ }
+{
+    if key < from {
+        return move_place(beats, count, from, until, key);
     }
-    place_after(beats, count_on(beats, key, place.count))
+    if key >= until {
+        return move_place(beats, count, from, until, key);
+    }
+    Place {
+        count: count,
+        from: from,
+        until: until,
+    }
 }
 
 // ---- an entry's test
 
-// Covers the beats from `start` on and before `end`.
-struct Span {
-    start: f32,
-    end: f32,
-}
-
-fn covers(span: Span, at: f32) -> bool
-    ensures { λ r. ⌜ r ≡ spanCovers span at ⌝ }
+// Whether a beat is from the start on and before the end.
+fn covers(start: f32, end: f32, at: f32) -> bool
+    ensures { λ r. ⌜ r ≡ spanCovers start end at ⌝ }
 {
-    if span.start <= at {
-        return at < span.end;
+    if start <= at {
+        return at < end;
     }
     false
 }
 
-// Covers nothing.
-fn no_span() -> Span
-    ensures { λ r. ⌜ r ≡ noSpan ⌝ }
-{
-    Span {
-        start: 0.0 / 0.0,
-        end: 0.0 / 0.0,
-    }
-}
-
-// What the last of the first n warps covers.
-fn warp_span(warp_beats: &[f32], warp_lengths: &[f32], n: usize) -> Span
-    requires { ⌜ (length (now «warp_beats») ≡ length (now «warp_lengths»)) × (n ≤ length (now «warp_beats»)) ⌝ }
-    ensures { λ r. ⌜ Spans warpCovers (now («warp_beats» .entry)) (now («warp_lengths» .entry)) n r ⌝ }
+// The beat of the last of the first n entries; a NaN, from which on there is no beat, where there is none.
+fn start_of(beats: &[f32], n: usize) -> f32
+    requires { ⌜ n ≤ length (now beats) ⌝ }
+    ensures { λ r. ⌜ r ≡ startOf (now (beats .entry)) n ⌝ }
 {
     if n == 0 {
-        return no_span();
+        return 0.0 / 0.0;
+    }
+    beats[n - 1]
+}
+
+// The end of the last of the first n warps; a NaN, before which there is no beat, where it covers nothing.
+fn warp_end(warp_beats: &[f32], warp_lengths: &[f32], n: usize) -> f32
+    requires { ⌜ (length (now «warp_beats») ≡ length (now «warp_lengths»)) × (n ≤ length (now «warp_beats»)) ⌝ }
+    ensures { λ r. ⌜ r ≡ warpEnd (now («warp_beats» .entry)) (now («warp_lengths» .entry)) n ⌝ }
+{
+    if n == 0 {
+        return 0.0 / 0.0;
     }
     if warp_lengths[n - 1] > 0.0 {
-        return Span {
-            start: warp_beats[n - 1],
-            end: warp_beats[n - 1] + warp_lengths[n - 1],
-        };
+        return warp_beats[n - 1] + warp_lengths[n - 1];
     }
-    no_span()
+    0.0 / 0.0
 }
 
-// What the last of the first n fakes covers.
-fn fake_span(fake_beats: &[f32], fake_lengths: &[f32], n: usize) -> Span
+// The end of the last of the first n fakes.
+fn fake_end(fake_beats: &[f32], fake_lengths: &[f32], n: usize) -> f32
     requires { ⌜ (length (now «fake_beats») ≡ length (now «fake_lengths»)) × (n ≤ length (now «fake_beats»)) ⌝ }
-    ensures { λ r. ⌜ Spans fakeCovers (now («fake_beats» .entry)) (now («fake_lengths» .entry)) n r ⌝ }
+    ensures { λ r. ⌜ r ≡ fakeEnd (now («fake_beats» .entry)) (now («fake_lengths» .entry)) n ⌝ }
 {
     if n == 0 {
-        return no_span();
+        return 0.0 / 0.0;
     }
-    Span {
-        start: fake_beats[n - 1],
-        end: ieee::narrow_f64(
-            std::num::f32_to_f64_with_nan(fake_beats[n - 1])
-                + std::num::f32_to_f64_with_nan(fake_lengths[n - 1]),
-        ),
-    }
+    ieee::narrow_f64(
+        std::num::f32_to_f64_with_nan(fake_beats[n - 1])
+            + std::num::f32_to_f64_with_nan(fake_lengths[n - 1]),
+    )
 }
 
 // Whether an entry above 0 is on the row of a place.
 fn is_paused(beats: &[f32], values: &[f32], place: Place, key: u32) -> bool
-    requires { ⌜ Usable (now beats) (now values) × Stands (now beats) place × Split key (now beats) (place .count) ⌝ }
+    requires { ⌜ Usable (now beats) (now values) × PlaceStands (now beats) place × Split key (now beats) (place .count) ⌝ }
     ensures { λ r. ⌜ r ≡ isPaused key (now (beats .entry)) (now (values .entry)) ⌝ }
 {
     if place.from != key {
@@ -259,8 +277,8 @@ fn is_unpaused(
     delays: Place,
     key: u32,
 ) -> bool
-    requires { ⌜ Usable (now «stop_beats») (now «stop_values») × Stands (now «stop_beats») stops × Split key (now «stop_beats») (stops .count) ⌝ }
-    requires { ⌜ Usable (now «delay_beats») (now «delay_values») × Stands (now «delay_beats») delays × Split key (now «delay_beats») (delays .count) ⌝ }
+    requires { ⌜ Usable (now «stop_beats») (now «stop_values») × PlaceStands (now «stop_beats») stops × Split key (now «stop_beats») (stops .count) ⌝ }
+    requires { ⌜ Usable (now «delay_beats») (now «delay_values») × PlaceStands (now «delay_beats») delays × Split key (now «delay_beats») (delays .count) ⌝ }
     ensures { λ r. ⌜ r ≡ pick (isPaused key (now («stop_beats» .entry)) (now («stop_values» .entry))) false (not (isPaused key (now («delay_beats» .entry)) (now («delay_values» .entry)))) ⌝ }
 {
     if is_paused(stop_beats, stop_values, stops, key) {
@@ -287,7 +305,8 @@ fn warped_after(
 {
     let key = order::key_of_row(row);
     if covers(
-        warp_span(warp_beats, warp_lengths, n),
+        start_of(warp_beats, n),
+        warp_end(warp_beats, warp_lengths, n),
         rows::note_row_to_beat_f32(row),
     ) {
         return is_unpaused(
@@ -309,7 +328,8 @@ fn fake_after(fake_beats: &[f32], fake_lengths: &[f32], n: usize, row: i32) -> b
     ensures { λ r. ⌜ r ≡ isFake (now («fake_beats» .entry)) (now («fake_lengths» .entry)) row ⌝ }
 {
     covers(
-        fake_span(fake_beats, fake_lengths, n),
+        start_of(fake_beats, n),
+        fake_end(fake_beats, fake_lengths, n),
         rows::note_row_to_beat_f32(row),
     )
 }
@@ -678,14 +698,21 @@ pub fn is_judgable_at_beat(
 
 // ---- many rows
 
-// The place of a row in each list, what its warp and its fake cover, and its answer. Stops and delays are only looked into in a warp.
+// A place in warps or fakes, and what the last entry covers.
+struct Held {
+    count: usize,
+    from: u32,
+    until: u32,
+    start: f32,
+    end: f32,
+}
+
+// The place of a row in each list, and its answer. Stops and delays are only looked into in a warp.
 struct Cursor {
     stops: Place,
     delays: Place,
-    warps: Place,
-    fakes: Place,
-    warp: Span,
-    fake: Span,
+    warps: Held,
+    fakes: Held,
     answer: u8,
 }
 
@@ -695,26 +722,96 @@ fn byte_of(answer: bool) -> u8
     if answer { 1 } else { 0 }
 }
 
-// What the last of the first n warps covers, where it is known of the first `known`.
-fn warp_onward(warp_beats: &[f32], warp_lengths: &[f32], span: Span, known: usize, n: usize) -> Span
-    requires { ⌜ (length (now «warp_beats») ≡ length (now «warp_lengths»)) × (n ≤ length (now «warp_beats»)) × Spans warpCovers (now «warp_beats») (now «warp_lengths») known span ⌝ }
-    ensures { λ r. ⌜ Spans warpCovers (now («warp_beats» .entry)) (now («warp_lengths» .entry)) n r ⌝ }
+fn warp_at(warp_beats: &[f32], warp_lengths: &[f32], count: usize, from: u32, until: u32) -> Held
+    requires { ⌜ (length (now «warp_beats») ≡ length (now «warp_lengths»)) × Stands (now «warp_beats») count from until ⌝ }
+    ensures { λ r. ⌜ (r .count ≡ count) × HeldStands warpEnd (now («warp_beats» .entry)) (now («warp_lengths» .entry)) r ⌝ }
 {
-    if n == known {
-        return span;
+    Held {
+        count: count,
+        from: from,
+        until: until,
+        start: start_of(warp_beats, count),
+        end: warp_end(warp_beats, warp_lengths, count),
     }
-    warp_span(warp_beats, warp_lengths, n)
 }
 
-// The same of fakes.
-fn fake_onward(fake_beats: &[f32], fake_lengths: &[f32], span: Span, known: usize, n: usize) -> Span
-    requires { ⌜ (length (now «fake_beats») ≡ length (now «fake_lengths»)) × (n ≤ length (now «fake_beats»)) × Spans fakeCovers (now «fake_beats») (now «fake_lengths») known span ⌝ }
-    ensures { λ r. ⌜ Spans fakeCovers (now («fake_beats» .entry)) (now («fake_lengths» .entry)) n r ⌝ }
+// The place of a row in warps, from the place of another row.
+fn reach_warp(
+    warp_beats: &[f32],
+    warp_lengths: &[f32],
+    count: usize,
+    from: u32,
+    until: u32,
+    start: f32,
+    end: f32,
+    key: u32,
+) -> Held
+    requires { ⌜ Usable (now «warp_beats») (now «warp_lengths») × Holds warpEnd (now «warp_beats») (now «warp_lengths») count from until start end ⌝ }
+    ensures { λ r. ⌜ HeldStands warpEnd (now («warp_beats» .entry)) (now («warp_lengths» .entry)) r × Split key (now («warp_beats» .entry)) (r .count) ⌝ }
 {
-    if n == known {
-        return span;
+    let place = reach(warp_beats, count, from, until, key);
+    if place.count == count {
+        return Held {
+            count: count,
+            from: place.from,
+            until: place.until,
+            start: start,
+            end: end,
+        };
     }
-    fake_span(fake_beats, fake_lengths, n)
+    warp_at(
+        warp_beats,
+        warp_lengths,
+        place.count,
+        place.from,
+        place.until,
+    )
+}
+
+fn fake_at(fake_beats: &[f32], fake_lengths: &[f32], count: usize, from: u32, until: u32) -> Held
+    requires { ⌜ (length (now «fake_beats») ≡ length (now «fake_lengths»)) × Stands (now «fake_beats») count from until ⌝ }
+    ensures { λ r. ⌜ (r .count ≡ count) × HeldStands fakeEnd (now («fake_beats» .entry)) (now («fake_lengths» .entry)) r ⌝ }
+{
+    Held {
+        count: count,
+        from: from,
+        until: until,
+        start: start_of(fake_beats, count),
+        end: fake_end(fake_beats, fake_lengths, count),
+    }
+}
+
+// The place of a row in fakes, from the place of another row.
+fn reach_fake(
+    fake_beats: &[f32],
+    fake_lengths: &[f32],
+    count: usize,
+    from: u32,
+    until: u32,
+    start: f32,
+    end: f32,
+    key: u32,
+) -> Held
+    requires { ⌜ Usable (now «fake_beats») (now «fake_lengths») × Holds fakeEnd (now «fake_beats») (now «fake_lengths») count from until start end ⌝ }
+    ensures { λ r. ⌜ HeldStands fakeEnd (now («fake_beats» .entry)) (now («fake_lengths» .entry)) r × Split key (now («fake_beats» .entry)) (r .count) ⌝ }
+{
+    let place = reach(fake_beats, count, from, until, key);
+    if place.count == count {
+        return Held {
+            count: count,
+            from: place.from,
+            until: place.until,
+            start: start,
+            end: end,
+        };
+    }
+    fake_at(
+        fake_beats,
+        fake_lengths,
+        place.count,
+        place.from,
+        place.until,
+    )
 }
 
 // Whether a row is neither warped nor fake.
@@ -740,13 +837,25 @@ fn first_cursor(
     requires { ⌜ AllUsable (now «stop_beats») (now «stop_values») (now «delay_beats») (now «delay_values») (now «warp_beats») (now «warp_lengths») (now «fake_beats») (now «fake_lengths») ⌝ }
     ensures { λ r. ⌜ AllStand (now («stop_beats» .entry)) (now («delay_beats» .entry)) (now («warp_beats» .entry)) (now («warp_lengths» .entry)) (now («fake_beats» .entry)) (now («fake_lengths» .entry)) r ⌝ }
 {
+    let warps = place_after(warp_beats, 0);
+    let fakes = place_after(fake_beats, 0);
     Cursor {
         stops: place_after(stop_beats, 0),
         delays: place_after(delay_beats, 0),
-        warps: place_after(warp_beats, 0),
-        fakes: place_after(fake_beats, 0),
-        warp: warp_span(warp_beats, warp_lengths, 0),
-        fake: fake_span(fake_beats, fake_lengths, 0),
+        warps: warp_at(
+            warp_beats,
+            warp_lengths,
+            warps.count,
+            warps.from,
+            warps.until,
+        ),
+        fakes: fake_at(
+            fake_beats,
+            fake_lengths,
+            fakes.count,
+            fakes.from,
+            fakes.until,
+        ),
         answer: 0,
     }
 }
@@ -769,38 +878,52 @@ fn judge(
 {
     let key = order::key_of_row(row);
     let at = rows::note_row_to_beat_f32(row);
-    let warps = reach(warp_beats, cursor.warps, key);
-    let fakes = reach(fake_beats, cursor.fakes, key);
-    let warp = warp_onward(
+    let warps = reach_warp(
         warp_beats,
         warp_lengths,
-        cursor.warp,
         cursor.warps.count,
-        warps.count,
+        cursor.warps.from,
+        cursor.warps.until,
+        cursor.warps.start,
+        cursor.warps.end,
+        key,
     );
-    let fake = fake_onward(
+    let fakes = reach_fake(
         fake_beats,
         fake_lengths,
-        cursor.fake,
         cursor.fakes.count,
-        fakes.count,
+        cursor.fakes.from,
+        cursor.fakes.until,
+        cursor.fakes.start,
+        cursor.fakes.end,
+        key,
     );
-    let is_fake = covers(fake, at);
-    let old_stops = cursor.stops;
-    let old_delays = cursor.delays;
-    if !covers(warp, at) {
+    let is_fake = covers(fakes.start, fakes.end, at);
+    if !covers(warps.start, warps.end, at) {
+        let stops = cursor.stops;
+        let delays = cursor.delays;
         return Cursor {
-            stops: old_stops,
-            delays: old_delays,
+            stops: stops,
+            delays: delays,
             warps: warps,
             fakes: fakes,
-            warp: warp,
-            fake: fake,
             answer: byte_of(!is_fake),
         };
     }
-    let stops = reach(stop_beats, old_stops, key);
-    let delays = reach(delay_beats, old_delays, key);
+    let stops = reach(
+        stop_beats,
+        cursor.stops.count,
+        cursor.stops.from,
+        cursor.stops.until,
+        key,
+    );
+    let delays = reach(
+        delay_beats,
+        cursor.delays.count,
+        cursor.delays.from,
+        cursor.delays.until,
+        key,
+    );
     let unpaused = is_unpaused(
         stop_beats,
         stop_values,
@@ -815,8 +938,6 @@ fn judge(
         delays: delays,
         warps: warps,
         fakes: fakes,
-        warp: warp,
-        fake: fake,
         answer: byte_of(neither(unpaused, is_fake)),
     }
 }

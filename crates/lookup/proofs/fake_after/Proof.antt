@@ -7,8 +7,11 @@ use borrow.Author.Needs.{needs}
 use Rattle.lookup.proofs.fake_after.Statement.{statement}
 use Rattle.lookup.proofs.fake_after.Tie as tie
 
-fake-span-requires : tie.Need-fake-span-requires
-fake-span-requires c κs = search needs
+start-of-requires : tie.Need-start-of-requires
+start-of-requires c κs = search needs
+
+fake-end-requires : tie.Need-fake-end-requires
+fake-end-requires c κs = search needs
 
 note-row-to-beat-f32-requires : tie.Need-note-row-to-beat-f32-requires
 note-row-to-beat-f32-requires c κs = search needs
@@ -18,10 +21,16 @@ covers-requires c κs = search needs
 
 returns : tie.Need-returns
 returns c =
-    let start = c .before .before .before .before .before in
+    let start = c .before .before .before .before .before .before in
     let said = rw (c .before .note-row-to-beat-f32 .ensures, toZ-ofZ w32 (start .args .row) (start .fits .row)) at (c .covers .ensures) in
-    said ∙ sym (in-fake (start .args .row) (start .args .n) (c .before .before .fake-span .result) (start .args .fake-beats .now) (start .args .fake-lengths .now) (start .pre .0) (start .pre .1) (c .before .before .fake-span .ensures))
+    said ∙ sym (in-fake (start .args .row) (start .args .n) (c .before .before .before .start-of .result) (c .before .before .fake-end .result) (start .args .fake-beats .now) (start .args .fake-lengths .now) (start .pre .0) (start .pre .1) (c .before .before .before .start-of .ensures) (c .before .before .fake-end .ensures))
 
 pub fake-after-spec : {M : Type 1} → statement M
 fake-after-spec =
-    tie.close (tie.spec fake-span-requires note-row-to-beat-f32-requires covers-requires returns)
+    tie.close
+    (tie.spec
+    start-of-requires
+    fake-end-requires
+    note-row-to-beat-f32-requires
+    covers-requires
+    returns)

@@ -15,21 +15,14 @@ place-after-requires-3 c κs = search needs
 place-after-requires-4 : tie.Need-place-after-requires-4
 place-after-requires-4 c κs = search needs
 
-warp-span-requires : tie.Need-warp-span-requires
-warp-span-requires c κs = (c .before .before .before .before .before .before .before .before .before .before .before .before .pre .warps .0, search needs)
+warp-at-requires : tie.Need-warp-at-requires
+warp-at-requires c κs = (c .before .before .before .before .before .before .before .before .before .before .before .before .pre .warps .0, c .before .before .before .place-after .ensures .1)
 
-fake-span-requires : tie.Need-fake-span-requires
-fake-span-requires c κs = (c .before .before .before .before .before .before .before .before .before .before .before .before .before .pre .fakes .0, search needs)
+fake-at-requires : tie.Need-fake-at-requires
+fake-at-requires c κs = (c .before .before .before .before .before .before .before .before .before .before .before .before .before .pre .fakes .0, c .before .before .before .place-after2 .ensures .1)
 
 returns : tie.Need-returns
-returns c = record {
-  stops = c .before .before .before .before .before .place-after .ensures .1;
-  delays = c .before .before .before .before .place-after2 .ensures .1;
-  warps = c .before .before .before .place-after3 .ensures .1;
-  fakes = c .before .before .place-after4 .ensures .1;
-  warp = rw (c .before .before .before .place-after3 .ensures .0) (c .before .warp-span .ensures);
-  fake = rw (c .before .before .place-after4 .ensures .0) (c .fake-span .ensures);
-}
+returns c = record { stops = c .before .before .before .place-after3 .ensures .1; delays = c .before .before .place-after4 .ensures .1; warps = c .before .warp-at .ensures .1; fakes = c .fake-at .ensures .1 }
 
 pub first-cursor-spec : {M : Type 1} → statement M
 first-cursor-spec =
@@ -39,6 +32,6 @@ first-cursor-spec =
     place-after-requires-2
     place-after-requires-3
     place-after-requires-4
-    warp-span-requires
-    fake-span-requires
+    warp-at-requires
+    fake-at-requires
     returns)

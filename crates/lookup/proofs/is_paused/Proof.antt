@@ -9,13 +9,13 @@ use Rattle.lookup.proofs.is_paused.Tie as tie
 returns : tie.Need-returns
 returns c =
     let start = c .before .before in
-    let said = pause-on-row (start .args .key) (start .args .beats .now) (start .args .values .now) (start .args .place) (start .pre .0) (start .pre .1) (start .pre .2) in
+    let said = pause-on-row (start .args .key) (start .args .beats .now) (start .args .values .now) (start .args .place .count) (start .args .place .from) (start .args .place .until) (start .pre .0) (start .pre .1) (start .pre .2) in
     rw said (search flags depth 8)
 
 returns-2 : tie.Need-returns-2
 returns-2 c =
     let start = c .before .before .before in
-    let said = pause-on-row (start .args .key) (start .args .beats .now) (start .args .values .now) (start .args .place) (start .pre .0) (start .pre .1) (start .pre .2) in
+    let said = pause-on-row (start .args .key) (start .args .beats .now) (start .args .values .now) (start .args .place .count) (start .args .place .from) (start .args .place .until) (start .pre .0) (start .pre .1) (start .pre .2) in
     rw said (search flags depth 8)
 
 sub-result : tie.Need-sub-result
@@ -31,7 +31,7 @@ returns-3 : tie.Need-returns-3
 unfolding ofBits
 returns-3 c =
     let start = c .before .before .before .before in
-    let said = pause-on-row (start .args .key) (start .args .beats .now) (start .args .values .now) (start .args .place) (start .pre .0) (start .pre .1) (start .pre .2) in
+    let said = pause-on-row (start .args .key) (start .args .beats .now) (start .args .values .now) (start .args .place .count) (start .args .place .from) (start .args .place .until) (start .pre .0) (start .pre .1) (start .pre .2) in
     rw said (search flags depth 8)
 
 pub is-paused-spec : {M : Type 1} → statement M
