@@ -8,10 +8,12 @@ ghost use lib.Dec.{ltb, leb, eqb};
 ghost use lib.ListN.{length, getD, take, set};
 ghost use lib.Ieee.{nan, inf, ne};
 ghost use Rattle.picks.specs.Pick.{pick};
-ghost use Rattle.limits.specs.Numbers.{rangeOf};
+ghost use Rattle.limits.specs.Numbers.{rangeOf, sizeOf, inRange, allIn, miss};
+ghost use Rattle.limits.specs.Refusals.{listNumber};
 ghost use Rattle.order.specs.Order.{laid};
 ghost use Rattle.sm_stops.specs.Merging.{sources, none, lesser, meets, plus, forward, tempoPlace, less, onward, merged, atFirst};
 ghost use Rattle.sm_stops.specs.Plain.{Plain};
+ghost use Rattle.sm_stops.specs.Testing.{between};
 ghost use Rattle.sm_stops.specs.Filling.{beatsIn, valuesIn, isEven, flatNumber, flat, isOwn, listsNumber, resultNumber, StopsFilled, chosen};
 
 // What filling the work list answers: the refusal number, the entries written, and whether the caller's own stops are the answer.
@@ -284,34 +286,105 @@ fn has_room(
 
 // ---- refusals
 
-fn flat_beats_taken(kind: Kind, list: &[f32]) -> bool
-    ensures { λ r. ⌜ r ≡ beatsIn (rangeOf kind) (now (list .entry)) ⌝ }
+fn magnitude(x: f32) -> f32
+    ensures { λ r. ⌜ r ≡ sizeOf x ⌝ }
 {
-    let range = limits::range_of(kind);
-    let mut i = 0;
-    while i < list.len() {
-        if limits::in_range(range, std::num::f32_to_f64_with_nan(list[i])) {
-            i += 2;
-            continue;
-        }
-        return false;
-    }
-    true
+    if x < 0.0 { -x } else { x }
 }
 
-fn flat_values_taken(kind: Kind, list: &[f32]) -> bool
-    ensures { λ r. ⌜ r ≡ valuesIn (rangeOf kind) (now (list .entry)) ⌝ }
+// Whether a number's size is from the least to the most, or it is a 0 that is taken. In f32, so that a loop does it for four at a time.
+fn in_range(least: f32, most: f32, zeros: bool, x: f32) -> bool
+    ensures { λ r. ⌜ r ≡ inRange (between least most zeros) x ⌝ }
 {
-    let range = limits::range_of(kind);
-    let mut i = 0;
-    while i + 1 < list.len() {
-        if limits::in_range(range, std::num::f32_to_f64_with_nan(list[i + 1])) {
-            i += 2;
-            continue;
+    let size = magnitude(x);
+    if size <= most {
+        if size >= least {
+            return true;
+        }
+        if size == 0.0 {
+            return zeros;
         }
         return false;
     }
-    true
+    false
+}
+
+fn one_outside(least: f32, most: f32, zeros: bool, x: f32) -> u32
+    ensures { λ r. ⌜ r ≡ miss (inRange (between least most zeros)) x ⌝ }
+{
+    if in_range(least, most, zeros, x) {
+        0
+    } else {
+        1
+    }
+}
+
+fn worse_of(one: u32, other: u32) -> u32
+    ensures { λ r. ⌜ r ≡ pick (ltb one other) other one ⌝ }
+{
+    if one < other { other } else { one }
+}
+
+// Whether every number of a column is in a range.
+fn column_taken(least: f32, most: f32, zeros: bool, column: &[f32]) -> bool
+    ensures { λ r. ⌜ r ≡ allIn (between least most zeros) (now (column .entry)) ⌝ }
+{
+    let mut worst: u32 = 0;
+    let mut i = 0;
+    while i < column.len() {
+        worst = worse_of(worst, one_outside(least, most, zeros, column[i]));
+        i += 1;
+    }
+    worst == 0
+}
+
+// What a list of beats and of values in a range answers by itself.
+fn pair_number(least: f32, most: f32, zeros: bool, beats: &[f32], values: &[f32]) -> u32
+    ensures { λ r. ⌜ r ≡ listNumber (rangeOf Kind.Beat) (between least most zeros) (now (beats .entry)) (now (values .entry)) ⌝ }
+{
+    if beats.len() > limits::MOST_ENTRIES {
+        return limits::TOO_LONG;
+    }
+    if values.len() > limits::MOST_ENTRIES {
+        return limits::TOO_LONG;
+    }
+    if beats.len() != values.len() {
+        return limits::UNEVEN;
+    }
+    if !column_taken(0.0, 65536.0, true, beats) {
+        return limits::BAD_BEAT;
+    }
+    if !column_taken(least, most, zeros, values) {
+        return limits::BAD_VALUE;
+    }
+    limits::TAKEN
+}
+
+fn flat_beats_taken(list: &[f32]) -> bool
+    ensures { λ r. ⌜ r ≡ beatsIn (rangeOf Kind.Beat) (now (list .entry)) ⌝ }
+{
+    let mut worst: u32 = 0;
+    let mut i = 0;
+    while i < list.len() {
+        worst = worse_of(worst, one_outside(0.0, 65536.0, true, list[i]));
+        i += 2;
+    }
+    worst == 0
+}
+
+fn flat_values_taken(list: &[f32]) -> bool
+    ensures { λ r. ⌜ r ≡ valuesIn (rangeOf Kind.Pause) (now (list .entry)) ⌝ }
+{
+    let mut worst: u32 = 0;
+    let mut i = 0;
+    while i + 1 < list.len() {
+        worst = worse_of(
+            worst,
+            one_outside(0.0, 1125899906842624.0, true, list[i + 1]),
+        );
+        i += 2;
+    }
+    worst == 0
 }
 
 fn is_even(size: usize) -> bool
@@ -321,8 +394,8 @@ fn is_even(size: usize) -> bool
 }
 
 // What a flat list answers by itself.
-fn flat_number(beat_kind: Kind, value_kind: Kind, list: &[f32]) -> u32
-    ensures { λ r. ⌜ r ≡ flatNumber (rangeOf «beat_kind») (rangeOf «value_kind») (now (list .entry)) ⌝ }
+fn flat_number(list: &[f32]) -> u32
+    ensures { λ r. ⌜ r ≡ flatNumber (rangeOf Kind.Beat) (rangeOf Kind.Pause) (now (list .entry)) ⌝ }
 {
     if list.len() > 2048 {
         return limits::TOO_LONG;
@@ -330,10 +403,10 @@ fn flat_number(beat_kind: Kind, value_kind: Kind, list: &[f32]) -> u32
     if !is_even(list.len()) {
         return limits::UNEVEN;
     }
-    if !flat_beats_taken(beat_kind, list) {
+    if !flat_beats_taken(list) {
         return limits::BAD_BEAT;
     }
-    if !flat_values_taken(value_kind, list) {
+    if !flat_values_taken(list) {
         return limits::BAD_VALUE;
     }
     limits::TAKEN
@@ -360,10 +433,16 @@ fn lists_number(
 ) -> u32
     ensures { λ r. ⌜ r ≡ listsNumber (sources (now («tempo_beats» .entry)) (now («tempo_values» .entry)) (now (stops .entry)) (now («delay_beats» .entry)) (now («delay_values» .entry)) (now («warp_beats» .entry)) (now («warp_lengths» .entry))) size ⌝ }
 {
-    let tempos = limits::list_number_f32(Kind::Beat, Kind::Tempo, tempo_beats, tempo_values);
-    let own = flat_number(Kind::Beat, Kind::Pause, stops);
-    let delays = limits::list_number_f32(Kind::Beat, Kind::Pause, delay_beats, delay_values);
-    let warps = limits::list_number_f32(Kind::Beat, Kind::Value, warp_beats, warp_lengths);
+    let tempos = pair_number(
+        9.5367431640625e-7,
+        1073741824.0,
+        false,
+        tempo_beats,
+        tempo_values,
+    );
+    let own = flat_number(stops);
+    let delays = pair_number(0.0, 1125899906842624.0, true, delay_beats, delay_values);
+    let warps = pair_number(0.0, 1073741824.0, true, warp_beats, warp_lengths);
     let room = work_number(size);
     let first = limits::lower_of(tempos, own);
     let others = limits::lower_of(delays, warps);
