@@ -5,3 +5,4 @@ pub mod TwoByTwo
 pub mod TakenSources
 pub mod OneFilling
 pub mod WorstSoFar
+pub mod BetweenEnds

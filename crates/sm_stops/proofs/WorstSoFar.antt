@@ -28,7 +28,7 @@ failed : (worst : ℕ) → worse worst 1 ≡ 0 → ⊥
 failed worst e =
     ⊎-elim (λ t. let z : 1 ≡ 0 = rw (lt-ltb worst 1 t) at e in omega arith) (λ t. let z : worst ≡ 0 = rw (le-ltb worst 1 t) at e in omega arith) (below? worst 1)
 
-pub nowhere : (t : Bool) → pick t false false ≡ false
+nowhere : (t : Bool) → pick t false false ≡ false
 nowhere true = refl
 nowhere false = refl
 

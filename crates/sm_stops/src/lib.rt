@@ -6,14 +6,14 @@ ghost use mathlib.Core.List.{[]};
 ghost use Prim.Native.Nat.{_+_, _*_, _/_, _<_, _≤_, _^_};
 ghost use lib.Dec.{ltb, leb, eqb};
 ghost use lib.ListN.{length, getD, take, set};
-ghost use lib.Ieee.{nan, inf, ne};
+ghost use lib.Ieee.{nan, inf, ne, neg, le};
 ghost use Rattle.picks.specs.Pick.{pick};
 ghost use Rattle.limits.specs.Numbers.{rangeOf, sizeOf, inRange, allIn, miss};
 ghost use Rattle.limits.specs.Refusals.{listNumber};
 ghost use Rattle.order.specs.Order.{laid};
 ghost use Rattle.sm_stops.specs.Merging.{sources, none, lesser, meets, plus, forward, tempoPlace, less, onward, merged, atFirst};
 ghost use Rattle.sm_stops.specs.Plain.{Plain};
-ghost use Rattle.sm_stops.specs.Testing.{between};
+ghost use Rattle.sm_stops.specs.Testing.{between, UpTo};
 ghost use Rattle.sm_stops.specs.Filling.{beatsIn, valuesIn, isEven, flatNumber, flat, isOwn, listsNumber, resultNumber, StopsFilled, chosen};
 
 // What filling the work list answers: the refusal number, the entries written, and whether the caller's own stops are the answer.
@@ -292,24 +292,33 @@ fn magnitude(x: f32) -> f32
     if x < 0.0 { -x } else { x }
 }
 
-// Whether a number's size is from the least to the most, or it is a 0 that is taken. In f32, so that a loop does it for four at a time.
+// Whether a number lies between the two numbers of a size.
+fn lies_within(most: f32, x: f32) -> bool
+    ensures { λ r. ⌜ r ≡ pick (le (neg most) x) (le x most) false ⌝ }
+{
+    if -most <= x {
+        return x <= most;
+    }
+    false
+}
+
+// Whether a number's size is from the least to the most; where zeros are taken the least is 0. In f32, so that a loop does it for four at a time.
 fn in_range(least: f32, most: f32, zeros: bool, x: f32) -> bool
+    requires { ⌜ (zeros ≡ true → UpTo least most) ⌝ }
     ensures { λ r. ⌜ r ≡ inRange (between least most zeros) x ⌝ }
 {
+    if zeros {
+        return lies_within(most, x);
+    }
     let size = magnitude(x);
     if size <= most {
-        if size >= least {
-            return true;
-        }
-        if size == 0.0 {
-            return zeros;
-        }
-        return false;
+        return size >= least;
     }
     false
 }
 
 fn one_outside(least: f32, most: f32, zeros: bool, x: f32) -> u32
+    requires { ⌜ (zeros ≡ true → UpTo least most) ⌝ }
     ensures { λ r. ⌜ r ≡ miss (inRange (between least most zeros)) x ⌝ }
 {
     if in_range(least, most, zeros, x) {
@@ -327,6 +336,7 @@ fn worse_of(one: u32, other: u32) -> u32
 
 // Whether every number of a column is in a range.
 fn column_taken(least: f32, most: f32, zeros: bool, column: &[f32]) -> bool
+    requires { ⌜ (zeros ≡ true → UpTo least most) ⌝ }
     ensures { λ r. ⌜ r ≡ allIn (between least most zeros) (now (column .entry)) ⌝ }
 {
     let mut worst: u32 = 0;
@@ -340,6 +350,7 @@ fn column_taken(least: f32, most: f32, zeros: bool, column: &[f32]) -> bool
 
 // What a list of beats and of values in a range answers by itself.
 fn pair_number(least: f32, most: f32, zeros: bool, beats: &[f32], values: &[f32]) -> u32
+    requires { ⌜ (zeros ≡ true → UpTo least most) ⌝ }
     ensures { λ r. ⌜ r ≡ listNumber (rangeOf Kind.Beat) (between least most zeros) (now (beats .entry)) (now (values .entry)) ⌝ }
 {
     if beats.len() > limits::MOST_ENTRIES {

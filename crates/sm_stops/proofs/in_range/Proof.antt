@@ -1,32 +1,36 @@
--- `sm_stops::in_range` is `inRange`, test by test. Assumes nothing.
-use Rattle.sm_stops.proofs.WorstSoFar.{nowhere}
-use Rattle.limits.specs.Numbers.{inRange}
-use lib.Ieee.{ofBits, lt, inf}
-use mathlib.Core.Bool.{false}
-use mathlib.Core.Path.{_≡_, refl, sym, _∙_}
-use Rattle.picks.proofs.Rules.{flags}
+-- `sm_stops::in_range` is `inRange`. Assumes nothing.
+use mathlib.Core.Bool.{true, false}
+use mathlib.Core.Path.{_≡_, sym, _∙_}
+use lib.Ieee.{lt, le, eq, inf}
+use Rattle.limits.specs.Numbers.{inRange, nothing}
+use Rattle.sm_stops.proofs.BetweenEnds.{between-ends, sizes-alone}
 use borrow.Author.Needs.{needs}
 use Rattle.sm_stops.proofs.in_range.Statement.{statement}
 use Rattle.sm_stops.proofs.in_range.Tie as tie
 
+lies-within-requires : tie.Need-lies-within-requires
+lies-within-requires c κs = search needs
+
+returns : tie.Need-returns
+returns c =
+    let start = c .before .before in
+    rw (c .before .if1 .taken) (c .lies-within .ensures ∙ sym (between-ends (start .args .least) (start .args .most) (start .args .x) (start .pre (c .before .if1 .taken))))
+
 magnitude-requires : tie.Need-magnitude-requires
 magnitude-requires c κs = search needs
 
-returns : tie.Need-returns
-unfolding inRange ofBits
-returns c = rw (← c .before .before .magnitude .ensures) (search flags depth 8)
-
 returns-2 : tie.Need-returns-2
-unfolding inRange ofBits
-returns-2 c = rw (← c .before .before .before .magnitude .ensures) (search flags depth 8)
+unfolding inRange
+returns-2 c =
+    let size = c .before .magnitude .result in
+    rw (← c .before .magnitude .ensures, c .before .before .if1 .left, c .if2 .taken) (sizes-alone true (le (c .before .before .before .args .least) size) (eq size nothing) false)
 
 returns-3 : tie.Need-returns-3
-unfolding inRange ofBits
-returns-3 c = rw (← c .before .before .before .magnitude .ensures) (search flags depth 8)
-
-returns-4 : tie.Need-returns-4
 unfolding inRange
-returns-4 c = rw (← c .before .magnitude .ensures, c .if1 .left) (sym (nowhere (lt (c .before .magnitude .result) (inf false))))
+returns-3 c =
+    let size = c .before .magnitude .result in
+    rw (← c .before .magnitude .ensures, c .before .before .if1 .left, c .if2 .left) (sizes-alone false false false (lt size (inf false)))
 
 pub in-range-spec : {M : Type 1} → statement M
-in-range-spec = tie.close (tie.spec magnitude-requires returns returns-2 returns-3 returns-4)
+in-range-spec =
+    tie.close (tie.spec lies-within-requires returns magnitude-requires returns-2 returns-3)

@@ -1,3 +1,8 @@
+use Rattle.picks.specs.Pick.{pick}
+use native.Mathlib.Omega.{arith}
+use Prim.Native.Nat.{ℕ}
+use mathlib.Core.Bool.{Bool}
+use mathlib.Core.Path.{_≡_, refl, ap}
 -- `sm_stops::lists_number` is `listsNumber`. Assumes nothing.
 use Rattle.sm_stops.specs.Filling.{listsNumber}
 use lib.Ieee.{ofBits}
@@ -6,16 +11,18 @@ use Rattle.sm_stops.proofs.lists_number.Statement.{statement}
 use Rattle.sm_stops.proofs.lists_number.Tie as tie
 
 pair-number-requires : tie.Need-pair-number-requires
-pair-number-requires c κs = search needs
+pair-number-requires c κs = λ e. let z : _≡_ {A = ℕ} 0 1 = ap (λ (t : Bool). pick t 1 0) e in absurd (omega arith)
 
 flat-number-requires : tie.Need-flat-number-requires
 flat-number-requires c κs = search needs
 
 pair-number-requires-2 : tie.Need-pair-number-requires-2
-pair-number-requires-2 c κs = search needs
+unfolding ofBits
+pair-number-requires-2 c κs = λ e. record { exponent = 50; none = refl; end = refl }
 
 pair-number-requires-3 : tie.Need-pair-number-requires-3
-pair-number-requires-3 c κs = search needs
+unfolding ofBits
+pair-number-requires-3 c κs = λ e. record { exponent = 30; none = refl; end = refl }
 
 work-number-requires : tie.Need-work-number-requires
 work-number-requires c κs = search needs

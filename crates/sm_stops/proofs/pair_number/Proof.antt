@@ -1,3 +1,4 @@
+use mathlib.Core.Path.{_≡_, refl}
 -- `sm_stops::pair_number` is `listNumber`, test by test. Assumes nothing.
 use Rattle.limits.specs.Refusals.{listNumber}
 use lib.Ieee.{ofBits}
@@ -19,7 +20,8 @@ unfolding listNumber
 returns-3 c = search flags depth 9
 
 column-taken-requires : tie.Need-column-taken-requires
-column-taken-requires c κs = search needs
+unfolding ofBits
+column-taken-requires c κs = λ e. record { exponent = 16; none = refl; end = refl }
 
 returns-4 : tie.Need-returns-4
 unfolding listNumber ofBits
