@@ -1,5 +1,7 @@
 pub mod RowsRise
 pub mod FoundEntries
+pub mod HeldPlaces
+pub mod HeldSpans
 pub mod UsableLists
 pub mod ManyRows
 pub mod Sentences

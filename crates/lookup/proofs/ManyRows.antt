@@ -1,4 +1,4 @@
--- Many rows: a cursor goes on or restarts, every row is tested, and the outcome. Assumes nothing.
+-- Many rows: the outcome. Assumes nothing.
 use Prim.Native.Nat.{ℕ, suc, _+_, _≤_, _<_}
 use mathlib.Core.Path.{_≡_, refl, sym, ap, _∙_}
 use mathlib.Core.Bool.{Bool, true, false}
@@ -21,23 +21,6 @@ use Rattle.columns.specs.Each.{laidEach}
 use Rattle.columns.proofs.EachOverFront.{each-over-front}
 use Rattle.lookup.specs.Lookups.{byte, Judged}
 use Rattle.lookup.specs.Finding.{Passed}
-
--- what a cursor passed for an earlier row, it has passed for a later one; and nothing where it restarts
-pub resumed : (key last n : ℕ) (beats : List Float) (from : ℕ) → Passed last beats n → from ≡ pick (ltb key last) 0 n → Passed key beats from
-resumed key last n beats from p e =
-    ⊎-elim
-    (λ t. let none : from ≡ 0 = rw (lt-ltb key last t) at e in (omega arith, λ place h. absurd (omega arith)))
-    (λ t. let same : from ≡ n = rw (le-ltb key last t) at e in (omega (arith, p .0), λ place h. omega (arith, p .1 place (omega arith))))
-    (below? key last)
-
-module _ {A : Type 0} (test : A → Bool) (list : List A) (i : ℕ) where
-  pub every-turn : (other : A) (t : Bool) → i < length list → test (getD list i other) ≡ t → every test (drop i list) ≡ pick t (every test (drop (i + 1) list)) false
-  unfolding every
-  every-turn other t h e = rw (add-one i, drop-cons list i other h, e)
-
-  pub every-end : length list ≤ i → every test (drop i list) ≡ true
-  unfolding every
-  every-end h = rw (drop-of-length-le list h)
 
 -- ---- the outcome
 module _ (tests : ℕ) (judge : ℤ → Bool) (rows : List ℤ) (old : List ℕ) where

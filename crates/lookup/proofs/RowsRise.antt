@@ -3,15 +3,18 @@ use Prim.Native.Nat.{ℕ, zero, suc, _+_, _≤_, _<_}
 use mathlib.Core.Path.{_≡_, refl, sym, ap, _∙_}
 use mathlib.Core.Bool.{Bool, true, false}
 use mathlib.Core.List.{List, [], _∷_}
+use mathlib.Core.Logic.{⊎-elim}
 use native.Mathlib.Omega.{arith}
 use native.Mathlib.Numerals.{add-one}
-use borrow.Author.Tests.{ltb-true, lt-ltb, le-ltb}
+use borrow.Author.Tests.{ltb-true, lt-ltb, le-ltb, ne-eqb}
+use lib.Dec.{ltb, eqb}
 use lib.ListN.{length, drop, getD, length-drop}
 use lib.Seq.{drop-cons}
 use lib.Ieee.{Float, nan}
 use Rattle.picks.specs.Pick.{pick}
+use Rattle.order.proofs.Compare.{below?}
 use Rattle.lookup.specs.Lookups.{keyOf, isBelow, rowsRise}
-use Rattle.lookup.specs.Finding.{keyAt}
+use Rattle.lookup.specs.Finding.{keyAt, notAbove}
 
 pub never : {A : Type 0} → false ≡ true → A
 never e = let z : _≡_ {A = ℕ} 0 1 = ap (λ (t : Bool). pick t 1 0) e in absurd (omega arith)
@@ -65,3 +68,43 @@ module _ (beats : List Float) (i : ℕ) where
       go [] e = refl
       go (x ∷ []) e = refl
       go (x ∷ y ∷ l) e = absurd (omega arith)
+
+-- ---- the falls of the first i pairs counted
+pub record Falls (beats : List Float) (i falls : ℕ) : Type 0 where
+  pub few : falls ≤ i
+  pub same : pick (eqb falls 0) (rowsRise (drop i beats)) false ≡ rowsRise beats
+
+module _ (beats : List Float) where
+  pub falls-first : Falls beats 0 0
+  falls-first = record { few = omega arith; same = refl }
+
+  pub few-fall : (i : ℕ) → notAbove (getD beats i nan) (getD beats (i + 1) nan) ≤ 1
+  few-fall i = go (ltb (keyAt beats i) (keyAt beats (i + 1)))
+    where
+      go : (t : Bool) → pick t 0 1 ≤ 1
+      go true = omega arith
+      go false = omega arith
+
+  module _ (i falls : ℕ) (known : Falls beats i falls) where
+    dropped : (t : Bool) → pick t false false ≡ false
+    dropped true = refl
+    dropped false = refl
+
+    pub falls-turn : (one : ℕ) → i + 1 < length beats → one ≡ notAbove (getD beats i nan) (getD beats (i + 1) nan) → Falls beats (i + 1) (falls + one)
+    falls-turn one h e =
+        ⊎-elim
+        (λ t.
+        let none : falls + one ≡ falls = omega (arith, rw (lt-ltb (keyAt beats i) (keyAt beats (i + 1)) t) at e) in
+        record { few = omega (arith, known .few); same = rw none (rw (rise-turn beats i h t) at (known .same)) })
+        (λ t.
+        let more : falls + one ≡ suc falls = omega (arith, rw (le-ltb (keyAt beats i) (keyAt beats (i + 1)) t) at e) in
+        let fell : false ≡ rowsRise beats = sym (dropped (eqb falls 0)) ∙ (rw (rise-fails beats i h t) at (known .same)) in
+        record { few = omega (arith, known .few); same = rw (more, ne-eqb (suc falls) 0 (λ z. omega arith)) fell })
+        (below? (keyAt beats i) (keyAt beats (i + 1)))
+
+    whole : (t : Bool) → pick t true false ≡ t
+    whole true = refl
+    whole false = refl
+
+    pub falls-last : i ≤ length beats → length beats ≤ i + 1 → eqb falls 0 ≡ rowsRise beats
+    falls-last h k = sym (whole (eqb falls 0)) ∙ (rw (rise-end beats i h k) at (known .same))

@@ -15,7 +15,7 @@ use Rattle.limits.specs.Refusals.{listNumber}
 use Rattle.limits.proofs.NoRefusal.{lower-none}
 use Rattle.limits.proofs.ListTaken.{Taken, list-taken}
 use Rattle.lookup.specs.Lookups.{rowsRise, risingNumber, warpNumber, fakeNumber, judgableNumber}
-use Rattle.lookup.specs.Finding.{Usable}
+use Rattle.lookup.specs.Finding.{Usable, AllUsable}
 
 usable : (value : Range) (beats values : List Float) → risingNumber value beats values ≡ 0 → Usable beats values
 unfolding risingNumber
@@ -40,8 +40,8 @@ module _ (stopBeats stopValues delayBeats delayValues warpBeats warpLengths fake
   fake-usable h = usable (rangeOf Value) fakeBeats fakeLengths (lower-none _ _ h .0)
 
   pub judgable-usable : judgableNumber stopBeats stopValues delayBeats delayValues warpBeats warpLengths fakeBeats fakeLengths allowed ≡ 0
-      → Usable stopBeats stopValues × Usable delayBeats delayValues × Usable warpBeats warpLengths × Usable fakeBeats fakeLengths
+      → AllUsable stopBeats stopValues delayBeats delayValues warpBeats warpLengths fakeBeats fakeLengths
   judgable-usable h =
       let both = lower-none _ _ h in
       let warps = warp-usable (both .0) in
-      (warps .0, warps .1, warps .2, fake-usable (both .1))
+      record { stops = warps .0; delays = warps .1; warps = warps .2; fakes = fake-usable (both .1) }

@@ -3,16 +3,24 @@ use Prim.Native.Nat.{ℕ, _-_, _≤_, _<_}
 use mathlib.Core.Bool.{Bool, true, false}
 use mathlib.Core.List.{List}
 use mathlib.Core.Path.{_≡_}
-use lib.Dec.{eqb}
+use lib.Dec.{ltb, eqb}
 use lib.ListN.{length, getD}
-use lib.Ieee.{Float, nan}
+use lib.Ieee.{Float, nan, le, lt, add, binary32, binary64}
+use Rattle.ieee.specs.Narrowing.{narrow}
+use Rattle.limits.specs.Numbers.{nothing}
 use Rattle.picks.specs.Pick.{pick}
 use Rattle.lookup.specs.declared.Cursor.{Cursor}
+use Rattle.lookup.specs.declared.Place.{Place}
+use Rattle.lookup.specs.declared.Held.{Held}
 use Rattle.lookup.specs.Lookups.{keyOf, rowsRise}
 
 -- the key of the entry at a place
 abbrev pub keyAt : List Float → ℕ → ℕ
 keyAt beats place = keyOf (getD beats place nan)
+
+-- 1 where the row of a beat is not above the row of the beat before it
+abbrev pub notAbove : Float → Float → ℕ
+notAbove before beat = pick (ltb (keyOf before) (keyOf beat)) 0 1
 
 -- a list that can be looked into
 abbrev pub Usable : List Float → List Float → Type 0
@@ -41,7 +49,59 @@ pub record Between (key : ℕ) (beats : List Float) (low high : ℕ) : Type 0 wh
 abbrev pub ofLast : (Float → Float → Bool) → Bool → List Float → List Float → ℕ → Bool
 ofLast test none beats values n = pick (eqb n 0) none (test (getD beats (n - 1) nan) (getD values (n - 1) nan))
 
--- a cursor that stands where its row says
-pub record Stands (warpBeats fakeBeats : List Float) (cursor : Cursor) : Type 0 where
-  pub warps : Passed (cursor .key) warpBeats (cursor .warps)
-  pub fakes : Passed (cursor .key) fakeBeats (cursor .fakes)
+-- ---- where a row stands in a list
+
+-- the row of the last of the first n entries, and of the entry after them; the lowest and the highest key where there is none
+abbrev pub keyBefore : List Float → ℕ → ℕ
+keyBefore beats n = pick (eqb n 0) 0 (keyAt beats (n - 1))
+
+abbrev pub keyAfter : List Float → ℕ → ℕ
+keyAfter beats n = pick (ltb n (length beats)) (keyAt beats n) 4294967295
+
+-- a place whose keys are those of the entries around it
+pub record Stands (beats : List Float) (count from until : ℕ) : Type 0 where
+  pub within : count ≤ length beats
+  pub before : from ≡ keyBefore beats count
+  pub after : until ≡ keyAfter beats count
+
+abbrev pub PlaceStands : List Float → Place → Type 0
+PlaceStands beats place = Stands beats (place .count) (place .from) (place .until)
+
+-- ---- what an entry covers
+
+abbrev pub spanCovers : (start end at : Float) → Bool
+spanCovers start end at = pick (le start at) (lt at end) false
+
+-- the start and the end of the last of the first n entries; a NaN where nothing is covered
+abbrev pub startOf : List Float → ℕ → Float
+startOf beats n = pick (eqb n 0) nan (getD beats (n - 1) nan)
+
+unfoldable pub warpEnd : (beats lengths : List Float) → ℕ → Float
+warpEnd beats lengths n = pick (eqb n 0) nan (pick (lt nothing (getD lengths (n - 1) nan)) (add binary32 (getD beats (n - 1) nan) (getD lengths (n - 1) nan)) nan)
+
+unfoldable pub fakeEnd : (beats lengths : List Float) → ℕ → Float
+fakeEnd beats lengths n = pick (eqb n 0) nan (narrow (add binary64 (getD beats (n - 1) nan) (getD lengths (n - 1) nan)))
+
+-- a place that holds what its last entry covers
+pub record Holds (endOf : List Float → List Float → ℕ → Float) (beats lengths : List Float) (count from until : ℕ) (start end : Float) : Type 0 where
+  pub stands : Stands beats count from until
+  pub first : start ≡ startOf beats count
+  pub last : end ≡ endOf beats lengths count
+
+abbrev pub HeldStands : (List Float → List Float → ℕ → Float) → (beats lengths : List Float) → Held → Type 0
+HeldStands endOf beats lengths held = Holds endOf beats lengths (held .count) (held .from) (held .until) (held .start) (held .end)
+
+-- ---- the cursor
+module _ (stopBeats stopValues delayBeats delayValues warpBeats warpLengths fakeBeats fakeLengths : List Float) where
+  pub record AllUsable : Type 0 where
+    pub stops : Usable stopBeats stopValues
+    pub delays : Usable delayBeats delayValues
+    pub warps : Usable warpBeats warpLengths
+    pub fakes : Usable fakeBeats fakeLengths
+
+module _ (stopBeats delayBeats warpBeats warpLengths fakeBeats fakeLengths : List Float) (cursor : Cursor) where
+  pub record AllStand : Type 0 where
+    pub stops : PlaceStands stopBeats (cursor .stops)
+    pub delays : PlaceStands delayBeats (cursor .delays)
+    pub warps : HeldStands warpEnd warpBeats warpLengths (cursor .warps)
+    pub fakes : HeldStands fakeEnd fakeBeats fakeLengths (cursor .fakes)

@@ -11,10 +11,10 @@ ghost use Rattle.columns.specs.Each.{laidEach};
 ghost use lib.ListN.{length, getD};
 ghost use Rattle.picks.specs.Pick.{pick};
 ghost use Rattle.rows.specs.Rows.{beatOf};
-ghost use Rattle.limits.specs.Numbers.{rangeOf, inRange, every, rowIn};
+ghost use Rattle.limits.specs.Numbers.{rangeOf, inRange, every, miss, rowIn};
 ghost use Rattle.order.specs.RowKey.{rowKey};
-ghost use Rattle.lookup.specs.Lookups.{keyOf, lastPasses, isPaused, warpCovers, fakeCovers, isWarped, isFake, isJudgable, askedRow, rowsRise, risingNumber, askedNumber, warpNumber, fakeNumber, judgableNumber, looked, byte, Judged};
-ghost use Rattle.lookup.specs.Finding.{Usable, Passed, Split, Between, ofLast, Stands};
+ghost use Rattle.lookup.specs.Lookups.{keyOf, lastPasses, isPaused, isWarped, isFake, isJudgable, askedRow, rowsRise, risingNumber, askedNumber, warpNumber, fakeNumber, judgableNumber, looked, byte, Judged};
+ghost use Rattle.lookup.specs.Finding.{notAbove, Usable, AllUsable, Passed, Split, Between, keyBefore, keyAfter, Stands, PlaceStands, spanCovers, startOf, warpEnd, fakeEnd, Holds, HeldStands, AllStand};
 
 // ---- rows that rise
 
@@ -25,17 +25,32 @@ fn row_key(beat: f32) -> u32
     order::key_of_row(rows::beat_to_note_row_f32(beat))
 }
 
+// 1 where the row of a beat is not above the row of the beat before it.
+fn one_not_above(before: f32, beat: f32) -> usize
+    ensures { λ r. ⌜ r ≡ notAbove before beat ⌝ }
+{
+    if row_key(before) < row_key(beat) {
+        0
+    } else {
+        1
+    }
+}
+
+// All are counted, which a loop does for several entries at a time.
 fn rows_rise(beats: &[f32]) -> bool
     ensures { λ r. ⌜ r ≡ rowsRise (now (beats .entry)) ⌝ }
 {
+    if beats.len() == 0 {
+        return true;
+    }
+    let last = beats.len() - 1;
+    let mut falls: usize = 0;
     let mut i = 0;
-    while i + 1 < beats.len() {
-        if row_key(beats[i + 1]) <= row_key(beats[i]) {
-            return false;
-        }
+    while i < last {
+        falls += one_not_above(beats[i], beats[i + 1]);
         i += 1;
     }
-    true
+    falls == 0
 }
 
 // ---- where the entries at or before a row end
@@ -78,81 +93,175 @@ fn count_at(beats: &[f32], key: u32) -> usize
     low
 }
 
-// The same, from a place before which all are.
-fn count_on(beats: &[f32], key: u32, from: usize) -> usize
-    requires { ⌜ rowsRise (now beats) ≡ true ⌝ }
-    requires { ⌜ Passed key (now beats) from ⌝ }
-    ensures { λ r. ⌜ Split key (now (beats .entry)) r ⌝ }
+// ---- where a row stands in a list
+
+// How many entries are at or before each row from the key `from` up to the key `until`, and not at it.
+struct Place {
+    count: usize,
+    from: u32,
+    until: u32,
+}
+
+// The row of the last of the first n entries; the lowest key where there is none.
+fn key_before(beats: &[f32], n: usize) -> u32
+    requires { ⌜ n ≤ length (now beats) ⌝ }
+    ensures { λ r. ⌜ r ≡ keyBefore (now (beats .entry)) n ⌝ }
 {
-    let mut n = from;
-    while n < beats.len() {
-        if row_key(beats[n]) > key {
-            return n;
+    if n == 0 {
+        return 0;
+    }
+    row_key(beats[n - 1])
+}
+
+// The row of the entry after them; the highest key where there is none.
+fn key_after(beats: &[f32], n: usize) -> u32
+    ensures { λ r. ⌜ r ≡ keyAfter (now (beats .entry)) n ⌝ }
+{
+    if n < beats.len() {
+        return row_key(beats[n]);
+    }
+    4294967295
+}
+
+fn place_after(beats: &[f32], n: usize) -> Place
+    requires { ⌜ n ≤ length (now beats) ⌝ }
+    ensures { λ r. ⌜ (r .count ≡ n) × PlaceStands (now (beats .entry)) r ⌝ }
+{
+    Place {
+        count: n,
+        from: key_before(beats, n),
+        until: key_after(beats, n),
+    }
+}
+
+// The place of a row, by halves.
+fn place_of(beats: &[f32], key: u32) -> Place
+    requires { ⌜ rowsRise (now beats) ≡ true ⌝ }
+    ensures { λ r. ⌜ PlaceStands (now (beats .entry)) r × Split key (now (beats .entry)) (r .count) ⌝ }
+{
+    place_after(beats, count_at(beats, key))
+}
+
+// The same, on from a place that it is not before.
+fn place_on(beats: &[f32], count: usize, from: u32, until: u32, key: u32) -> Place
+    requires { ⌜ rowsRise (now beats) ≡ true ⌝ }
+    requires { ⌜ Stands (now beats) count from until × (from ≤ key) ⌝ }
+    ensures { λ r. ⌜ PlaceStands (now (beats .entry)) r × Split key (now (beats .entry)) (r .count) ⌝ }
+{
+    let mut n = count;
+    let mut before = from;
+    let mut next = until;
+    while next <= key {
+        if n == beats.len() {
+            return Place {
+                count: n,
+                from: before,
+                until: next,
+            };
         }
         n += 1;
+        before = next;
+        next = key_after(beats, n);
     }
-    n
+    Place {
+        count: n,
+        from: before,
+        until: next,
+    }
+}
+
+// The same, from any place.
+fn move_place(beats: &[f32], count: usize, from: u32, until: u32, key: u32) -> Place
+    requires { ⌜ rowsRise (now beats) ≡ true ⌝ }
+    requires { ⌜ Stands (now beats) count from until ⌝ }
+    ensures { λ r. ⌜ PlaceStands (now (beats .entry)) r × Split key (now (beats .entry)) (r .count) ⌝ }
+{
+    if key < from {
+        return place_of(beats, key);
+    }
+    place_on(beats, count, from, until, key)
+}
+
+// The same: most rows have the place of the row before them, which is seen here, so that only what moves is a call.
+fn reach(beats: &[f32], count: usize, from: u32, until: u32, key: u32) -> Place
+    requires { ⌜ rowsRise (now beats) ≡ true ⌝ }
+    requires { ⌜ Stands (now beats) count from until ⌝ }
+    ensures { λ r. ⌜ PlaceStands (now (beats .entry)) r × Split key (now (beats .entry)) (r .count) ⌝ }
+{
+    if key < from {
+        return move_place(beats, count, from, until, key);
+    }
+    if key >= until {
+        return move_place(beats, count, from, until, key);
+    }
+    Place {
+        count: count,
+        from: from,
+        until: until,
+    }
 }
 
 // ---- an entry's test
 
-// Whether a warp covers a beat.
-fn warp_covers(at: f32, beat: f32, length: f32) -> bool
-    ensures { λ r. ⌜ r ≡ warpCovers at beat length ⌝ }
+// Whether a beat is from the start on and before the end.
+fn covers(start: f32, end: f32, at: f32) -> bool
+    ensures { λ r. ⌜ r ≡ spanCovers start end at ⌝ }
 {
-    if length > 0.0 {
-        if beat <= at {
-            return at < beat + length;
-        }
-        return false;
+    if start <= at {
+        return at < end;
     }
     false
 }
 
-// Whether a fake covers a beat.
-fn fake_covers(at: f32, beat: f32, length: f32) -> bool
-    ensures { λ r. ⌜ r ≡ fakeCovers at beat length ⌝ }
+// The beat of the last of the first n entries; a NaN, from which on there is no beat, where there is none.
+fn start_of(beats: &[f32], n: usize) -> f32
+    requires { ⌜ n ≤ length (now beats) ⌝ }
+    ensures { λ r. ⌜ r ≡ startOf (now (beats .entry)) n ⌝ }
 {
-    if beat <= at {
-        return at
-            < ieee::narrow_f64(
-                std::num::f32_to_f64_with_nan(beat) + std::num::f32_to_f64_with_nan(length),
-            );
+    if n == 0 {
+        return 0.0 / 0.0;
     }
-    false
+    beats[n - 1]
 }
 
-// Whether the last of the first n warps covers the beat.
-fn last_warp_covers(warp_beats: &[f32], warp_lengths: &[f32], n: usize, at: f32) -> bool
+// The end of the last of the first n warps; a NaN, before which there is no beat, where it covers nothing.
+fn warp_end(warp_beats: &[f32], warp_lengths: &[f32], n: usize) -> f32
     requires { ⌜ (length (now «warp_beats») ≡ length (now «warp_lengths»)) × (n ≤ length (now «warp_beats»)) ⌝ }
-    ensures { λ r. ⌜ r ≡ ofLast (warpCovers at) false (now («warp_beats» .entry)) (now («warp_lengths» .entry)) n ⌝ }
+    ensures { λ r. ⌜ r ≡ warpEnd (now («warp_beats» .entry)) (now («warp_lengths» .entry)) n ⌝ }
 {
     if n == 0 {
-        return false;
+        return 0.0 / 0.0;
     }
-    warp_covers(at, warp_beats[n - 1], warp_lengths[n - 1])
+    if warp_lengths[n - 1] > 0.0 {
+        return warp_beats[n - 1] + warp_lengths[n - 1];
+    }
+    0.0 / 0.0
 }
 
-fn last_fake_covers(fake_beats: &[f32], fake_lengths: &[f32], n: usize, at: f32) -> bool
+// The end of the last of the first n fakes.
+fn fake_end(fake_beats: &[f32], fake_lengths: &[f32], n: usize) -> f32
     requires { ⌜ (length (now «fake_beats») ≡ length (now «fake_lengths»)) × (n ≤ length (now «fake_beats»)) ⌝ }
-    ensures { λ r. ⌜ r ≡ ofLast (fakeCovers at) false (now («fake_beats» .entry)) (now («fake_lengths» .entry)) n ⌝ }
+    ensures { λ r. ⌜ r ≡ fakeEnd (now («fake_beats» .entry)) (now («fake_lengths» .entry)) n ⌝ }
 {
     if n == 0 {
-        return false;
+        return 0.0 / 0.0;
     }
-    fake_covers(at, fake_beats[n - 1], fake_lengths[n - 1])
+    ieee::narrow_f64(
+        std::num::f32_to_f64_with_nan(fake_beats[n - 1])
+            + std::num::f32_to_f64_with_nan(fake_lengths[n - 1]),
+    )
 }
 
-// Whether an entry above 0 is on a row.
-fn is_paused(beats: &[f32], values: &[f32], key: u32) -> bool
-    requires { ⌜ Usable (now beats) (now values) ⌝ }
+// Whether an entry above 0 is on the row of a place.
+fn is_paused(beats: &[f32], values: &[f32], place: Place, key: u32) -> bool
+    requires { ⌜ Usable (now beats) (now values) × PlaceStands (now beats) place × Split key (now beats) (place .count) ⌝ }
     ensures { λ r. ⌜ r ≡ isPaused key (now (beats .entry)) (now (values .entry)) ⌝ }
 {
-    let n = count_at(beats, key);
-    if n == 0 {
+    if place.from != key {
         return false;
     }
-    if row_key(beats[n - 1]) != key {
+    let n = place.count;
+    if n == 0 {
         return false;
     }
     values[n - 1] > 0.0
@@ -164,15 +273,18 @@ fn is_unpaused(
     stop_values: &[f32],
     delay_beats: &[f32],
     delay_values: &[f32],
+    stops: Place,
+    delays: Place,
     key: u32,
 ) -> bool
-    requires { ⌜ Usable (now «stop_beats») (now «stop_values») × Usable (now «delay_beats») (now «delay_values») ⌝ }
+    requires { ⌜ Usable (now «stop_beats») (now «stop_values») × PlaceStands (now «stop_beats») stops × Split key (now «stop_beats») (stops .count) ⌝ }
+    requires { ⌜ Usable (now «delay_beats») (now «delay_values») × PlaceStands (now «delay_beats») delays × Split key (now «delay_beats») (delays .count) ⌝ }
     ensures { λ r. ⌜ r ≡ pick (isPaused key (now («stop_beats» .entry)) (now («stop_values» .entry))) false (not (isPaused key (now («delay_beats» .entry)) (now («delay_values» .entry)))) ⌝ }
 {
-    if is_paused(stop_beats, stop_values, key) {
+    if is_paused(stop_beats, stop_values, stops, key) {
         return false;
     }
-    !is_paused(delay_beats, delay_values, key)
+    !is_paused(delay_beats, delay_values, delays, key)
 }
 
 // ---- one question, of lists that can be looked into
@@ -191,13 +303,20 @@ fn warped_after(
     requires { ⌜ Usable (now «stop_beats») (now «stop_values») × Usable (now «delay_beats») (now «delay_values») × Usable (now «warp_beats») (now «warp_lengths») × Split (rowKey row) (now «warp_beats») n ⌝ }
     ensures { λ r. ⌜ r ≡ isWarped (now («stop_beats» .entry)) (now («stop_values» .entry)) (now («delay_beats» .entry)) (now («delay_values» .entry)) (now («warp_beats» .entry)) (now («warp_lengths» .entry)) row ⌝ }
 {
-    if last_warp_covers(warp_beats, warp_lengths, n, rows::note_row_to_beat_f32(row)) {
+    let key = order::key_of_row(row);
+    if covers(
+        start_of(warp_beats, n),
+        warp_end(warp_beats, warp_lengths, n),
+        rows::note_row_to_beat_f32(row),
+    ) {
         return is_unpaused(
             stop_beats,
             stop_values,
             delay_beats,
             delay_values,
-            order::key_of_row(row),
+            place_of(stop_beats, key),
+            place_of(delay_beats, key),
+            key,
         );
     }
     false
@@ -208,7 +327,11 @@ fn fake_after(fake_beats: &[f32], fake_lengths: &[f32], n: usize, row: i32) -> b
     requires { ⌜ Usable (now «fake_beats») (now «fake_lengths») × Split (rowKey row) (now «fake_beats») n ⌝ }
     ensures { λ r. ⌜ r ≡ isFake (now («fake_beats» .entry)) (now («fake_lengths» .entry)) row ⌝ }
 {
-    last_fake_covers(fake_beats, fake_lengths, n, rows::note_row_to_beat_f32(row))
+    covers(
+        start_of(fake_beats, n),
+        fake_end(fake_beats, fake_lengths, n),
+        rows::note_row_to_beat_f32(row),
+    )
 }
 
 fn judgable_after(
@@ -224,7 +347,7 @@ fn judgable_after(
     fakes: usize,
     row: i32,
 ) -> bool
-    requires { ⌜ Usable (now «stop_beats») (now «stop_values») × Usable (now «delay_beats») (now «delay_values») × Usable (now «warp_beats») (now «warp_lengths») × Usable (now «fake_beats») (now «fake_lengths») ⌝ }
+    requires { ⌜ AllUsable (now «stop_beats») (now «stop_values») (now «delay_beats») (now «delay_values») (now «warp_beats») (now «warp_lengths») (now «fake_beats») (now «fake_lengths») ⌝ }
     requires { ⌜ Split (rowKey row) (now «warp_beats») warps × Split (rowKey row) (now «fake_beats») fakes ⌝ }
     ensures { λ r. ⌜ r ≡ isJudgable (now («stop_beats» .entry)) (now («stop_values» .entry)) (now («delay_beats» .entry)) (now («delay_values» .entry)) (now («warp_beats» .entry)) (now («warp_lengths» .entry)) (now («fake_beats» .entry)) (now («fake_lengths» .entry)) row ⌝ }
 {
@@ -575,25 +698,166 @@ pub fn is_judgable_at_beat(
 
 // ---- many rows
 
-// How many warps and fakes are at or before a row, that row as a key, and its answer.
-struct Cursor {
-    warps: usize,
-    fakes: usize,
-    key: u32,
-    answer: u8,
+// A place in warps or fakes, and what the last entry covers.
+struct Held {
+    count: usize,
+    from: u32,
+    until: u32,
+    start: f32,
+    end: f32,
 }
 
-// Where a cursor goes on from: a row that falls restarts it.
-fn start_of(next: usize, last: u32, key: u32) -> usize
-    ensures { λ r. ⌜ r ≡ pick (ltb key last) 0 next ⌝ }
-{
-    if key < last { 0 } else { next }
+// The place of a row in each list, and its answer. Stops and delays are only looked into in a warp.
+struct Cursor {
+    stops: Place,
+    delays: Place,
+    warps: Held,
+    fakes: Held,
+    answer: u8,
 }
 
 fn byte_of(answer: bool) -> u8
     ensures { λ r. ⌜ r ≡ byte answer ⌝ }
 {
     if answer { 1 } else { 0 }
+}
+
+fn warp_at(warp_beats: &[f32], warp_lengths: &[f32], count: usize, from: u32, until: u32) -> Held
+    requires { ⌜ (length (now «warp_beats») ≡ length (now «warp_lengths»)) × Stands (now «warp_beats») count from until ⌝ }
+    ensures { λ r. ⌜ (r .count ≡ count) × HeldStands warpEnd (now («warp_beats» .entry)) (now («warp_lengths» .entry)) r ⌝ }
+{
+    Held {
+        count: count,
+        from: from,
+        until: until,
+        start: start_of(warp_beats, count),
+        end: warp_end(warp_beats, warp_lengths, count),
+    }
+}
+
+// The place of a row in warps, from the place of another row.
+fn reach_warp(
+    warp_beats: &[f32],
+    warp_lengths: &[f32],
+    count: usize,
+    from: u32,
+    until: u32,
+    start: f32,
+    end: f32,
+    key: u32,
+) -> Held
+    requires { ⌜ Usable (now «warp_beats») (now «warp_lengths») × Holds warpEnd (now «warp_beats») (now «warp_lengths») count from until start end ⌝ }
+    ensures { λ r. ⌜ HeldStands warpEnd (now («warp_beats» .entry)) (now («warp_lengths» .entry)) r × Split key (now («warp_beats» .entry)) (r .count) ⌝ }
+{
+    let place = reach(warp_beats, count, from, until, key);
+    if place.count == count {
+        return Held {
+            count: count,
+            from: place.from,
+            until: place.until,
+            start: start,
+            end: end,
+        };
+    }
+    warp_at(
+        warp_beats,
+        warp_lengths,
+        place.count,
+        place.from,
+        place.until,
+    )
+}
+
+fn fake_at(fake_beats: &[f32], fake_lengths: &[f32], count: usize, from: u32, until: u32) -> Held
+    requires { ⌜ (length (now «fake_beats») ≡ length (now «fake_lengths»)) × Stands (now «fake_beats») count from until ⌝ }
+    ensures { λ r. ⌜ (r .count ≡ count) × HeldStands fakeEnd (now («fake_beats» .entry)) (now («fake_lengths» .entry)) r ⌝ }
+{
+    Held {
+        count: count,
+        from: from,
+        until: until,
+        start: start_of(fake_beats, count),
+        end: fake_end(fake_beats, fake_lengths, count),
+    }
+}
+
+// The place of a row in fakes, from the place of another row.
+fn reach_fake(
+    fake_beats: &[f32],
+    fake_lengths: &[f32],
+    count: usize,
+    from: u32,
+    until: u32,
+    start: f32,
+    end: f32,
+    key: u32,
+) -> Held
+    requires { ⌜ Usable (now «fake_beats») (now «fake_lengths») × Holds fakeEnd (now «fake_beats») (now «fake_lengths») count from until start end ⌝ }
+    ensures { λ r. ⌜ HeldStands fakeEnd (now («fake_beats» .entry)) (now («fake_lengths» .entry)) r × Split key (now («fake_beats» .entry)) (r .count) ⌝ }
+{
+    let place = reach(fake_beats, count, from, until, key);
+    if place.count == count {
+        return Held {
+            count: count,
+            from: place.from,
+            until: place.until,
+            start: start,
+            end: end,
+        };
+    }
+    fake_at(
+        fake_beats,
+        fake_lengths,
+        place.count,
+        place.from,
+        place.until,
+    )
+}
+
+// Whether a row is neither warped nor fake.
+fn neither(warped: bool, fake: bool) -> bool
+    ensures { λ r. ⌜ r ≡ pick warped false (not fake) ⌝ }
+{
+    if warped {
+        return false;
+    }
+    !fake
+}
+
+fn first_cursor(
+    stop_beats: &[f32],
+    stop_values: &[f32],
+    delay_beats: &[f32],
+    delay_values: &[f32],
+    warp_beats: &[f32],
+    warp_lengths: &[f32],
+    fake_beats: &[f32],
+    fake_lengths: &[f32],
+) -> Cursor
+    requires { ⌜ AllUsable (now «stop_beats») (now «stop_values») (now «delay_beats») (now «delay_values») (now «warp_beats») (now «warp_lengths») (now «fake_beats») (now «fake_lengths») ⌝ }
+    ensures { λ r. ⌜ AllStand (now («stop_beats» .entry)) (now («delay_beats» .entry)) (now («warp_beats» .entry)) (now («warp_lengths» .entry)) (now («fake_beats» .entry)) (now («fake_lengths» .entry)) r ⌝ }
+{
+    let warps = place_after(warp_beats, 0);
+    let fakes = place_after(fake_beats, 0);
+    Cursor {
+        stops: place_after(stop_beats, 0),
+        delays: place_after(delay_beats, 0),
+        warps: warp_at(
+            warp_beats,
+            warp_lengths,
+            warps.count,
+            warps.from,
+            warps.until,
+        ),
+        fakes: fake_at(
+            fake_beats,
+            fake_lengths,
+            fakes.count,
+            fakes.from,
+            fakes.until,
+        ),
+        answer: 0,
+    }
 }
 
 fn judge(
@@ -608,31 +872,73 @@ fn judge(
     cursor: Cursor,
     row: i32,
 ) -> Cursor
-    requires { ⌜ Usable (now «stop_beats») (now «stop_values») × Usable (now «delay_beats») (now «delay_values») × Usable (now «warp_beats») (now «warp_lengths») × Usable (now «fake_beats») (now «fake_lengths») ⌝ }
-    requires { ⌜ Stands (now «warp_beats») (now «fake_beats») cursor ⌝ }
-    ensures { λ r. ⌜ Stands (now («warp_beats» .entry)) (now («fake_beats» .entry)) r × (r .answer ≡ byte (isJudgable (now («stop_beats» .entry)) (now («stop_values» .entry)) (now («delay_beats» .entry)) (now («delay_values» .entry)) (now («warp_beats» .entry)) (now («warp_lengths» .entry)) (now («fake_beats» .entry)) (now («fake_lengths» .entry)) row)) ⌝ }
+    requires { ⌜ AllUsable (now «stop_beats») (now «stop_values») (now «delay_beats») (now «delay_values») (now «warp_beats») (now «warp_lengths») (now «fake_beats») (now «fake_lengths») ⌝ }
+    requires { ⌜ AllStand (now «stop_beats») (now «delay_beats») (now «warp_beats») (now «warp_lengths») (now «fake_beats») (now «fake_lengths») cursor ⌝ }
+    ensures { λ r. ⌜ AllStand (now («stop_beats» .entry)) (now («delay_beats» .entry)) (now («warp_beats» .entry)) (now («warp_lengths» .entry)) (now («fake_beats» .entry)) (now («fake_lengths» .entry)) r × (r .answer ≡ byte (isJudgable (now («stop_beats» .entry)) (now («stop_values» .entry)) (now («delay_beats» .entry)) (now («delay_values» .entry)) (now («warp_beats» .entry)) (now («warp_lengths» .entry)) (now («fake_beats» .entry)) (now («fake_lengths» .entry)) row)) ⌝ }
 {
     let key = order::key_of_row(row);
-    let warps = count_on(warp_beats, key, start_of(cursor.warps, cursor.key, key));
-    let fakes = count_on(fake_beats, key, start_of(cursor.fakes, cursor.key, key));
-    let yes = judgable_after(
+    let at = rows::note_row_to_beat_f32(row);
+    let warps = reach_warp(
+        warp_beats,
+        warp_lengths,
+        cursor.warps.count,
+        cursor.warps.from,
+        cursor.warps.until,
+        cursor.warps.start,
+        cursor.warps.end,
+        key,
+    );
+    let fakes = reach_fake(
+        fake_beats,
+        fake_lengths,
+        cursor.fakes.count,
+        cursor.fakes.from,
+        cursor.fakes.until,
+        cursor.fakes.start,
+        cursor.fakes.end,
+        key,
+    );
+    let is_fake = covers(fakes.start, fakes.end, at);
+    if !covers(warps.start, warps.end, at) {
+        let stops = cursor.stops;
+        let delays = cursor.delays;
+        return Cursor {
+            stops: stops,
+            delays: delays,
+            warps: warps,
+            fakes: fakes,
+            answer: byte_of(!is_fake),
+        };
+    }
+    let stops = reach(
+        stop_beats,
+        cursor.stops.count,
+        cursor.stops.from,
+        cursor.stops.until,
+        key,
+    );
+    let delays = reach(
+        delay_beats,
+        cursor.delays.count,
+        cursor.delays.from,
+        cursor.delays.until,
+        key,
+    );
+    let unpaused = is_unpaused(
         stop_beats,
         stop_values,
         delay_beats,
         delay_values,
-        warp_beats,
-        warp_lengths,
-        fake_beats,
-        fake_lengths,
-        warps,
-        fakes,
-        row,
+        stops,
+        delays,
+        key,
     );
     Cursor {
+        stops: stops,
+        delays: delays,
         warps: warps,
         fakes: fakes,
-        key: key,
-        answer: byte_of(yes),
+        answer: byte_of(neither(unpaused, is_fake)),
     }
 }
 
@@ -648,16 +954,20 @@ fn judge_rows(
     rows: &[i32],
     out: &mut [u8],
 )
-    requires { ⌜ Usable (now «stop_beats») (now «stop_values») × Usable (now «delay_beats») (now «delay_values») × Usable (now «warp_beats») (now «warp_lengths») × Usable (now «fake_beats») (now «fake_lengths») ⌝ }
+    requires { ⌜ AllUsable (now «stop_beats») (now «stop_values») (now «delay_beats») (now «delay_values») (now «warp_beats») (now «warp_lengths») (now «fake_beats») (now «fake_lengths») ⌝ }
     requires { ⌜ length (now rows) ≤ length (now out) ⌝ }
     ensures { λ _. ⌜ now (out .exit) ≡ laidEach (λ (asked : ℤ). byte (isJudgable (now («stop_beats» .entry)) (now («stop_values» .entry)) (now («delay_beats» .entry)) (now («delay_values» .entry)) (now («warp_beats» .entry)) (now («warp_lengths» .entry)) (now («fake_beats» .entry)) (now («fake_lengths» .entry)) asked)) (now (rows .entry)) (now (out .entry)) ⌝ }
 {
-    let mut cursor = Cursor {
-        warps: 0,
-        fakes: 0,
-        key: 0,
-        answer: 0,
-    };
+    let mut cursor = first_cursor(
+        stop_beats,
+        stop_values,
+        delay_beats,
+        delay_values,
+        warp_beats,
+        warp_lengths,
+        fake_beats,
+        fake_lengths,
+    );
     let mut i = 0;
     while i < rows.len() {
         cursor = judge(
@@ -677,18 +987,23 @@ fn judge_rows(
     }
 }
 
+fn one_beyond(row: i32) -> usize
+    ensures { λ r. ⌜ r ≡ miss rowIn row ⌝ }
+{
+    if limits::row_taken(row) { 0 } else { 1 }
+}
+
 // Whether every row is within the limit.
 fn rows_taken(rows: &[i32]) -> bool
     ensures { λ r. ⌜ r ≡ every rowIn (now (rows .entry)) ⌝ }
 {
+    let mut beyond: usize = 0;
     let mut i = 0;
     while i < rows.len() {
-        if !limits::row_taken(rows[i]) {
-            return false;
-        }
+        beyond += one_beyond(rows[i]);
         i += 1;
     }
-    true
+    beyond == 0
 }
 
 // 1 for each row that is judgable and 0 for each that is not, over the front of the room. Refused as the single question is, with 3 where

@@ -10,9 +10,8 @@ use lib.Dec.{ltb}
 use lib.ListN.{length, getD}
 use lib.Ieee.{Float, nan, inf, lt, eq}
 use Rattle.picks.specs.Pick.{pick}
-use Rattle.sm_stops.specs.Merging.{Sources, lesser, leastBeat, meets, onward, beatHere, stopMet, delayMet, warpMet, turn, isOver, left, written, mergedWithin, merged}
+use Rattle.sm_stops.specs.Merging.{Sources, Heads, lesser, leastBeat, meets, onward, beatHere, stopMet, delayMet, warpMet, turn, isOver, left, written, mergedWithin, merged}
 use Rattle.sm_stops.specs.Plain.{Numbers, Plain}
-use Rattle.sm_stops.specs.declared.Heads.{Heads}
 
 no {ℓ} : {A : Type ℓ} → false ≡ true → A
 no h = let z : _≡_ {A = ℕ} 0 1 = cc in absurd (omega arith)

@@ -4,3 +4,5 @@ pub mod TurnByTurn
 pub mod TwoByTwo
 pub mod TakenSources
 pub mod OneFilling
+pub mod WorstSoFar
+pub mod BetweenEnds

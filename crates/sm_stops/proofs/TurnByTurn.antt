@@ -1,18 +1,16 @@
--- The sums of all turns, counted and laid turn by turn, and places that stay within their lists. Assumes nothing.
+-- The sums of all turns, laid turn by turn, and places that stay within their lists. Assumes nothing.
 use Prim.Native.Nat.{ℕ, zero, suc, _+_, _-_, _*_, _/_, _^_, _≤_, _<_}
 use mathlib.Core.List.{List, [], _∷_, _++_}
 use mathlib.Core.Bool.{Bool, true, false}
 use mathlib.Core.Path.{_≡_, refl, sym, ap, _∙_, subst}
 use native.Mathlib.Omega.{arith}
-use lib.ListN.{length, drop, set, length-append, length-drop}
-use lib.Ieee.{Float, le, ne}
+use lib.ListN.{length, drop, getD, set, length-append, length-drop}
+use lib.Ieee.{Float, nan, inf, le, ne}
 use Rattle.picks.specs.Pick.{pick}
 use Rattle.order.proofs.LaidOverFront.{Laying, laying-more, laying-room}
-use Rattle.sm_stops.specs.Merging.{Sources, none, meets, onward, leading, forward, tempoPlace, beatHere, stopMet, delayMet, warpMet, turn, isOver, left, written, mergedWithin, merged, atFirst}
+use Rattle.sm_stops.specs.Merging.{Sources, Heads, Turned, none, lesser, leastBeat, meets, plus, less, onward, leading, forward, tempoPlace, beatHere, stopMet, delayMet, warpMet, turn, isOver, left, written, mergedWithin, merged, atFirst}
 use Rattle.sm_stops.specs.Filling.{flat}
 use Rattle.sm_stops.specs.Plain.{Plain}
-use Rattle.sm_stops.specs.declared.Heads.{Heads}
-use Rattle.sm_stops.specs.declared.Turned.{Turned}
 use Rattle.sm_stops.proofs.EveryTurnMeets.{here, left-falls, merged-on, merged-end}
 
 -- ---- places
@@ -60,37 +58,28 @@ module _ (s : Sources) (h : Heads) (plain : Plain s) (more : isOver s h ≡ fals
         warp = moved (warpMet s h) (h .warp) 1 (length (s .warpBeats)) (f .warp) (λ e. omega (arith, warp-here e));
       }
 
+-- ---- a turn made list by list
+module _ (s : Sources) (h : Heads) (beat : Float) (least : beat ≡ lesser (lesser (lesser (inf false) (s .stops) (h .stop)) (s .delayBeats) (h .delay)) (s .warpBeats) (h .warp)) where
+  pub list-by-list : (stop delay tempo warp : ℕ) (stopped delayed value : Float)
+      → stop ≡ onward (meets (s .stops) (h .stop) beat) (h .stop) 2
+      → stopped ≡ plus (meets (s .stops) (h .stop) beat) none (getD (s .stops) (h .stop + 1) nan)
+      → delay ≡ onward (meets (s .delayBeats) (h .delay) beat) (h .delay) 1
+      → delayed ≡ plus (meets (s .delayBeats) (h .delay) beat) stopped (getD (s .delayValues) (h .delay) nan)
+      → tempo ≡ tempoPlace (meets (s .warpBeats) (h .warp) beat) (s .tempoBeats) (h .tempo) beat
+      → warp ≡ onward (meets (s .warpBeats) (h .warp) beat) (h .warp) 1
+      → value ≡ less (meets (s .warpBeats) (h .warp) beat) delayed (getD (s .tempoValues) tempo nan) (getD (s .warpLengths) (h .warp) nan)
+      → record { heads = record { tempo = tempo; stop = stop; delay = delay; warp = warp }; beat = beat; value = value } ≡ turn s h
+  unfolding turn leastBeat
+  list-by-list stop delay tempo warp stopped delayed value a b c d e f g = rw (g, f, e, d, c, b, a, least)
+
 -- ---- counting
-pub written-count : (t : Turned) → pick (ne (t .value) none) 1 0 ≡ length (written t)
+written-count : (t : Turned) → pick (ne (t .value) none) 1 0 ≡ length (written t)
 unfolding written
 written-count t = go (ne (t .value) none)
   where
     go : (x : Bool) → pick x 1 0 ≡ length {A = Float × Float} (pick x ((t .beat, t .value) ∷ []) [])
     go true = refl
     go false = refl
-
-pub record Counting (s : Sources) (h : Heads) (count : ℕ) : Type 0 where
-  pub fit : Fit s h
-  pub same : count + length (merged s h) ≡ length (merged s atFirst)
-
-pub counting-none : (s : Sources) → Counting s atFirst 0
-counting-none s = record { fit = first-fit s; same = omega arith }
-
-module _ (s : Sources) (h : Heads) (plain : Plain s) (count : ℕ) (counting : Counting s h count) where
-  pub counted-all : isOver s h ≡ true → count ≡ length (merged s atFirst)
-  counted-all e = omega (arith, counting .same, ap length (merged-end s plain h e))
-
-  module _ (more : isOver s h ≡ false) (t : Turned) (is : t ≡ turn s h) where
-    pub counted-turn : Counting s (t .heads) (count + length (written t))
-    counted-turn =
-        let parts : length (merged s h) ≡ length (written (turn s h)) + length (merged s (turn s h .heads)) = ap length (merged-on s plain h more) ∙ length-append (written (turn s h)) (merged s (turn s h .heads)) in
-        rw is (record { fit = turned-fit s h plain more (counting .fit); same = omega (arith, counting .same, parts) })
-
-    pub less-left : left s (t .heads) < left s h
-    less-left = rw is (left-falls s h plain more)
-
-    pub count-fits : (most : ℕ) → length (merged s atFirst) ≤ most → count + length (written t) ≤ most
-    count-fits most l = omega (arith, counted-turn .same)
 
 -- no more sums than entries
 within-left : (f : ℕ) (b : Bool) (s : Sources) (h : Heads) → length (mergedWithin f b s h) ≤ f

@@ -1,3 +1,4 @@
 pub mod Merging
 pub mod Plain
 pub mod Filling
+pub mod Testing

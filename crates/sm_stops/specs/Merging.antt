@@ -7,8 +7,6 @@ use lib.Dec.{ltb}
 use lib.IntN.{pos}
 use lib.Ieee.{Float, nan, inf, fin, binary32, add, sub, mul, div, lt, le, eq, ne}
 use Rattle.picks.specs.Pick.{pick}
-use Rattle.sm_stops.specs.declared.Heads.{Heads}
-use Rattle.sm_stops.specs.declared.Turned.{Turned}
 
 abbrev pub none : Float
 none = fin false 0 (pos 0)
@@ -36,6 +34,19 @@ sources tempoBeats tempoValues stops delayBeats delayValues warpBeats warpLength
   warpBeats = warpBeats;
   warpLengths = warpLengths;
 }
+
+-- a place in each list: that of the tempo in force, and of the next stop, delay and warp; that of stops moves by two
+pub record Heads : Type 0 where
+  pub tempo : ℕ
+  pub stop : ℕ
+  pub delay : ℕ
+  pub warp : ℕ
+
+-- the beat and the sum of one turn, and the places after it
+pub record Turned : Type 0 where
+  pub heads : Heads
+  pub beat : Float
+  pub value : Float
 
 -- ---- the least beat of the three heads
 

@@ -6,28 +6,15 @@ ghost use mathlib.Core.List.{[]};
 ghost use Prim.Native.Nat.{_+_, _*_, _/_, _<_, _≤_, _^_};
 ghost use lib.Dec.{ltb, leb, eqb};
 ghost use lib.ListN.{length, getD, take, set};
-ghost use lib.Ieee.{nan, ne};
+ghost use lib.Ieee.{nan, inf, ne, neg, le};
 ghost use Rattle.picks.specs.Pick.{pick};
-ghost use Rattle.limits.specs.Numbers.{rangeOf};
+ghost use Rattle.limits.specs.Numbers.{rangeOf, sizeOf, inRange, allIn, miss};
+ghost use Rattle.limits.specs.Refusals.{listNumber};
 ghost use Rattle.order.specs.Order.{laid};
-ghost use Rattle.sm_stops.specs.Merging.{sources, none, lesser, leastBeat, meets, plus, forward, tempoPlace, less, onward, turn, isOver, merged, atFirst};
+ghost use Rattle.sm_stops.specs.Merging.{sources, none, lesser, meets, plus, forward, tempoPlace, less, onward, merged, atFirst};
 ghost use Rattle.sm_stops.specs.Plain.{Plain};
+ghost use Rattle.sm_stops.specs.Testing.{between, UpTo};
 ghost use Rattle.sm_stops.specs.Filling.{beatsIn, valuesIn, isEven, flatNumber, flat, isOwn, listsNumber, resultNumber, StopsFilled, chosen};
-
-// A place in each list: that of the tempo in force, and of the next stop, delay and warp. Stops are flat, so theirs moves by two.
-pub struct Heads {
-    pub tempo: usize,
-    pub stop: usize,
-    pub delay: usize,
-    pub warp: usize,
-}
-
-// The beat and the sum of one turn, and the places after it.
-pub struct Turned {
-    pub heads: Heads,
-    pub beat: f32,
-    pub value: f32,
-}
 
 // What filling the work list answers: the refusal number, the entries written, and whether the caller's own stops are the answer.
 #[repr(C)]
@@ -61,12 +48,20 @@ fn lesser_of(least: f32, beats: &[f32], place: usize) -> f32
     least
 }
 
-fn least_beat(heads: Heads, stops: &[f32], delay_beats: &[f32], warp_beats: &[f32]) -> f32
-    ensures { λ r. ⌜ r ≡ leastBeat (now (stops .entry)) (now («delay_beats» .entry)) (now («warp_beats» .entry)) heads ⌝ }
+// The least beat of the three heads.
+fn least_beat(
+    stop: usize,
+    delay: usize,
+    warp: usize,
+    stops: &[f32],
+    delay_beats: &[f32],
+    warp_beats: &[f32],
+) -> f32
+    ensures { λ r. ⌜ r ≡ lesser (lesser (lesser (inf false) (now (stops .entry)) stop) (now («delay_beats» .entry)) delay) (now («warp_beats» .entry)) warp ⌝ }
 {
-    let stop = lesser_of(1.0 / 0.0, stops, heads.stop);
-    let delay = lesser_of(stop, delay_beats, heads.delay);
-    lesser_of(delay, warp_beats, heads.warp)
+    let first = lesser_of(1.0 / 0.0, stops, stop);
+    let second = lesser_of(first, delay_beats, delay);
+    lesser_of(second, warp_beats, warp)
 }
 
 fn is_met(beats: &[f32], place: usize, beat: f32) -> bool
@@ -78,32 +73,48 @@ fn is_met(beats: &[f32], place: usize, beat: f32) -> bool
     false
 }
 
-fn add_if(met: bool, sum: f32, value: f32) -> f32
-    ensures { λ r. ⌜ r ≡ plus met sum value ⌝ }
-{
-    if met {
-        return sum + value;
-    }
-    sum
+// A place in a list after a turn, and the sum with what the list has on its beat.
+struct Passed {
+    place: usize,
+    sum: f32,
 }
 
-fn take_if(met: bool, sum: f32, tempo: f32, length: f32) -> f32
-    ensures { λ r. ⌜ r ≡ less met sum tempo length ⌝ }
+fn pass_stop(stops: &[f32], place: usize, beat: f32) -> Passed
+    requires { ⌜ place < 2 ^ 63 ⌝ }
+    ensures { λ r. ⌜ (r .place ≡ onward (meets (now (stops .entry)) place beat) place 2) × (r .sum ≡ plus (meets (now (stops .entry)) place beat) none (getD (now (stops .entry)) (place + 1) nan)) ⌝ }
 {
-    if met {
-        return sum - 60.0 / tempo * length;
+    if is_met(stops, place, beat) {
+        return Passed {
+            place: place + 2,
+            sum: 0.0 + read_at(stops, place + 1),
+        };
     }
-    sum
+    Passed {
+        place: place,
+        sum: 0.0,
+    }
 }
 
-fn onward_if(met: bool, place: usize, by: usize) -> usize
-    requires { ⌜ place + by < 2 ^ 64 ⌝ }
-    ensures { λ r. ⌜ r ≡ onward met place by ⌝ }
+fn pass_delay(
+    delay_beats: &[f32],
+    delay_values: &[f32],
+    place: usize,
+    beat: f32,
+    sum: f32,
+) -> Passed
+    requires { ⌜ place < 2 ^ 63 ⌝ }
+    ensures { λ r. ⌜ (r .place ≡ onward (meets (now («delay_beats» .entry)) place beat) place 1) × (r .sum ≡ plus (meets (now («delay_beats» .entry)) place beat) sum (getD (now («delay_values» .entry)) place nan)) ⌝ }
 {
-    if met {
-        return place + by;
+    if is_met(delay_beats, place, beat) {
+        return Passed {
+            place: place + 1,
+            sum: sum + read_at(delay_values, place),
+        };
     }
-    place
+    Passed {
+        place: place,
+        sum: sum,
+    }
 }
 
 // The place of the last of the leading tempos up to a beat, from a place on.
@@ -122,149 +133,64 @@ fn tempo_up_to(tempo_beats: &[f32], place: usize, beat: f32) -> usize
     at
 }
 
-fn tempo_place(met: bool, tempo_beats: &[f32], place: usize, beat: f32) -> usize
-    requires { ⌜ place < 2 ^ 63 ⌝ }
-    ensures { λ r. ⌜ r ≡ tempoPlace met (now («tempo_beats» .entry)) place beat ⌝ }
-{
-    if met {
-        return tempo_up_to(tempo_beats, place, beat);
-    }
-    place
+// The same of warps, and the place of the tempo in force.
+struct Warped {
+    tempo: usize,
+    place: usize,
+    sum: f32,
 }
 
-fn take_turn(
-    heads: Heads,
+fn pass_warp(
     tempo_beats: &[f32],
     tempo_values: &[f32],
-    stops: &[f32],
-    delay_beats: &[f32],
-    delay_values: &[f32],
     warp_beats: &[f32],
     warp_lengths: &[f32],
-) -> Turned
-    requires { ⌜ (heads .tempo < 2 ^ 63) × (heads .stop < 2 ^ 63) × (heads .delay < 2 ^ 63) × (heads .warp < 2 ^ 63) ⌝ }
-    ensures { λ r. ⌜ r ≡ turn (sources (now («tempo_beats» .entry)) (now («tempo_values» .entry)) (now (stops .entry)) (now («delay_beats» .entry)) (now («delay_values» .entry)) (now («warp_beats» .entry)) (now («warp_lengths» .entry))) heads ⌝ }
+    tempo: usize,
+    place: usize,
+    beat: f32,
+    sum: f32,
+) -> Warped
+    requires { ⌜ (tempo < 2 ^ 63) × (place < 2 ^ 63) ⌝ }
+    ensures { λ r. ⌜ (r .tempo ≡ tempoPlace (meets (now («warp_beats» .entry)) place beat) (now («tempo_beats» .entry)) tempo beat) × (r .place ≡ onward (meets (now («warp_beats» .entry)) place beat) place 1) × (r .sum ≡ less (meets (now («warp_beats» .entry)) place beat) sum (getD (now («tempo_values» .entry)) (r .tempo) nan) (getD (now («warp_lengths» .entry)) place nan)) ⌝ }
 {
-    let beat = least_beat(heads, stops, delay_beats, warp_beats);
-    let stop_met = is_met(stops, heads.stop, beat);
-    let delay_met = is_met(delay_beats, heads.delay, beat);
-    let warp_met = is_met(warp_beats, heads.warp, beat);
-    let stop = add_if(stop_met, 0.0, read_at(stops, heads.stop + 1));
-    let pauses = add_if(delay_met, stop, read_at(delay_values, heads.delay));
-    let tempo = tempo_place(warp_met, tempo_beats, heads.tempo, beat);
-    let value = take_if(
-        warp_met,
-        pauses,
-        read_at(tempo_values, tempo),
-        read_at(warp_lengths, heads.warp),
-    );
-    let next = Heads {
+    if is_met(warp_beats, place, beat) {
+        let here = tempo_up_to(tempo_beats, tempo, beat);
+        return Warped {
+            tempo: here,
+            place: place + 1,
+            sum: sum - 60.0 / read_at(tempo_values, here) * read_at(warp_lengths, place),
+        };
+    }
+    Warped {
         tempo: tempo,
-        stop: onward_if(stop_met, heads.stop, 2),
-        delay: onward_if(delay_met, heads.delay, 1),
-        warp: onward_if(warp_met, heads.warp, 1),
-    };
-    Turned {
-        heads: next,
-        beat: beat,
-        value: value,
+        place: place,
+        sum: sum,
     }
 }
 
-fn is_over(heads: Heads, stops: &[f32], delay_beats: &[f32], warp_beats: &[f32]) -> bool
-    ensures { λ r. ⌜ r ≡ pick (ltb (heads .stop) (length (now (stops .entry)))) false (pick (ltb (heads .delay) (length (now («delay_beats» .entry)))) false (pick (ltb (heads .warp) (length (now («warp_beats» .entry)))) false true)) ⌝ }
+fn is_over(
+    stop: usize,
+    delay: usize,
+    warp: usize,
+    stops: &[f32],
+    delay_beats: &[f32],
+    warp_beats: &[f32],
+) -> bool
+    ensures { λ r. ⌜ r ≡ pick (ltb stop (length (now (stops .entry)))) false (pick (ltb delay (length (now («delay_beats» .entry)))) false (pick (ltb warp (length (now («warp_beats» .entry)))) false true)) ⌝ }
 {
-    if heads.stop < stops.len() {
+    if stop < stops.len() {
         return false;
     }
-    if heads.delay < delay_beats.len() {
+    if delay < delay_beats.len() {
         return false;
     }
-    if heads.warp < warp_beats.len() {
+    if warp < warp_beats.len() {
         return false;
     }
     true
 }
 
 // ---- all turns
-
-fn one_if_written(value: f32) -> usize
-    ensures { λ r. ⌜ r ≡ pick (ne value none) 1 0 ⌝ }
-{
-    if value != 0.0 {
-        return 1;
-    }
-    0
-}
-
-fn count_stops(
-    tempo_beats: &[f32],
-    tempo_values: &[f32],
-    stops: &[f32],
-    delay_beats: &[f32],
-    delay_values: &[f32],
-    warp_beats: &[f32],
-    warp_lengths: &[f32],
-) -> usize
-    requires { ⌜ Plain (sources (now «tempo_beats») (now «tempo_values») (now stops) (now «delay_beats») (now «delay_values») (now «warp_beats») (now «warp_lengths»)) ⌝ }
-    ensures { λ r. ⌜ r ≡ length (merged (sources (now («tempo_beats» .entry)) (now («tempo_values» .entry)) (now (stops .entry)) (now («delay_beats» .entry)) (now («delay_values» .entry)) (now («warp_beats» .entry)) (now («warp_lengths» .entry))) atFirst) ⌝ }
-{
-    let mut heads = Heads {
-        tempo: 0,
-        stop: 0,
-        delay: 0,
-        warp: 0,
-    };
-    let mut count: usize = 0;
-    loop {
-        if is_over(heads, stops, delay_beats, warp_beats) {
-            return count;
-        }
-        let turned = take_turn(
-            heads,
-            tempo_beats,
-            tempo_values,
-            stops,
-            delay_beats,
-            delay_values,
-            warp_beats,
-            warp_lengths,
-        );
-        let next = turned.heads;
-        heads = next;
-        count += one_if_written(turned.value);
-    }
-}
-
-// Whether the sums have room: counted only where there are more entries than room.
-fn has_room(
-    tempo_beats: &[f32],
-    tempo_values: &[f32],
-    stops: &[f32],
-    delay_beats: &[f32],
-    delay_values: &[f32],
-    warp_beats: &[f32],
-    warp_lengths: &[f32],
-    room: usize,
-) -> bool
-    requires { ⌜ Plain (sources (now «tempo_beats») (now «tempo_values») (now stops) (now «delay_beats») (now «delay_values») (now «warp_beats») (now «warp_lengths»)) ⌝ }
-    requires { ⌜ (length (now stops) ≤ 2048) × (length (now «delay_beats») ≤ 1024) × (length (now «warp_beats») ≤ 1024) ⌝ }
-    ensures { λ r. ⌜ r ≡ leb (length (merged (sources (now («tempo_beats» .entry)) (now («tempo_values» .entry)) (now (stops .entry)) (now («delay_beats» .entry)) (now («delay_values» .entry)) (now («warp_beats» .entry)) (now («warp_lengths» .entry))) atFirst)) room ⌝ }
-{
-    if (stops.len() + 1) / 2 + delay_beats.len() + warp_beats.len() <= room {
-        return true;
-    }
-    count_stops(
-        tempo_beats,
-        tempo_values,
-        stops,
-        delay_beats,
-        delay_values,
-        warp_beats,
-        warp_lengths,
-    )
-        <= room
-}
 
 // A sum that is not zero, behind those that are laid; the place behind it.
 fn lay_sum(work: &mut [f32], at: usize, beat: f32, value: f32) -> usize
@@ -296,63 +222,180 @@ fn lay_stops(
     ensures { λ r. ⌜ r ≡ length (flat (merged (sources (now («tempo_beats» .entry)) (now («tempo_values» .entry)) (now (stops .entry)) (now («delay_beats» .entry)) (now («delay_values» .entry)) (now («warp_beats» .entry)) (now («warp_lengths» .entry))) atFirst)) ⌝ }
     ensures { λ _. ⌜ now (work .exit) ≡ laid (flat (merged (sources (now («tempo_beats» .entry)) (now («tempo_values» .entry)) (now (stops .entry)) (now («delay_beats» .entry)) (now («delay_values» .entry)) (now («warp_beats» .entry)) (now («warp_lengths» .entry))) atFirst)) (now (work .entry)) ⌝ }
 {
-    let mut heads = Heads {
-        tempo: 0,
-        stop: 0,
-        delay: 0,
-        warp: 0,
-    };
+    let mut tempo: usize = 0;
+    let mut stop: usize = 0;
+    let mut delay: usize = 0;
+    let mut warp: usize = 0;
     let mut at: usize = 0;
     loop {
-        if is_over(heads, stops, delay_beats, warp_beats) {
+        if is_over(stop, delay, warp, stops, delay_beats, warp_beats) {
             return at;
         }
-        let turned = take_turn(
-            heads,
+        let beat = least_beat(stop, delay, warp, stops, delay_beats, warp_beats);
+        let stopped = pass_stop(stops, stop, beat);
+        let delayed = pass_delay(delay_beats, delay_values, delay, beat, stopped.sum);
+        let warped = pass_warp(
             tempo_beats,
             tempo_values,
-            stops,
-            delay_beats,
-            delay_values,
             warp_beats,
             warp_lengths,
+            tempo,
+            warp,
+            beat,
+            delayed.sum,
         );
-        let next = turned.heads;
-        heads = next;
-        at = lay_sum(work, at, turned.beat, turned.value);
+        tempo = warped.tempo;
+        stop = stopped.place;
+        delay = delayed.place;
+        warp = warped.place;
+        at = lay_sum(work, at, beat, warped.sum);
     }
+}
+
+// Whether the sums have room: laid elsewhere first, and only where there are more entries than room.
+fn has_room(
+    tempo_beats: &[f32],
+    tempo_values: &[f32],
+    stops: &[f32],
+    delay_beats: &[f32],
+    delay_values: &[f32],
+    warp_beats: &[f32],
+    warp_lengths: &[f32],
+    room: usize,
+) -> bool
+    requires { ⌜ Plain (sources (now «tempo_beats») (now «tempo_values») (now stops) (now «delay_beats») (now «delay_values») (now «warp_beats») (now «warp_lengths»)) ⌝ }
+    requires { ⌜ (length (now stops) ≤ 2048) × (length (now «delay_beats») ≤ 1024) × (length (now «warp_beats») ≤ 1024) ⌝ }
+    ensures { λ r. ⌜ r ≡ leb (length (merged (sources (now («tempo_beats» .entry)) (now («tempo_values» .entry)) (now (stops .entry)) (now («delay_beats» .entry)) (now («delay_values» .entry)) (now («warp_beats» .entry)) (now («warp_lengths» .entry))) atFirst)) room ⌝ }
+{
+    if (stops.len() + 1) / 2 + delay_beats.len() + warp_beats.len() <= room {
+        return true;
+    }
+    let mut laid = [0.0; 6144];
+    let size = lay_stops(
+        tempo_beats,
+        tempo_values,
+        stops,
+        delay_beats,
+        delay_values,
+        warp_beats,
+        warp_lengths,
+        &mut laid,
+    );
+    size / 2 <= room
 }
 
 // ---- refusals
 
-fn flat_beats_taken(kind: Kind, list: &[f32]) -> bool
-    ensures { λ r. ⌜ r ≡ beatsIn (rangeOf kind) (now (list .entry)) ⌝ }
+fn magnitude(x: f32) -> f32
+    ensures { λ r. ⌜ r ≡ sizeOf x ⌝ }
 {
-    let range = limits::range_of(kind);
-    let mut i = 0;
-    while i < list.len() {
-        if limits::in_range(range, std::num::f32_to_f64_with_nan(list[i])) {
-            i += 2;
-            continue;
-        }
-        return false;
-    }
-    true
+    if x < 0.0 { -x } else { x }
 }
 
-fn flat_values_taken(kind: Kind, list: &[f32]) -> bool
-    ensures { λ r. ⌜ r ≡ valuesIn (rangeOf kind) (now (list .entry)) ⌝ }
+// Whether a number lies between the two numbers of a size.
+fn lies_within(most: f32, x: f32) -> bool
+    ensures { λ r. ⌜ r ≡ pick (le (neg most) x) (le x most) false ⌝ }
 {
-    let range = limits::range_of(kind);
+    if -most <= x {
+        return x <= most;
+    }
+    false
+}
+
+// Whether a number's size is from the least to the most; where zeros are taken the least is 0. In f32, so that a loop does it for four at a time.
+fn in_range(least: f32, most: f32, zeros: bool, x: f32) -> bool
+    requires { ⌜ (zeros ≡ true → UpTo least most) ⌝ }
+    ensures { λ r. ⌜ r ≡ inRange (between least most zeros) x ⌝ }
+{
+    if zeros {
+        return lies_within(most, x);
+    }
+    let size = magnitude(x);
+    if size <= most {
+        return size >= least;
+    }
+    false
+}
+
+fn one_outside(least: f32, most: f32, zeros: bool, x: f32) -> u32
+    requires { ⌜ (zeros ≡ true → UpTo least most) ⌝ }
+    ensures { λ r. ⌜ r ≡ miss (inRange (between least most zeros)) x ⌝ }
+{
+    if in_range(least, most, zeros, x) {
+        0
+    } else {
+        1
+    }
+}
+
+fn worse_of(one: u32, other: u32) -> u32
+    ensures { λ r. ⌜ r ≡ pick (ltb one other) other one ⌝ }
+{
+    if one < other { other } else { one }
+}
+
+// Whether every number of a column is in a range.
+fn column_taken(least: f32, most: f32, zeros: bool, column: &[f32]) -> bool
+    requires { ⌜ (zeros ≡ true → UpTo least most) ⌝ }
+    ensures { λ r. ⌜ r ≡ allIn (between least most zeros) (now (column .entry)) ⌝ }
+{
+    let mut worst: u32 = 0;
+    let mut i = 0;
+    while i < column.len() {
+        worst = worse_of(worst, one_outside(least, most, zeros, column[i]));
+        i += 1;
+    }
+    worst == 0
+}
+
+// What a list of beats and of values in a range answers by itself.
+fn pair_number(least: f32, most: f32, zeros: bool, beats: &[f32], values: &[f32]) -> u32
+    requires { ⌜ (zeros ≡ true → UpTo least most) ⌝ }
+    ensures { λ r. ⌜ r ≡ listNumber (rangeOf Kind.Beat) (between least most zeros) (now (beats .entry)) (now (values .entry)) ⌝ }
+{
+    if beats.len() > limits::MOST_ENTRIES {
+        return limits::TOO_LONG;
+    }
+    if values.len() > limits::MOST_ENTRIES {
+        return limits::TOO_LONG;
+    }
+    if beats.len() != values.len() {
+        return limits::UNEVEN;
+    }
+    if !column_taken(0.0, 65536.0, true, beats) {
+        return limits::BAD_BEAT;
+    }
+    if !column_taken(least, most, zeros, values) {
+        return limits::BAD_VALUE;
+    }
+    limits::TAKEN
+}
+
+fn flat_beats_taken(list: &[f32]) -> bool
+    ensures { λ r. ⌜ r ≡ beatsIn (rangeOf Kind.Beat) (now (list .entry)) ⌝ }
+{
+    let mut worst: u32 = 0;
+    let mut i = 0;
+    while i < list.len() {
+        worst = worse_of(worst, one_outside(0.0, 65536.0, true, list[i]));
+        i += 2;
+    }
+    worst == 0
+}
+
+fn flat_values_taken(list: &[f32]) -> bool
+    ensures { λ r. ⌜ r ≡ valuesIn (rangeOf Kind.Pause) (now (list .entry)) ⌝ }
+{
+    let mut worst: u32 = 0;
     let mut i = 0;
     while i + 1 < list.len() {
-        if limits::in_range(range, std::num::f32_to_f64_with_nan(list[i + 1])) {
-            i += 2;
-            continue;
-        }
-        return false;
+        worst = worse_of(
+            worst,
+            one_outside(0.0, 1125899906842624.0, true, list[i + 1]),
+        );
+        i += 2;
     }
-    true
+    worst == 0
 }
 
 fn is_even(size: usize) -> bool
@@ -362,8 +405,8 @@ fn is_even(size: usize) -> bool
 }
 
 // What a flat list answers by itself.
-fn flat_number(beat_kind: Kind, value_kind: Kind, list: &[f32]) -> u32
-    ensures { λ r. ⌜ r ≡ flatNumber (rangeOf «beat_kind») (rangeOf «value_kind») (now (list .entry)) ⌝ }
+fn flat_number(list: &[f32]) -> u32
+    ensures { λ r. ⌜ r ≡ flatNumber (rangeOf Kind.Beat) (rangeOf Kind.Pause) (now (list .entry)) ⌝ }
 {
     if list.len() > 2048 {
         return limits::TOO_LONG;
@@ -371,10 +414,10 @@ fn flat_number(beat_kind: Kind, value_kind: Kind, list: &[f32]) -> u32
     if !is_even(list.len()) {
         return limits::UNEVEN;
     }
-    if !flat_beats_taken(beat_kind, list) {
+    if !flat_beats_taken(list) {
         return limits::BAD_BEAT;
     }
-    if !flat_values_taken(value_kind, list) {
+    if !flat_values_taken(list) {
         return limits::BAD_VALUE;
     }
     limits::TAKEN
@@ -401,10 +444,16 @@ fn lists_number(
 ) -> u32
     ensures { λ r. ⌜ r ≡ listsNumber (sources (now («tempo_beats» .entry)) (now («tempo_values» .entry)) (now (stops .entry)) (now («delay_beats» .entry)) (now («delay_values» .entry)) (now («warp_beats» .entry)) (now («warp_lengths» .entry))) size ⌝ }
 {
-    let tempos = limits::list_number_f32(Kind::Beat, Kind::Tempo, tempo_beats, tempo_values);
-    let own = flat_number(Kind::Beat, Kind::Pause, stops);
-    let delays = limits::list_number_f32(Kind::Beat, Kind::Pause, delay_beats, delay_values);
-    let warps = limits::list_number_f32(Kind::Beat, Kind::Value, warp_beats, warp_lengths);
+    let tempos = pair_number(
+        9.5367431640625e-7,
+        1073741824.0,
+        false,
+        tempo_beats,
+        tempo_values,
+    );
+    let own = flat_number(stops);
+    let delays = pair_number(0.0, 1125899906842624.0, true, delay_beats, delay_values);
+    let warps = pair_number(0.0, 1073741824.0, true, warp_beats, warp_lengths);
     let room = work_number(size);
     let first = limits::lower_of(tempos, own);
     let others = limits::lower_of(delays, warps);

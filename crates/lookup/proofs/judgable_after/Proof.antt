@@ -10,7 +10,7 @@ use Rattle.lookup.proofs.judgable_after.Tie as tie
 warped-after-requires : tie.Need-warped-after-requires
 warped-after-requires c κs =
     let start = c .before .before .before .before .before .before .before .before in
-    rw (toZ-ofZ w32 (start .args .row) (start .fits .row)) (start .pre .0 .0, start .pre .0 .1, start .pre .0 .2, start .pre .1 .0)
+    rw (toZ-ofZ w32 (start .args .row) (start .fits .row)) (start .pre .0 .stops, start .pre .0 .delays, start .pre .0 .warps, start .pre .1 .0)
 
 returns : tie.Need-returns
 unfolding isJudgable
@@ -22,7 +22,7 @@ returns c =
 fake-after-requires : tie.Need-fake-after-requires
 fake-after-requires c κs =
     let start = c .before .before .before .before .before .before .before .before .before .before in
-    rw (toZ-ofZ w32 (start .args .row) (start .fits .row)) (start .pre .0 .3, start .pre .1 .1)
+    rw (toZ-ofZ w32 (start .args .row) (start .fits .row)) (start .pre .0 .fakes, start .pre .1 .1)
 
 returns-2 : tie.Need-returns-2
 unfolding isJudgable

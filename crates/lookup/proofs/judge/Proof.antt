@@ -1,10 +1,11 @@
 -- `lookup::judge` moves a cursor on to a row and answers. Assumes nothing.
-use Rattle.lookup.proofs.ManyRows.{resumed}
-use Rattle.lookup.specs.Lookups.{byte}
-use mathlib.Core.Bool.{Bool}
-use mathlib.Core.Path.{_≡_, ap, _∙_}
-use mir.ValLaws.{toZ-ofZ}
 use mir.Syntax.{w32}
+use mir.ValLaws.{toZ-ofZ}
+use Rattle.lookup.specs.Lookups.{byte}
+use borrow.Author.Tests.{not-true, not-false}
+use mathlib.Core.Bool.{Bool}
+use mathlib.Core.Path.{_≡_, sym, ap, _∙_}
+use Rattle.lookup.proofs.HeldSpans.{in-fake, warped-inside, warped-outside, judged}
 use borrow.Author.Needs.{needs}
 use Rattle.lookup.proofs.judge.Statement.{statement}
 use Rattle.lookup.proofs.judge.Tie as tie
@@ -12,47 +13,78 @@ use Rattle.lookup.proofs.judge.Tie as tie
 key-of-row-requires : tie.Need-key-of-row-requires
 key-of-row-requires c κs = search needs
 
-start-of-requires : tie.Need-start-of-requires
-start-of-requires c κs = search needs
+note-row-to-beat-f32-requires : tie.Need-note-row-to-beat-f32-requires
+note-row-to-beat-f32-requires c κs = search needs
 
-count-on-requires : tie.Need-count-on-requires
-count-on-requires c κs =
-    let start = c .before .before .before .before .before .before .before .before .before .before in
-    (start .pre .0 .2 .1, resumed (c .before .key-of-row .result) (start .args .cursor .key) (start .args .cursor .warps) (start .args .warp-beats .now) (c .start-of .result) (start .pre .1 .warps) (c .start-of .ensures))
+reach-warp-requires : tie.Need-reach-warp-requires
+reach-warp-requires c κs = (c .before .before .before .before .before .before .before .before .before .before .pre .0 .warps, c .before .before .before .before .before .before .before .before .before .before .pre .1 .warps)
 
-start-of-requires-2 : tie.Need-start-of-requires-2
-start-of-requires-2 c κs = search needs
+reach-fake-requires : tie.Need-reach-fake-requires
+reach-fake-requires c κs = (c .before .before .before .before .before .before .before .before .before .before .before .pre .0 .fakes, c .before .before .before .before .before .before .before .before .before .before .before .pre .1 .fakes)
 
-count-on-requires-2 : tie.Need-count-on-requires-2
-count-on-requires-2 c κs =
-    let start = c .before .before .before .before .before .before .before .before .before .before .before .before in
-    (start .pre .0 .3 .1, resumed (c .before .before .before .key-of-row .result) (start .args .cursor .key) (start .args .cursor .fakes) (start .args .fake-beats .now) (c .start-of2 .result) (start .pre .1 .fakes) (c .start-of2 .ensures))
+covers-requires : tie.Need-covers-requires
+covers-requires c κs = search needs
 
-judgable-after-requires : tie.Need-judgable-after-requires
-judgable-after-requires c κs =
-    let start = c .before .before .before .before .before .before .before .before .before .before .before .before .before in
-    let back = toZ-ofZ w32 (start .args .row) (start .fits .row) in
-    rw back (start .pre .0, (rw (c .before .before .before .before .key-of-row .ensures, back) at (c .before .before .count-on .ensures), rw (c .before .before .before .before .key-of-row .ensures, back) at (c .count-on2 .ensures)))
+covers-requires-2 : tie.Need-covers-requires-2
+covers-requires-2 c κs = search needs
 
 byte-of-requires : tie.Need-byte-of-requires
 byte-of-requires c κs = search needs
 
 returns : tie.Need-returns
 returns c =
-    let start = c .before .before .before .before .before .before .before .before .before .before .before .before .before .before .before in (
-      record { warps = c .before .before .before .before .count-on .ensures .passed; fakes = c .before .before .count-on2 .ensures .passed },
-      c .byte-of .ensures ∙ ap (λ (t : Bool). byte t) (rw (toZ-ofZ w32 (start .args .row) (start .fits .row)) at (c .before .judgable-after .ensures)),
-    )
+    let start = c .before .before .before .before .before .before .before .before .before .before .before .before .before .before .before .before .before .before in
+    let back = toZ-ofZ w32 (start .args .row) (start .fits .row) in
+    let key = rw back at (c .before .before .before .before .before .before .before .before .before .key-of-row .ensures) in
+    let beat = rw back at (c .before .before .before .before .before .before .before .before .note-row-to-beat-f32 .ensures) in
+    let warps = c .before .before .before .before .before .before .before .reach-warp in
+    let fakes = c .before .before .before .before .before .before .reach-fake in
+    let fake = in-fake (start .args .row) (fakes .result .count) (fakes .result .start) (fakes .result .end) (start .args .fake-beats .now) (start .args .fake-lengths .now) (start .pre .0 .fakes) (rw key at (fakes .ensures .1)) (fakes .ensures .0 .first) (fakes .ensures .0 .last) ∙ sym (rw beat at (c .before .before .before .before .before .covers .ensures)) in
+    let warped = warped-outside (start .args .row) (warps .result .count) (warps .result .start) (warps .result .end) (start .args .stop-beats .now) (start .args .stop-values .now) (start .args .delay-beats .now) (start .args .delay-values .now) (start .args .warp-beats .now) (start .args .warp-lengths .now) (start .pre .0 .warps) (rw key at (warps .ensures .1)) (warps .ensures .0 .first) (warps .ensures .0 .last) (sym (rw beat at (c .before .before .before .before .covers2 .ensures)) ∙ not-true (c .before .before .before .before .covers2 .result) (c .before .before .before .if1 .taken)) in
+    (record { stops = start .pre .1 .stops; delays = start .pre .1 .delays; warps = warps .ensures .0; fakes = fakes .ensures .0 }, c .byte-of .ensures ∙ ap (λ (t : Bool). byte t) (sym (judged (start .args .stop-beats .now) (start .args .stop-values .now) (start .args .delay-beats .now) (start .args .delay-values .now) (start .args .warp-beats .now) (start .args .warp-lengths .now) (start .args .fake-beats .now) (start .args .fake-lengths .now) (start .args .row) _ _ warped fake)))
+
+reach-requires : tie.Need-reach-requires
+reach-requires c κs = (c .before .before .before .before .before .before .before .before .before .before .before .before .before .before .before .pre .0 .stops .1, c .before .before .before .before .before .before .before .before .before .before .before .before .before .before .before .pre .1 .stops)
+
+reach-requires-2 : tie.Need-reach-requires-2
+reach-requires-2 c κs = (c .before .before .before .before .before .before .before .before .before .before .before .before .before .before .before .before .pre .0 .delays .1, c .before .before .before .before .before .before .before .before .before .before .before .before .before .before .before .before .pre .1 .delays)
+
+is-unpaused-requires : tie.Need-is-unpaused-requires
+is-unpaused-requires c κs = ((c .before .before .before .before .before .before .before .before .before .before .before .before .before .before .before .before .before .pre .0 .stops, c .before .reach .ensures .0, c .before .reach .ensures .1), (c .before .before .before .before .before .before .before .before .before .before .before .before .before .before .before .before .before .pre .0 .delays, c .reach2 .ensures .0, c .reach2 .ensures .1))
+
+neither-requires : tie.Need-neither-requires
+neither-requires c κs = search needs
+
+byte-of-requires-2 : tie.Need-byte-of-requires-2
+byte-of-requires-2 c κs = search needs
+
+returns-2 : tie.Need-returns-2
+returns-2 c =
+    let start = c .before .before .before .before .before .before .before .before .before .before .before .before .before .before .before .before .before .before .before .before in
+    let back = toZ-ofZ w32 (start .args .row) (start .fits .row) in
+    let key = rw back at (c .before .before .before .before .before .before .before .before .before .before .before .key-of-row .ensures) in
+    let beat = rw back at (c .before .before .before .before .before .before .before .before .before .before .note-row-to-beat-f32 .ensures) in
+    let warps = c .before .before .before .before .before .before .before .before .before .reach-warp in
+    let fakes = c .before .before .before .before .before .before .before .before .reach-fake in
+    let fake = in-fake (start .args .row) (fakes .result .count) (fakes .result .start) (fakes .result .end) (start .args .fake-beats .now) (start .args .fake-lengths .now) (start .pre .0 .fakes) (rw key at (fakes .ensures .1)) (fakes .ensures .0 .first) (fakes .ensures .0 .last) ∙ sym (rw beat at (c .before .before .before .before .before .before .before .covers .ensures)) in
+    let warped = warped-inside (start .args .row) (warps .result .count) (warps .result .start) (warps .result .end) (start .args .stop-beats .now) (start .args .stop-values .now) (start .args .delay-beats .now) (start .args .delay-values .now) (start .args .warp-beats .now) (start .args .warp-lengths .now) (start .pre .0 .warps) (rw key at (warps .ensures .1)) (warps .ensures .0 .first) (warps .ensures .0 .last) (sym (rw beat at (c .before .before .before .before .before .before .covers2 .ensures)) ∙ not-false (c .before .before .before .before .before .before .covers2 .result) (c .before .before .before .before .before .if1 .left)) ∙ sym (rw key at (c .before .before .is-unpaused .ensures)) in
+    (record { stops = c .before .before .before .before .reach .ensures .0; delays = c .before .before .before .reach2 .ensures .0; warps = warps .ensures .0; fakes = fakes .ensures .0 }, c .byte-of2 .ensures ∙ ap (λ (t : Bool). byte t) (c .before .neither .ensures ∙ sym (judged (start .args .stop-beats .now) (start .args .stop-values .now) (start .args .delay-beats .now) (start .args .delay-values .now) (start .args .warp-beats .now) (start .args .warp-lengths .now) (start .args .fake-beats .now) (start .args .fake-lengths .now) (start .args .row) _ _ warped fake)))
 
 pub judge-spec : {M : Type 1} → statement M
 judge-spec =
     tie.close
     (tie.spec
     key-of-row-requires
-    start-of-requires
-    count-on-requires
-    start-of-requires-2
-    count-on-requires-2
-    judgable-after-requires
+    note-row-to-beat-f32-requires
+    reach-warp-requires
+    reach-fake-requires
+    covers-requires
+    covers-requires-2
     byte-of-requires
-    returns)
+    returns
+    reach-requires
+    reach-requires-2
+    is-unpaused-requires
+    neither-requires
+    byte-of-requires-2
+    returns-2)

@@ -22,7 +22,7 @@ key-of-row-requires c κs = search needs
 count-at-requires : tie.Need-count-at-requires
 count-at-requires c κs =
     let start = c .before .before .before .before .before .before .before .before .before .before .before in
-    judgable-usable (start .args .stop-beats .now) (start .args .stop-values .now) (start .args .delay-beats .now) (start .args .delay-values .now) (start .args .warp-beats .now) (start .args .warp-lengths .now) (start .args .fake-beats .now) (start .args .fake-lengths .now) (start .args .allowed) (sym (c .before .before .judgable-number .ensures) ∙ c .before .if1 .left) .2 .1
+    judgable-usable (start .args .stop-beats .now) (start .args .stop-values .now) (start .args .delay-beats .now) (start .args .delay-values .now) (start .args .warp-beats .now) (start .args .warp-lengths .now) (start .args .fake-beats .now) (start .args .fake-lengths .now) (start .args .allowed) (sym (c .before .before .judgable-number .ensures) ∙ c .before .if1 .left) .warps .1
 
 key-of-row-requires-2 : tie.Need-key-of-row-requires-2
 key-of-row-requires-2 c κs = search needs
@@ -30,7 +30,7 @@ key-of-row-requires-2 c κs = search needs
 count-at-requires-2 : tie.Need-count-at-requires-2
 count-at-requires-2 c κs =
     let start = c .before .before .before .before .before .before .before .before .before .before .before .before .before in
-    judgable-usable (start .args .stop-beats .now) (start .args .stop-values .now) (start .args .delay-beats .now) (start .args .delay-values .now) (start .args .warp-beats .now) (start .args .warp-lengths .now) (start .args .fake-beats .now) (start .args .fake-lengths .now) (start .args .allowed) (sym (c .before .before .before .before .judgable-number .ensures) ∙ c .before .before .before .if1 .left) .3 .1
+    judgable-usable (start .args .stop-beats .now) (start .args .stop-values .now) (start .args .delay-beats .now) (start .args .delay-values .now) (start .args .warp-beats .now) (start .args .warp-lengths .now) (start .args .fake-beats .now) (start .args .fake-lengths .now) (start .args .allowed) (sym (c .before .before .before .before .judgable-number .ensures) ∙ c .before .before .before .if1 .left) .fakes .1
 
 judgable-after-requires : tie.Need-judgable-after-requires
 judgable-after-requires c κs =

@@ -1,0 +1,73 @@
+-- The start and the end of an entry say what it covers; and so whether a row is warped, fake or judgable. Assumes nothing.
+use Prim.Native.Nat.{ℕ, zero, suc, _-_}
+use mathlib.Core.Path.{_≡_, refl, sym, ap, _∙_}
+use mathlib.Core.Bool.{Bool, true, false, not}
+use mathlib.Core.List.{List}
+use native.Mathlib.Omega.{arith}
+use borrow.Author.Tests.{ne-eqb}
+use lib.IntN.{ℤ}
+use lib.ListN.{getD}
+use lib.Ieee.{Float, nan, inf, fin, binary32, add, lt, le, eq}
+use Rattle.picks.specs.Pick.{pick}
+use Rattle.limits.specs.Numbers.{nothing}
+use Rattle.rows.specs.Rows.{beatOf}
+use Rattle.order.specs.RowKey.{rowKey}
+use Rattle.lookup.specs.Lookups.{warpCovers, fakeCovers, inWarp, isPaused, isWarped, isFake, isJudgable}
+use Rattle.lookup.specs.Finding.{Split, Usable, ofLast, spanCovers, startOf, warpEnd, fakeEnd}
+use Rattle.lookup.proofs.FoundEntries.{last-found}
+
+-- no beat is before a NaN
+before-none : (x : Float) → lt x nan ≡ false
+unfolding lt
+before-none nan = refl
+before-none (inf s) = refl
+before-none (fin s m e) = refl
+
+module _ (beats lengths : List Float) (at : Float) where
+  no-length : (t : Bool) (beat end : Float) → spanCovers beat (pick t end nan) at ≡ pick t (spanCovers beat end at) false
+  no-length true beat end = refl
+  no-length false beat end = go (le beat at)
+    where
+      go : (t : Bool) → pick t (lt at nan) false ≡ false
+      go true = before-none at
+      go false = refl
+
+  warp-spans : (n : ℕ) → spanCovers (startOf beats n) (warpEnd beats lengths n) at ≡ ofLast (warpCovers at) false beats lengths n
+  unfolding warpEnd le lt eq
+  warp-spans zero = refl
+  warp-spans (suc m) =
+      let here : suc m - 1 ≡ m = omega arith in
+      rw (ne-eqb (suc m) 0 (λ e. omega arith), here) (no-length (lt nothing (getD lengths m nan)) (getD beats m nan) (add binary32 (getD beats m nan) (getD lengths m nan)))
+
+  fake-spans : (n : ℕ) → spanCovers (startOf beats n) (fakeEnd beats lengths n) at ≡ ofLast (fakeCovers at) false beats lengths n
+  unfolding fakeEnd le lt eq
+  fake-spans zero = refl
+  fake-spans (suc m) = let here : suc m - 1 ≡ m = omega arith in rw (ne-eqb (suc m) 0 (λ e. omega arith), here)
+
+-- ---- a row where what the last entry covers is held
+module _ (asked : ℤ) (n : ℕ) (start end : Float) where
+  pub in-fake : (beats lengths : List Float) → Usable beats lengths → Split (rowKey asked) beats n → start ≡ startOf beats n → end ≡ fakeEnd beats lengths n
+      → isFake beats lengths asked ≡ spanCovers start end (beatOf binary32 asked)
+  unfolding isFake
+  in-fake beats lengths usable split p q =
+      last-found (fakeCovers (beatOf binary32 asked)) (rowKey asked) false beats lengths n (usable .0) split ∙ sym (rw (p, q) (fake-spans beats lengths (beatOf binary32 asked) n))
+
+  module _ (stopBeats stopValues delayBeats delayValues warpBeats warpLengths : List Float) (usable : Usable warpBeats warpLengths) (split : Split (rowKey asked) warpBeats n) (p : start ≡ startOf warpBeats n) (q : end ≡ warpEnd warpBeats warpLengths n) where
+    in-warp : inWarp stopBeats stopValues delayBeats delayValues warpBeats warpLengths asked ≡ spanCovers start end (beatOf binary32 asked)
+    in-warp = last-found (warpCovers (beatOf binary32 asked)) (rowKey asked) false warpBeats warpLengths n (usable .0) split ∙ sym (rw (p, q) (warp-spans warpBeats warpLengths (beatOf binary32 asked) n))
+
+    pub warped-outside : spanCovers start end (beatOf binary32 asked) ≡ false → isWarped stopBeats stopValues delayBeats delayValues warpBeats warpLengths asked ≡ false
+    unfolding isWarped
+    warped-outside e = rw (in-warp ∙ e)
+
+    pub warped-inside : spanCovers start end (beatOf binary32 asked) ≡ true
+        → isWarped stopBeats stopValues delayBeats delayValues warpBeats warpLengths asked ≡ pick (isPaused (rowKey asked) stopBeats stopValues) false (not (isPaused (rowKey asked) delayBeats delayValues))
+    unfolding isWarped
+    warped-inside e = rw (in-warp ∙ e)
+
+-- neither warped nor fake
+module _ (stopBeats stopValues delayBeats delayValues warpBeats warpLengths fakeBeats fakeLengths : List Float) (asked : ℤ) (warped fake : Bool) where
+  pub judged : isWarped stopBeats stopValues delayBeats delayValues warpBeats warpLengths asked ≡ warped → isFake fakeBeats fakeLengths asked ≡ fake
+      → isJudgable stopBeats stopValues delayBeats delayValues warpBeats warpLengths fakeBeats fakeLengths asked ≡ pick warped false (not fake)
+  unfolding isJudgable
+  judged w f = rw (w, f)

@@ -1,0 +1,24 @@
+-- `lookup::key_after` is the row of the entry after them. Assumes nothing.
+use Rattle.picks.proofs.Rules.{flags}
+use borrow.Author.Needs.{needs}
+use Rattle.lookup.proofs.key_after.Statement.{statement}
+use Rattle.lookup.proofs.key_after.Tie as tie
+
+mul-row-key : tie.Need-mul-row-key
+mul-row-key c = search needs
+
+shared-slice-read-row-key : tie.Need-shared-slice-read-row-key
+shared-slice-read-row-key c = search needs
+
+row-key-requires : tie.Need-row-key-requires
+row-key-requires c κs = search needs
+
+returns : tie.Need-returns
+returns c = rw (c .row-key .ensures) (search flags depth 8)
+
+returns-2 : tie.Need-returns-2
+returns-2 c = search flags depth 8
+
+pub key-after-spec : {M : Type 1} → statement M
+key-after-spec =
+    tie.close (tie.spec mul-row-key shared-slice-read-row-key row-key-requires returns returns-2)

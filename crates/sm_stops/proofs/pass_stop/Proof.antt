@@ -1,0 +1,30 @@
+-- `sm_stops::pass_stop` passes what stops have on the beat. Assumes nothing.
+use lib.Ieee.{ofBits}
+use mathlib.Core.Path.{_≡_, refl, sym, _∙_}
+use borrow.Author.Needs.{needs}
+use Rattle.sm_stops.proofs.pass_stop.Statement.{statement}
+use Rattle.sm_stops.proofs.pass_stop.Tie as tie
+
+is-met-requires : tie.Need-is-met-requires
+is-met-requires c κs = search needs
+
+add-t5 : tie.Need-add-t5
+add-t5 c = search needs
+
+add-read-at : tie.Need-add-read-at
+add-read-at c = search needs
+
+read-at-requires : tie.Need-read-at-requires
+read-at-requires c κs = search needs
+
+returns : tie.Need-returns
+unfolding ofBits
+returns c = rw (sym (c .before .before .is-met .ensures) ∙ c .before .if1 .taken, c .read-at .ensures) (refl, refl)
+
+returns-2 : tie.Need-returns-2
+unfolding ofBits
+returns-2 c = rw (sym (c .before .is-met .ensures) ∙ c .if1 .left) (refl, refl)
+
+pub pass-stop-spec : {M : Type 1} → statement M
+pass-stop-spec =
+    tie.close (tie.spec is-met-requires add-t5 add-read-at read-at-requires returns returns-2)
