@@ -1,5 +1,6 @@
 pub mod Every
 pub mod ListTaken
 pub mod NoRefusal
+pub mod PlainTaken
 pub mod TakenWithin
 pub mod TempoSizes
