@@ -1,4 +1,3 @@
-pub mod EachTwo
 pub mod InRowOrder
 pub mod QuantizedTaken
 pub mod RisingRows

@@ -14,7 +14,7 @@ ghost use Rattle.columns.specs.Each.{laidEach};
 ghost use Rattle.columns.specs.Laying.{LaidPair};
 ghost use Rattle.tidy_rows.specs.RowTidying.{rowsNumber};
 ghost use Rattle.assembled_rows.specs.AssembledRows.{changeBy, narrowedFront, RowsAssembled, rowsFit};
-ghost use Rattle.assembled_rows.specs.Neighbours.{everyTwo, notAbove};
+ghost use Rattle.limits.specs.Neighbours.{everyTwo, notAbove};
 
 // ---- numbers
 

@@ -1,3 +1,4 @@
+pub mod EachTwo
 pub mod Every
 pub mod ListTaken
 pub mod NoRefusal

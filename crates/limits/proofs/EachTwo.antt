@@ -7,20 +7,19 @@ use native.Mathlib.Numerals.{add-one}
 use native.Mathlib.Omega.{arith}
 use lib.Dec.{eqb}
 use lib.ListN.{length, getD}
 use Rattle.limits.specs.Numbers.{miss}
 use Rattle.limits.proofs.Every.{Counted, counted-turn, counted-end}
-use Rattle.order.specs.Entries.{entries}
-use Rattle.assembled_rows.specs.Neighbours.{neighbours, everyTwo}
+use Rattle.limits.specs.Neighbours.{neighbours, everyTwo}
 
 module _ {A : Type 0} where
   neighbours-length : (xs : List A) → length (neighbours xs) ≡ length xs - 1
-  unfolding entries
+  unfolding neighbours
   neighbours-length [] = refl
   neighbours-length (x ∷ []) = refl
   neighbours-length (x ∷ y ∷ l) = omega (arith, neighbours-length (y ∷ l))
 
   neighbour-at : (none : A) (xs : List A) (i : ℕ) → suc i < length xs → getD (neighbours xs) i (none, none) ≡ (getD xs i none, getD xs (suc i) none)
-  unfolding entries
+  unfolding neighbours
   neighbour-at none [] i h = absurd (omega arith)
   neighbour-at none (x ∷ []) i h = absurd (omega arith)
   neighbour-at none (x ∷ y ∷ l) zero h = refl
