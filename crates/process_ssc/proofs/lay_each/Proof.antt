@@ -1,4 +1,4 @@
--- `process_ssc::lay_all` lays every entry, the beat on its row. Assumes nothing.
+-- `process_ssc::lay_each` lays every entry, the beat on its row. Assumes nothing.
 use Prim.Native.Nat.{_-_}
 use mathlib.Core.Path.{refl, _∙_, ap}
 use mathlib.Core.List.{List, map-id}
@@ -10,8 +10,8 @@ use Rattle.order.specs.Order.{laid}
 use Rattle.columns.proofs.LaidEach.{LayingEach, begun, turned, ended}
 use Rattle.columns.proofs.EachOverFront.{each-over-front}
 use borrow.Author.Needs.{needs}
-use Rattle.process_ssc.proofs.lay_all.Statement.{statement}
-use Rattle.process_ssc.proofs.lay_all.Tie as tie
+use Rattle.process_ssc.proofs.lay_each.Statement.{statement}
+use Rattle.process_ssc.proofs.lay_each.Tie as tie
 
 abbrev Inv-loop : tie.InvT-loop
 Inv-loop beats values out-beats₀ out-values₀ i₀ out-beats out-values i = LayingEach quantized beats out-beats₀ (length beats) out-beats i × LayingEach (λ (value : Float). value) values out-values₀ (length beats) out-values i
@@ -74,8 +74,8 @@ returns c =
     let past = c .loop-test .left in
     (ended (inv .0) past ∙ each-over-front quantized (start .args .beats .now) (start .args .out-beats .now) (omega arith), ended (inv .1) past ∙ each-over-front (λ (value : Float). value) (start .args .values .now) (start .args .out-values .now) (omega arith) ∙ ap (λ (l : List Float). laid l (start .args .out-values .now)) (map-id (start .args .values .now)))
 
-pub lay-all-spec : {M : Type 1} → statement M
-lay-all-spec =
+pub lay-each-spec : {M : Type 1} → statement M
+lay-each-spec =
     tie.close
     (tie.spec
     Inv-loop
