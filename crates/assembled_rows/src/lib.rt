@@ -5,10 +5,10 @@ ghost use mathlib.Core.Path.{_≡_};
 ghost use mathlib.Core.Bool.{true};
 ghost use mathlib.Core.List.{map};
 ghost use Prim.Native.Nat.{_≤_, _<_};
-ghost use lib.ListN.{length};
+ghost use lib.ListN.{length, take};
 ghost use lib.Ieee.{Float, lt};
 ghost use Rattle.ieee.specs.Narrowing.{narrow};
-ghost use Rattle.rows.specs.Rows.{quantized};
+ghost use Rattle.rows.specs.Rows.{quantized, quantized32};
 ghost use Rattle.limits.specs.Numbers.{miss};
 ghost use Rattle.columns.specs.Each.{laidEach};
 ghost use Rattle.columns.specs.Laying.{LaidPair};
@@ -46,17 +46,6 @@ pub fn quantize_column(from: &[f64], to: &mut [f64])
     }
 }
 
-fn quantize_column_f32(from: &[f64], to: &mut [f32])
-    ensures { λ _. ⌜ now (to .exit) ≡ laidEach quantized (now (from .entry)) (now (to .entry)) ⌝ }
-{
-    let n = columns::room_of(from.len(), to.len());
-    let mut i = 0;
-    while i < n {
-        to[i] = quantized_f32(from[i]);
-        i += 1;
-    }
-}
-
 // Each number as an f32.
 pub fn narrow_column(from: &[f64], to: &mut [f32])
     ensures { λ _. ⌜ now (to .exit) ≡ laidEach narrow (now (from .entry)) (now (to .entry)) ⌝ }
@@ -67,6 +56,27 @@ pub fn narrow_column(from: &[f64], to: &mut [f32])
         to[i] = ieee::narrow_f64(from[i]);
         i += 1;
     }
+}
+
+// The first n, each an f32 already, moved to their rows.
+fn quantize_front(column: &mut [f32], n: usize)
+    requires { ⌜ n ≤ length (now column) ⌝ }
+    ensures { λ _. ⌜ now (column .exit) ≡ laidEach (λ (beat : Float). quantized32 beat) (take n (now (column .entry))) (now (column .entry)) ⌝ }
+{
+    let mut i = 0;
+    while i < n {
+        column[i] = rows::quantize_beat_f32(column[i]);
+        i += 1;
+    }
+}
+
+// Narrowed in one loop and quantised in the next: one loop of both waits on the chain from one to the other.
+fn quantize_column_f32(from: &[f64], to: &mut [f32])
+    ensures { λ _. ⌜ now (to .exit) ≡ laidEach quantized (now (from .entry)) (now (to .entry)) ⌝ }
+{
+    let n = columns::room_of(from.len(), to.len());
+    narrow_column(from, to);
+    quantize_front(to, n);
 }
 
 // Each number as it is.
