@@ -1,7 +1,7 @@
--- A column written over in place, entry by entry; and a column narrowed and then quantised so is quantised. Assumes nothing.
+-- A column written over in place, entry by entry; and a column narrowed and then moved to its rows, in place or by way of another, is quantised. Assumes nothing.
 use Prim.Native.Nat.{ℕ, zero, suc, _+_, _≤_, _<_, min}
 use mathlib.Core.Path.{_≡_, refl, sym, ap, _∙_}
-use mathlib.Core.List.{List, [], _∷_}
+use mathlib.Core.List.{List, [], _∷_, map}
 use native.Mathlib.Numerals.{add-one}
 use native.Mathlib.Omega.{arith}
 use lib.ListN.{length, take, drop, getD, set}
@@ -10,7 +10,7 @@ use lib.Ieee.{Float}
 use Rattle.ieee.specs.Narrowing.{narrow}
 use Rattle.rows.specs.Rows.{quantized, quantized32}
 use Rattle.columns.specs.Each.{laidEach}
-use Rattle.columns.proofs.LaidEach.{LayingEach, begun, turned, ended}
+use Rattle.columns.proofs.LaidEach.{LayingEach, begun, turned, laid-all}
 
 module _ {A : Type 0} (f : A → A) where
   -- of the first n entries i are written over, and the rest is as it was
@@ -43,3 +43,13 @@ narrowed-then-moved [] old n e = let none : n ≡ 0 = omega arith in rw none
 narrowed-then-moved (x ∷ from) [] n e = let none : n ≡ 0 = omega arith in rw none
 narrowed-then-moved (x ∷ from) (y ∷ old) zero e = absurd (omega arith)
 narrowed-then-moved (x ∷ from) (y ∷ old) (suc n) e = ap (_∷_ (quantized x)) (narrowed-then-moved from old n (omega arith))
+
+moved-map : (from old : List Float) → laidEach move (map narrow from) old ≡ laidEach (λ (beat : Float). quantized beat) from old
+unfolding laidEach
+moved-map [] old = refl
+moved-map (x ∷ from) [] = refl
+moved-map (x ∷ from) (y ∷ old) = ap (_∷_ (quantized x)) (moved-map from old)
+
+-- by way of a column of the same length
+pub moved-narrowed : (from between old : List Float) → length from ≡ length between → laidEach move (laidEach narrow from between) old ≡ laidEach (λ (beat : Float). quantized beat) from old
+moved-narrowed from between old same = ap (λ (l : List Float). laidEach move l old) (laid-all narrow from between same) ∙ moved-map from old

@@ -1,12 +1,12 @@
--- `assembled_rows::quantize_column` writes each beat quantised, as far as both columns go. Assumes nothing.
+-- `assembled_rows::quantize_each` writes each beat quantised, as far as both columns go. Assumes nothing.
 use Prim.Native.Nat.{_-_}
 use native.Mathlib.Omega.{arith}
 use lib.Ieee.{nan}
 use Rattle.rows.specs.Rows.{quantized}
 use Rattle.columns.proofs.LaidEach.{LayingEach, begun, turned, ended}
 use borrow.Author.Needs.{needs}
-use Rattle.assembled_rows.proofs.quantize_column.Statement.{statement}
-use Rattle.assembled_rows.proofs.quantize_column.Tie as tie
+use Rattle.assembled_rows.proofs.quantize_each.Statement.{statement}
+use Rattle.assembled_rows.proofs.quantize_each.Tie as tie
 
 abbrev Inv-loop : tie.InvT-loop
 Inv-loop from to₀ n i₀ to i = LayingEach quantized from to₀ n to i
@@ -50,8 +50,8 @@ same-length c = search needs
 returns : tie.Need-returns Inv-loop μ-loop
 returns c = ended (c .before .loop .inv) (omega arith)
 
-pub quantize-column-spec : {M : Type 1} → statement M
-quantize-column-spec =
+pub quantize-each-spec : {M : Type 1} → statement M
+quantize-each-spec =
     tie.close
     (tie.spec
     Inv-loop
