@@ -136,17 +136,6 @@ fn quantize_column_f32(from: &[f64], to: &mut [f32])
 }
 
 // Each number as it is.
-fn copy_column(from: &[f64], to: &mut [f64])
-    ensures { λ _. ⌜ now (to .exit) ≡ laidEach (λ (x : Float). x) (now (from .entry)) (now (to .entry)) ⌝ }
-{
-    let n = columns::room_of(from.len(), to.len());
-    let mut i = 0;
-    while i < n {
-        to[i] = from[i];
-        i += 1;
-    }
-}
-
 fn copy_column_f32(from: &[f32], to: &mut [f32])
     ensures { λ _. ⌜ now (to .exit) ≡ laidEach (λ (x : Float). x) (now (from .entry)) (now (to .entry)) ⌝ }
 {
@@ -165,7 +154,7 @@ fn change_column(whole: bool, from: &[f64], to: &mut [f64])
         quantize_column(from, to);
         return;
     }
-    copy_column(from, to);
+    columns::copy(from, to);
 }
 
 fn change_column_f32(whole: bool, from: &[f64], to: &mut [f32])
