@@ -24,12 +24,11 @@ use Rattle.limits.specs.declared.Kind.the-variants.{Beat}
 use Rattle.limits.specs.Numbers.{inRange, rangeOf, allIn}
 use Rattle.limits.proofs.Every.{every-rest}
 use Rattle.order.specs.Order.{mayPrecede, neverFalls, Above, Rises}
-use Rattle.order.specs.Entries.{entries}
 use Rattle.order.specs.RowKey.{rowKey}
 use Rattle.order.proofs.RowKeys.{rows-below, rows-at-most}
 use Rattle.tidy_rows.specs.RowTidying.{rowKeyAt}
 use Rattle.tidy_rows.proofs.TakenBeats.{taken-allowed}
-use Rattle.assembled_rows.specs.Neighbours.{neighbours, everyTwo, notAbove}
+use Rattle.limits.specs.Neighbours.{neighbours, everyTwo, notAbove}
 
 in-i32 : (r : ℤ) → natAbs r ≤ mostRow → mag r < 2147483648
 in-i32 (pos n) h = omega arith
@@ -55,7 +54,7 @@ above-more j k [] h a = tt
 above-more j k (x ∷ l) h a = (omega (arith, a .0), above-more j k l h (a .1))
 
 pub rising-rows : (beats : List Float) → allIn (rangeOf Beat) beats ≡ true → everyTwo lt (map quantized beats) ≡ true → Rises rowKeyAt (map quantized beats)
-unfolding entries
+unfolding neighbours
 rising-rows [] a t = tt
 rising-rows (x ∷ []) a t = (tt, tt)
 rising-rows (x ∷ y ∷ beats) a t =
@@ -82,7 +81,7 @@ quantized-not-above x y p q h =
     ∙ sym (rows-at-most (narrowRow x) (narrowRow y) (in-i32 (narrowRow x) a) (in-i32 (narrowRow y) b)) ∙ is-true (leZ (narrowRow x) (narrowRow y)) up)
 
 pub rows-never-fall : (beats : List Float) → allIn (rangeOf Beat) beats ≡ true → everyTwo notAbove beats ≡ true → neverFalls rowKeyAt (map quantized beats) ≡ true
-unfolding entries neverFalls mayPrecede
+unfolding neighbours neverFalls mayPrecede
 rows-never-fall [] a t = refl
 rows-never-fall (x ∷ []) a t = refl
 rows-never-fall (x ∷ y ∷ beats) a t =

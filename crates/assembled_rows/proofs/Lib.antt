@@ -1,4 +1,3 @@
-pub mod EachTwo
 pub mod InRowOrder
 pub mod QuantizedTaken
 pub mod RisingRows
@@ -8,3 +7,4 @@ pub mod WrittenRises
 pub mod WrittenTaken
 pub mod FitsWhenTaken
 pub mod Unique
+pub mod InTwoLoops

@@ -24,7 +24,7 @@ use Rattle.columns.specs.Each.{laidEach}
 use Rattle.tidy_rows.specs.RowTidying.{rowKeyAt, onRow, rowKeyOf, onItsRow, tidyRows, rowsNumber}
 use Rattle.tidy_rows.proofs.TakenBeats.{taken-allowed}
 use Rattle.assembled_rows.specs.AssembledRows.{narrowedEntry, changeBy, assembledRows}
-use Rattle.assembled_rows.specs.Neighbours.{everyTwo}
+use Rattle.limits.specs.Neighbours.{everyTwo}
 use Rattle.assembled_rows.proofs.InRowOrder.{narrowRow, narrow-row-within, rising-rows}
 use Rattle.assembled_rows.proofs.QuantizedTaken.{quantized-fits}
 

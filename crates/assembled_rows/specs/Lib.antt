@@ -1,2 +1,1 @@
 pub mod AssembledRows
-pub mod Neighbours

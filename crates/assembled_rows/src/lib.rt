@@ -5,16 +5,16 @@ ghost use mathlib.Core.Path.{_≡_};
 ghost use mathlib.Core.Bool.{true};
 ghost use mathlib.Core.List.{map};
 ghost use Prim.Native.Nat.{_≤_, _<_};
-ghost use lib.ListN.{length};
+ghost use lib.ListN.{length, take};
 ghost use lib.Ieee.{Float, lt};
 ghost use Rattle.ieee.specs.Narrowing.{narrow};
-ghost use Rattle.rows.specs.Rows.{quantized};
+ghost use Rattle.rows.specs.Rows.{quantized, quantized32};
 ghost use Rattle.limits.specs.Numbers.{miss};
 ghost use Rattle.columns.specs.Each.{laidEach};
 ghost use Rattle.columns.specs.Laying.{LaidPair};
 ghost use Rattle.tidy_rows.specs.RowTidying.{rowsNumber};
 ghost use Rattle.assembled_rows.specs.AssembledRows.{changeBy, narrowedFront, RowsAssembled, rowsFit};
-ghost use Rattle.assembled_rows.specs.Neighbours.{everyTwo, notAbove};
+ghost use Rattle.limits.specs.Neighbours.{everyTwo, notAbove};
 
 // ---- numbers
 
@@ -34,29 +34,6 @@ fn quantized_f64(beat: f64) -> f64
 
 // ---- columns: each writes what becomes of entry i of the first column into entry i of the second, for every i that both have
 
-// Each beat moved to its row.
-pub fn quantize_column(from: &[f64], to: &mut [f64])
-    ensures { λ _. ⌜ now (to .exit) ≡ laidEach quantized (now (from .entry)) (now (to .entry)) ⌝ }
-{
-    let n = columns::room_of(from.len(), to.len());
-    let mut i = 0;
-    while i < n {
-        to[i] = quantized_f64(from[i]);
-        i += 1;
-    }
-}
-
-fn quantize_column_f32(from: &[f64], to: &mut [f32])
-    ensures { λ _. ⌜ now (to .exit) ≡ laidEach quantized (now (from .entry)) (now (to .entry)) ⌝ }
-{
-    let n = columns::room_of(from.len(), to.len());
-    let mut i = 0;
-    while i < n {
-        to[i] = quantized_f32(from[i]);
-        i += 1;
-    }
-}
-
 // Each number as an f32.
 pub fn narrow_column(from: &[f64], to: &mut [f32])
     ensures { λ _. ⌜ now (to .exit) ≡ laidEach narrow (now (from .entry)) (now (to .entry)) ⌝ }
@@ -69,18 +46,96 @@ pub fn narrow_column(from: &[f64], to: &mut [f32])
     }
 }
 
-// Each number as it is.
-fn copy_column(from: &[f64], to: &mut [f64])
-    ensures { λ _. ⌜ now (to .exit) ≡ laidEach (λ (x : Float). x) (now (from .entry)) (now (to .entry)) ⌝ }
+// ---- quantising: narrowed in one loop and moved to rows in the next, since one loop of both waits on the chain from one to the other
+
+// Each beat moved to its row, in a column of any length.
+fn quantize_each(from: &[f64], to: &mut [f64])
+    ensures { λ _. ⌜ now (to .exit) ≡ laidEach quantized (now (from .entry)) (now (to .entry)) ⌝ }
 {
     let n = columns::room_of(from.len(), to.len());
     let mut i = 0;
     while i < n {
-        to[i] = from[i];
+        to[i] = quantized_f64(from[i]);
         i += 1;
     }
 }
 
+// Each f32 moved to its row.
+fn move_narrowed(from: &[f32], to: &mut [f64])
+    ensures { λ _. ⌜ now (to .exit) ≡ laidEach (λ (beat : Float). quantized32 beat) (now (from .entry)) (now (to .entry)) ⌝ }
+{
+    let n = columns::room_of(from.len(), to.len());
+    let mut i = 0;
+    while i < n {
+        to[i] = std::num::f32_to_f64_with_nan(rows::quantize_beat_f32(from[i]));
+        i += 1;
+    }
+}
+
+// By way of a column as long as the first.
+fn quantize_by(from: &[f64], narrowed: &mut [f32], to: &mut [f64])
+    requires { ⌜ length (now from) ≡ length (now narrowed) ⌝ }
+    ensures { λ _. ⌜ now (to .exit) ≡ laidEach quantized (now (from .entry)) (now (to .entry)) ⌝ }
+{
+    narrow_column(from, narrowed);
+    move_narrowed(narrowed, to);
+}
+
+fn quantize_few(from: &[f64], to: &mut [f64])
+    requires { ⌜ length (now from) ≤ 64 ⌝ }
+    ensures { λ _. ⌜ now (to .exit) ≡ laidEach quantized (now (from .entry)) (now (to .entry)) ⌝ }
+{
+    let n = from.len();
+    let mut narrowed = [0.0f32; 64];
+    quantize_by(from, &mut narrowed[..n], to);
+}
+
+fn quantize_many(from: &[f64], to: &mut [f64])
+    requires { ⌜ length (now from) ≤ 1024 ⌝ }
+    ensures { λ _. ⌜ now (to .exit) ≡ laidEach quantized (now (from .entry)) (now (to .entry)) ⌝ }
+{
+    let n = from.len();
+    let mut narrowed = [0.0f32; 1024];
+    quantize_by(from, &mut narrowed[..n], to);
+}
+
+// Each beat moved to its row.
+pub fn quantize_column(from: &[f64], to: &mut [f64])
+    ensures { λ _. ⌜ now (to .exit) ≡ laidEach quantized (now (from .entry)) (now (to .entry)) ⌝ }
+{
+    if from.len() <= 64 {
+        quantize_few(from, to);
+        return;
+    }
+    if from.len() <= limits::MOST_ENTRIES {
+        quantize_many(from, to);
+        return;
+    }
+    quantize_each(from, to);
+}
+
+// The first n, each an f32 already, moved to their rows.
+fn quantize_front(column: &mut [f32], n: usize)
+    requires { ⌜ n ≤ length (now column) ⌝ }
+    ensures { λ _. ⌜ now (column .exit) ≡ laidEach (λ (beat : Float). quantized32 beat) (take n (now (column .entry))) (now (column .entry)) ⌝ }
+{
+    let mut i = 0;
+    while i < n {
+        column[i] = rows::quantize_beat_f32(column[i]);
+        i += 1;
+    }
+}
+
+// The same into a column of f32.
+fn quantize_column_f32(from: &[f64], to: &mut [f32])
+    ensures { λ _. ⌜ now (to .exit) ≡ laidEach quantized (now (from .entry)) (now (to .entry)) ⌝ }
+{
+    let n = columns::room_of(from.len(), to.len());
+    narrow_column(from, to);
+    quantize_front(to, n);
+}
+
+// Each number as it is.
 fn copy_column_f32(from: &[f32], to: &mut [f32])
     ensures { λ _. ⌜ now (to .exit) ≡ laidEach (λ (x : Float). x) (now (from .entry)) (now (to .entry)) ⌝ }
 {
@@ -99,7 +154,7 @@ fn change_column(whole: bool, from: &[f64], to: &mut [f64])
         quantize_column(from, to);
         return;
     }
-    copy_column(from, to);
+    columns::copy(from, to);
 }
 
 fn change_column_f32(whole: bool, from: &[f64], to: &mut [f32])

@@ -23,7 +23,7 @@ use Rattle.keeping.proofs.ShortestColumn.{many-entries}
 use Rattle.tidy_scrolls.specs.ScrollTidying.{tidyScrolls, scrollsNumber, ScrollsTidied}
 use Rattle.tidy_scrolls.proofs.Outcomes.{number-of-list, ordered-number}
 use Rattle.assembled_rows.specs.AssembledRows.{narrowedEntry, narrowedFront}
-use Rattle.assembled_rows.specs.Neighbours.{everyTwo, notAbove}
+use Rattle.limits.specs.Neighbours.{everyTwo, notAbove}
 use Rattle.assembled_rows.proofs.InRowOrder.{rows-never-fall}
 use Rattle.assembled_rows.proofs.Outcomes.{refused-as, narrowed-result, number-in-room, number-as-tests}
 use Rattle.assembled_scrolls.specs.AssembledScrolls.{assembledScrolls, assembledScrollsNumber, ScrollsAssembled, scrollsRoomNumber}

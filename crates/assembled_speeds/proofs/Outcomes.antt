@@ -22,7 +22,7 @@ use Rattle.speeds.proofs.SpeedColumns.{many-speeds}
 use Rattle.speeds.proofs.Rooms.{refused-by-tests}
 use Rattle.tidy_speeds.specs.SpeedTidying.{speedListNumber, tidySpeeds, speedsNumber, SpeedsTidied}
 use Rattle.tidy_speeds.proofs.Outcomes.{ordered-number}
-use Rattle.assembled_rows.specs.Neighbours.{everyTwo, notAbove}
+use Rattle.limits.specs.Neighbours.{everyTwo, notAbove}
 use Rattle.assembled_rows.proofs.InRowOrder.{rows-never-fall}
 use Rattle.assembled_rows.proofs.Outcomes.{number-as-tests, number-with-room, number-in-room, tests-passed, given-same, room-same}
 use Rattle.assembled_scrolls.proofs.KeptNoLonger.{kept-few}

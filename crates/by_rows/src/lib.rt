@@ -1,7 +1,17 @@
 // Beats by their rows: the row as a key, the beat of the row, and whether rows never fall.
+use limits::Kind;
 ghost use mathlib.Core.Path.{_≡_};
+ghost use mathlib.Core.Bool.{true, false};
+ghost use lib.Dec.{T};
+ghost use lib.Ieee.{Float};
+ghost use Rattle.picks.specs.Pick.{pick};
+ghost use Rattle.rows.specs.Rows.{allowedBeat};
+ghost use Rattle.limits.specs.Numbers.{rangeOf, allIn, miss};
+ghost use Rattle.limits.specs.Neighbours.{everyTwo};
+ghost use Rattle.columns.specs.Each.{laidEach};
 ghost use Rattle.order.specs.Order.{neverFalls};
 ghost use Rattle.tidy_rows.specs.RowTidying.{rowKeyAt, onRow};
+ghost use Rattle.by_rows.specs.ByMarks.{rowRises, onMarkedRow};
 
 // The beat moved to its row.
 pub fn on_row(beat: f64) -> f64
@@ -32,4 +42,53 @@ pub fn in_order(beats: &[f64]) -> bool
         i += 1;
     }
     true
+}
+
+// ---- allowed beats, several at a time
+
+// 1 where the next beat is on no later row, else 0.
+fn not_later(beat: f64, next: f64) -> usize
+    requires { ⌜ T (allowedBeat beat) × T (allowedBeat next) ⌝ }
+    ensures { λ r. ⌜ r ≡ miss (λ (e : Float × Float). rowRises (e .0) (e .1)) (beat, next) ⌝ }
+{
+    if rows::row_mark(beat) < rows::row_mark(next) {
+        0
+    } else {
+        1
+    }
+}
+
+fn allowed_rise(beats: &[f64]) -> bool
+    requires { ⌜ allIn (rangeOf Kind.Beat) (now beats) ≡ true ⌝ }
+    ensures { λ r. ⌜ r ≡ everyTwo rowRises (now (beats .entry)) ⌝ }
+{
+    let mut fail: usize = 0;
+    let mut i = 0;
+    while i + 1 < beats.len() {
+        fail += not_later(beats[i], beats[i + 1]);
+        i += 1;
+    }
+    fail == 0
+}
+
+// Whether every beat is allowed and on a later row than the one before it.
+pub fn rise(beats: &[f64]) -> bool
+    ensures { λ r. ⌜ r ≡ pick (allIn (rangeOf Kind.Beat) (now (beats .entry))) (everyTwo rowRises (now (beats .entry))) false ⌝ }
+{
+    if limits::column_taken(Kind::Beat, beats) {
+        return allowed_rise(beats);
+    }
+    false
+}
+
+// Each beat moved to its row by the mark, which is right for allowed beats, as far as both columns go.
+pub fn lay_on_rows(beats: &[f64], to: &mut [f64])
+    ensures { λ _. ⌜ now (to .exit) ≡ laidEach onMarkedRow (now (beats .entry)) (now (to .entry)) ⌝ }
+{
+    let n = columns::room_of(beats.len(), to.len());
+    let mut i = 0;
+    while i < n {
+        to[i] = rows::beat_of_mark(rows::row_mark(beats[i]));
+        i += 1;
+    }
 }

@@ -1,6 +1,8 @@
 // What a call answers that lays a result over the front of lent columns.
 ghost use mathlib.Core.Path.{_≡_};
 ghost use Prim.Native.Nat.{min};
+ghost use lib.Ieee.{Float};
+ghost use Rattle.columns.specs.Each.{laidEach};
 ghost use Rattle.columns.specs.Laying.{roomNumber, refusedBy};
 
 // The refusal number, 0 where the call is taken, and how many entries were written.
@@ -25,4 +27,16 @@ pub fn room_of(first: usize, second: usize) -> usize
     ensures { λ r. ⌜ r ≡ min first second ⌝ }
 {
     if first < second { first } else { second }
+}
+
+// Each number of a column over the front of another, as far as both go.
+pub fn copy(from: &[f64], to: &mut [f64])
+    ensures { λ _. ⌜ now (to .exit) ≡ laidEach (λ (x : Float). x) (now (from .entry)) (now (to .entry)) ⌝ }
+{
+    let n = room_of(from.len(), to.len());
+    let mut i = 0;
+    while i < n {
+        to[i] = from[i];
+        i += 1;
+    }
 }

@@ -31,3 +31,4 @@ pub mod Signs
 pub mod StepPower
 pub mod AnchorPattern
 pub mod NarrowBySum
+pub mod WholeByBias

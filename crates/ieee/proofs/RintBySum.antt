@@ -11,6 +11,7 @@ use lib.Dec.{T, lit<}
 use lib.Ieee.{Float, nan, inf, fin, binary64, up, down, round, sum, add, le, isNan, toBits}
 use lib.Ieee.Fits.{down-pos}
 use lib.Ieee.Nearest.{closest}
+use lib.Ieee.Exact.{HasValue}
 use mir.Syntax.{w32, w64}
 use mir.Val.{SFits, toZ, ofZ}
 use mir.ValLaws.{toZ-pos, toZ-ofZ}
@@ -20,6 +21,7 @@ use Rattle.ieee.proofs.ClosestLaws.{closest-le, closest-add, closest-su
 use Rattle.ieee.proofs.Units.{round-number}
 use Rattle.ieee.proofs.Tests.{or-eq, eq-or}
 use Rattle.ieee.proofs.Snap.{whole-pattern}
+use Rattle.ieee.proofs.WholeBySum.{snap-value}
 
 -- ---- the code's literals: 1.5 * 2 ^ 52, and its pattern
 abbrev pub biasFloat : Float
@@ -33,6 +35,9 @@ biasPattern = 0x4338_0000_0000_0000
 
 -- ---- n is the sum's pattern
 record Rounds (x : Float) (n : ℕ) : Type 0 where
+  count : ℕ
+  counted : n ≡ 1074 * 2 ^ 52 + count
+  value : HasValue (add binary64 x biasFloat) false count 1
   number : T (not (isNan (add binary64 x biasFloat)))
   pattern : toBits binary64 (add binary64 x biasFloat) ≡ n
   near : pos n -ℤ pos biasPattern ≡ rint x
@@ -51,6 +56,9 @@ by-sum : (x : Float) (num d c : ℕ) → 0 < d → add binary64 x biasFloat ≡ 
     → pos (1074 * 2 ^ 52 + c) -ℤ pos biasPattern ≡ rint x → mag (rint x) < 2 ^ 31 → Rounds x (1074 * 2 ^ 52 + c)
 by-sum x num d c D e lo hi i near small =
     record {
+      count = c;
+      counted = refl;
+      value = subst (λ (y : Float). HasValue y false c 1) (sym e) (subst (λ (k : ℕ). HasValue (round binary64 false num d) false k 1) i (snap-value binary64 false num d D lo hi));
       number = subst (λ (y : Float). T (not (isNan y))) (sym e) (round-number binary64 false num d);
       pattern = ap (toBits binary64) e ∙ whole-pattern binary64 num d D lo hi false ∙ omega arith;
       near = near;
@@ -139,3 +147,15 @@ module _ (x : Float) (h : Within x) where
 
   pub difference32 : toZ w32 (ofZ w32 (toZ w64 (ofZ w64 (toZ w64 (toBits binary64 (add binary64 x biasFloat)) -ℤ pos biasPattern)))) ≡ rint x
   difference32 = ap (λ (z : ℤ). toZ w32 (ofZ w32 z)) difference64 ∙ toZ-ofZ w32 (rint x) (record { sfits = within-small x h })
+
+-- ---- the sum as a whole number
+pub record Summed (x : Float) : Type 0 where
+  pub count : ℕ
+  pub value : HasValue (add binary64 x biasFloat) false count 1
+  pub pattern : toBits binary64 (add binary64 x biasFloat) ≡ 1074 * 2 ^ 52 + count
+  pub near : pos (1074 * 2 ^ 52 + count) -ℤ pos biasPattern ≡ rint x
+
+pub summed : (x : Float) → Within x → Summed x
+summed x h =
+    let r = rounds x h .1 in
+    record { count = r .count; value = r .value; pattern = r .pattern ∙ r .counted; near = subst (λ (n : ℕ). pos n -ℤ pos biasPattern ≡ rint x) (r .counted) (r .near) }

@@ -73,6 +73,10 @@ pub minus-values : (f : Format) (x y : Float) (a b c : ℕ) → 0 < c → b ≤ 
 unfolding sub sum
 minus-values f x y a b c C l v w = add-values f x (neg y) false true a b c C v (neg-value y b c w) ∙ rw (le-ltb a b l) refl
 
+pub minus-less : (f : Format) (x y : Float) (a b c : ℕ) → 0 < c → a < b → HasValue x false a c → HasValue y false b c → sub f x y ≡ round f true (b - a) c
+unfolding sub sum
+minus-less f x y a b c C l v w = add-values f x (neg y) false true a b c C v (neg-value y b c w) ∙ rw (lt-ltb a b l) refl
+
 pub lt-values : (x y : Float) (a b c : ℕ) → 0 < c → HasValue x false a c → HasValue y false b c → lt x y ≡ ltb a b
 unfolding lt
 lt-values nan y a b c C v w = absurd v

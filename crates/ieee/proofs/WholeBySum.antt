@@ -52,7 +52,7 @@ module _ (f : Format) where
   of-signed true (suc w) W = refl
   of-signed false w W = refl
 
-  snap-value : (s : Bool) (num den : ℕ) → 0 < den → 2 ^ (prec f - 1) * den ≤ num → num < 2 ^ prec f * den → HasValue (round f s num den) s (closest num den) 1
+  pub snap-value : (s : Bool) (num den : ℕ) → 0 < den → 2 ^ (prec f - 1) * den ≤ num → num < 2 ^ prec f * den → HasValue (round f s num den) s (closest num den) 1
   snap-value s num den D lo hi =
       let L = 2 ^ low f in
       let q = closest num den in

@@ -12,3 +12,4 @@ pub mod PlacedInColumns
 pub mod FieldsLaid
 pub mod ShortestColumn
 pub mod Answered
+pub mod AllApart

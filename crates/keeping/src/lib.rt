@@ -5,7 +5,10 @@ ghost use Prim.Native.Nat.{_-_, _≤_, _<_};
 ghost use lib.ListN.{length, take, drop};
 ghost use Rattle.picks.specs.Pick.{pick};
 ghost use Rattle.order.specs.Order.{laid};
-ghost use Rattle.keeping.specs.Near.{nearTo};
+ghost use lib.Ieee.{Float};
+ghost use Rattle.limits.specs.Numbers.{miss};
+ghost use Rattle.limits.specs.Neighbours.{everyTwo};
+ghost use Rattle.keeping.specs.Near.{nearTo, farFrom};
 ghost use Rattle.keeping.specs.Changing.{cut, changeOf, splicedIn};
 
 // Whether two values are less than a millionth apart.
@@ -13,6 +16,25 @@ pub fn near(a: f64, b: f64) -> bool
     ensures { λ r. ⌜ r ≡ nearTo a b ⌝ }
 {
     limits::magnitude(a - b) < 1e-6
+}
+
+fn one_near(value: f64, next: f64) -> usize
+    ensures { λ r. ⌜ r ≡ miss (λ (e : Float × Float). farFrom (e .0) (e .1)) (value, next) ⌝ }
+{
+    if near(next, value) { 1 } else { 0 }
+}
+
+// Whether no value is near the one before it: a loop that counts those has no branch.
+pub fn all_apart(values: &[f64]) -> bool
+    ensures { λ r. ⌜ r ≡ everyTwo farFrom (now (values .entry)) ⌝ }
+{
+    let mut fail: usize = 0;
+    let mut i = 0;
+    while i + 1 < values.len() {
+        fail += one_near(values[i], values[i + 1]);
+        i += 1;
+    }
+    fail == 0
 }
 
 // ---- the change that an entry makes

@@ -71,3 +71,9 @@ pub every-at : {A : Type 0} (test : A → Bool) (list : List A) (i : ℕ) (other
 every-at test [] i other h l = absurd (omega arith)
 every-at test (x ∷ list) zero other h l = every-rest test x list h .0
 every-at test (x ∷ list) (suc i) other h l = every-at test list i other (every-rest test x list h .1) (omega arith)
+
+-- and where one test is passed by what passes another
+pub every-more : {A : Type 0} (test other : A → Bool) → ((x : A) → test x ≡ true → other x ≡ true) → (list : List A) → every test list ≡ true → every other list ≡ true
+unfolding every
+every-more test other more [] h = refl
+every-more test other more (x ∷ list) h = let p = every-rest test x list h in rw (more x (p .0), every-more test other more list (p .1))

@@ -1,2 +1,4 @@
 pub mod Numbers
+pub mod Neighbours
+pub mod Plain
 pub mod Refusals

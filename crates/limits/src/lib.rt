@@ -3,7 +3,8 @@ ghost use mathlib.Core.Path.{_≡_};
 ghost use mathlib.Core.Bool.{true, false};
 ghost use Prim.Native.Nat.{_+_, _≤_};
 ghost use lib.ListN.{length};
-ghost use Rattle.limits.specs.Numbers.{rangeOf, inRange, sizeOf, miss, allIn, isUnit, unitsIn, rowIn};
+ghost use Rattle.limits.specs.Numbers.{rangeOf, inRange, sizeOf, every, miss, allIn, isUnit, unitsIn, rowIn};
+ghost use Rattle.limits.specs.Plain.{plain};
 ghost use Rattle.limits.specs.Refusals.{lower, listNumber};
 
 // ---- what a refusal answers
@@ -185,15 +186,78 @@ fn one_outside(range: Range, x: f64) -> usize
     if in_range(range, x) { 0 } else { 1 }
 }
 
+// Whether a number is from the least to the most in size.
+fn is_plain(range: Range, x: f64) -> bool
+    ensures { λ r. ⌜ r ≡ plain range x ⌝ }
+{
+    let size = magnitude(x);
+    if size <= range.most {
+        return size >= range.least;
+    }
+    false
+}
+
+fn one_not_plain(range: Range, x: f64) -> usize
+    ensures { λ r. ⌜ r ≡ miss (plain range) x ⌝ }
+{
+    if is_plain(range, x) { 0 } else { 1 }
+}
+
+// Whether every number of a column is: two tests a number, in a loop that a machine does for several at a time.
+fn all_plain(range: Range, column: &[f64]) -> bool
+    ensures { λ r. ⌜ r ≡ every (plain range) (now (column .entry)) ⌝ }
+{
+    let mut others: usize = 0;
+    let mut i = 0;
+    while i < column.len() {
+        others += one_not_plain(range, column[i]);
+        i += 1;
+    }
+    others == 0
+}
+
+fn all_in(range: Range, column: &[f64]) -> bool
+    ensures { λ r. ⌜ r ≡ allIn range (now (column .entry)) ⌝ }
+{
+    let mut outside: usize = 0;
+    let mut i = 0;
+    while i < column.len() {
+        outside += one_outside(range, column[i]);
+        i += 1;
+    }
+    outside == 0
+}
+
 // Whether every number of a column is taken.
 pub fn column_taken(kind: Kind, column: &[f64]) -> bool
     ensures { λ r. ⌜ r ≡ allIn (rangeOf kind) (now (column .entry)) ⌝ }
 {
     let range = range_of(kind);
+    if all_plain(range, column) {
+        return true;
+    }
+    all_in(range, column)
+}
+
+fn all_plain_f32(range: Range, column: &[f32]) -> bool
+    ensures { λ r. ⌜ r ≡ every (plain range) (now (column .entry)) ⌝ }
+{
+    let mut others: usize = 0;
+    let mut i = 0;
+    while i < column.len() {
+        others += one_not_plain(range, std::num::f32_to_f64_with_nan(column[i]));
+        i += 1;
+    }
+    others == 0
+}
+
+fn all_in_f32(range: Range, column: &[f32]) -> bool
+    ensures { λ r. ⌜ r ≡ allIn range (now (column .entry)) ⌝ }
+{
     let mut outside: usize = 0;
     let mut i = 0;
     while i < column.len() {
-        outside += one_outside(range, column[i]);
+        outside += one_outside(range, std::num::f32_to_f64_with_nan(column[i]));
         i += 1;
     }
     outside == 0
@@ -204,13 +268,10 @@ pub fn column_taken_f32(kind: Kind, column: &[f32]) -> bool
     ensures { λ r. ⌜ r ≡ allIn (rangeOf kind) (now (column .entry)) ⌝ }
 {
     let range = range_of(kind);
-    let mut outside: usize = 0;
-    let mut i = 0;
-    while i < column.len() {
-        outside += one_outside(range, std::num::f32_to_f64_with_nan(column[i]));
-        i += 1;
+    if all_plain_f32(range, column) {
+        return true;
     }
-    outside == 0
+    all_in_f32(range, column)
 }
 
 fn one_no_unit(unit: u8) -> usize

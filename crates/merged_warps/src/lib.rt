@@ -3,23 +3,9 @@ use by_format::TimingFormat;
 use limits::Kind;
 use raw_lists::Processed;
 ghost use mathlib.Core.Path.{_≡_};
-ghost use lib.Ieee.{Float};
 ghost use Rattle.limits.specs.Refusals.{lower};
-ghost use Rattle.columns.specs.Each.{laidEach};
 ghost use Rattle.raw_lists.specs.RawLists.{rawNumbers, processedNothing};
 ghost use Rattle.merged_warps.specs.MergedWarps.{orNoRoom, MergedBy};
-
-// Each number as it is, as far as both columns go.
-fn copy(from: &[f64], to: &mut [f64])
-    ensures { λ _. ⌜ now (to .exit) ≡ laidEach (λ (x : Float). x) (now (from .entry)) (now (to .entry)) ⌝ }
-{
-    let n = columns::room_of(from.len(), to.len());
-    let mut i = 0;
-    while i < n {
-        to[i] = from[i];
-        i += 1;
-    }
-}
 
 // Where the given warps are refused, or have no room: the lowest number of the three lists, and 7 where they are taken.
 fn refuse(
@@ -83,8 +69,8 @@ pub fn process_with_warps(
     if processed.number != limits::TAKEN {
         return processed;
     }
-    copy(warp_beats, out_warp_beats);
-    copy(warp_lengths, out_warp_lengths);
+    columns::copy(warp_beats, out_warp_beats);
+    columns::copy(warp_lengths, out_warp_lengths);
     Processed {
         number: limits::TAKEN,
         tempos: processed.tempos,

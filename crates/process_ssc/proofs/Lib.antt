@@ -1,3 +1,4 @@
 pub mod StayTests
 pub mod TemposTaken
 pub mod Outcomes
+pub mod EachStays

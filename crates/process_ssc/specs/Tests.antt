@@ -1,6 +1,7 @@
 -- Which entries stay, by the tests that the code makes. Definitions only.
 use mathlib.Core.Bool.{Bool, false}
-use lib.Ieee.{Float, inf, lt, le}
+use lib.IntN.{pos}
+use lib.Ieee.{Float, inf, fin, lt, le}
 use Rattle.picks.specs.Pick.{pick}
 use Rattle.process_ssc.specs.Ssc.{zero}
 
@@ -9,3 +10,10 @@ within beat value =
     pick (le zero beat)
     (pick (lt beat (inf false)) (pick (lt zero value) (lt value (inf false)) false) false)
     false
+
+-- each column by itself, with the limits that raw lists have
+unfoldable pub beatStays : Float → Bool
+beatStays beat = pick (le zero beat) (le beat (fin false 1 (pos 16))) false
+
+unfoldable pub valueStays : Float → Bool
+valueStays value = pick (lt zero value) (le value (fin false 1 (pos 30))) false

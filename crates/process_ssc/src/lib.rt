@@ -2,15 +2,21 @@
 use columns::Outcome;
 use raw_lists::Processed;
 ghost use mathlib.Core.Path.{_≡_};
+ghost use mathlib.Core.Bool.{true};
 ghost use mathlib.Core.List.{map};
 ghost use Prim.Native.Nat.{_≤_, min};
 ghost use lib.Dec.{leb};
 ghost use lib.ListN.{length};
-ghost use Rattle.rows.specs.Rows.{quantized};
+ghost use lib.Ieee.{Float};
+ghost use Rattle.limits.specs.Numbers.{every, miss};
+ghost use Rattle.ieee.specs.Narrowing.{narrow};
+ghost use Rattle.rows.specs.Rows.{quantized, quantized32};
 ghost use Rattle.order.specs.Order.{laid};
 ghost use Rattle.order.specs.Entries.{first, second};
+ghost use Rattle.columns.specs.Each.{laidEach};
 ghost use Rattle.columns.specs.Laying.{LaidPair};
 ghost use Rattle.raw_lists.specs.RawLists.{rawNumber};
+ghost use Rattle.process_ssc.specs.Tests.{beatStays, valueStays};
 ghost use Rattle.process_ssc.specs.Ssc.{staysSsc, stayed, sscTempos, SscProcessed};
 
 // Whether an entry stays: finite, the beat not below 0, the value above it.
@@ -82,8 +88,74 @@ fn lay_some(beats: &[f64], values: &[f64], out_beats: &mut [f64], out_values: &m
     count
 }
 
-// Every entry, in a loop that a machine does for several at a time.
-fn lay_all(beats: &[f64], values: &[f64], out_beats: &mut [f64], out_values: &mut [f64])
+// ---- every entry: narrowed first, and quantised then, each in a loop that a machine does for several beats at a time
+
+fn narrow_beats(beats: &[f64], to: &mut [f32])
+    ensures { λ _. ⌜ now (to .exit) ≡ laidEach narrow (now (beats .entry)) (now (to .entry)) ⌝ }
+{
+    let n = columns::room_of(beats.len(), to.len());
+    let mut i = 0;
+    while i < n {
+        to[i] = ieee::narrow_f64(beats[i]);
+        i += 1;
+    }
+}
+
+fn quantize_narrowed(beats: &[f32], to: &mut [f64])
+    ensures { λ _. ⌜ now (to .exit) ≡ laidEach (λ (beat : Float). quantized32 beat) (now (beats .entry)) (now (to .entry)) ⌝ }
+{
+    let n = columns::room_of(beats.len(), to.len());
+    let mut i = 0;
+    while i < n {
+        to[i] = std::num::f32_to_f64_with_nan(rows::quantize_beat_f32(beats[i]));
+        i += 1;
+    }
+}
+
+// By way of a column as long as the beats.
+fn lay_by(
+    beats: &[f64],
+    values: &[f64],
+    narrowed: &mut [f32],
+    out_beats: &mut [f64],
+    out_values: &mut [f64],
+)
+    requires { ⌜ (length (now beats) ≡ length (now values)) × (length (now beats) ≡ length (now narrowed)) ⌝ }
+    requires { ⌜ length (now beats) ≤ min (length (now «out_beats»)) (length (now «out_values»)) ⌝ }
+    ensures { λ _. ⌜ now («out_beats» .exit) ≡ laid (map quantized (now (beats .entry))) (now («out_beats» .entry)) ⌝ }
+    ensures { λ _. ⌜ now («out_values» .exit) ≡ laid (now (values .entry)) (now («out_values» .entry)) ⌝ }
+{
+    narrow_beats(beats, narrowed);
+    quantize_narrowed(narrowed, out_beats);
+    columns::copy(values, out_values);
+}
+
+// A column for as many beats as a chart has.
+fn lay_few(beats: &[f64], values: &[f64], out_beats: &mut [f64], out_values: &mut [f64])
+    requires { ⌜ (length (now beats) ≡ length (now values)) × (length (now beats) ≤ 64) ⌝ }
+    requires { ⌜ length (now beats) ≤ min (length (now «out_beats»)) (length (now «out_values»)) ⌝ }
+    ensures { λ _. ⌜ now («out_beats» .exit) ≡ laid (map quantized (now (beats .entry))) (now («out_beats» .entry)) ⌝ }
+    ensures { λ _. ⌜ now («out_values» .exit) ≡ laid (now (values .entry)) (now («out_values» .entry)) ⌝ }
+{
+    let n = beats.len();
+    let mut narrowed = [0.0f32; 64];
+    lay_by(beats, values, &mut narrowed[..n], out_beats, out_values);
+}
+
+// A column for as many as are taken.
+fn lay_many(beats: &[f64], values: &[f64], out_beats: &mut [f64], out_values: &mut [f64])
+    requires { ⌜ (length (now beats) ≡ length (now values)) × (length (now beats) ≤ 1024) ⌝ }
+    requires { ⌜ length (now beats) ≤ min (length (now «out_beats»)) (length (now «out_values»)) ⌝ }
+    ensures { λ _. ⌜ now («out_beats» .exit) ≡ laid (map quantized (now (beats .entry))) (now («out_beats» .entry)) ⌝ }
+    ensures { λ _. ⌜ now («out_values» .exit) ≡ laid (now (values .entry)) (now («out_values» .entry)) ⌝ }
+{
+    let n = beats.len();
+    let mut narrowed = [0.0f32; 1024];
+    lay_by(beats, values, &mut narrowed[..n], out_beats, out_values);
+}
+
+// Every entry of a list of any length.
+fn lay_each(beats: &[f64], values: &[f64], out_beats: &mut [f64], out_values: &mut [f64])
     requires { ⌜ length (now beats) ≡ length (now values) ⌝ }
     requires { ⌜ length (now beats) ≤ min (length (now «out_beats»)) (length (now «out_values»)) ⌝ }
     ensures { λ _. ⌜ now («out_beats» .exit) ≡ laid (map quantized (now (beats .entry))) (now («out_beats» .entry)) ⌝ }
@@ -97,6 +169,84 @@ fn lay_all(beats: &[f64], values: &[f64], out_beats: &mut [f64], out_values: &mu
     }
 }
 
+fn lay_all(beats: &[f64], values: &[f64], out_beats: &mut [f64], out_values: &mut [f64])
+    requires { ⌜ length (now beats) ≡ length (now values) ⌝ }
+    requires { ⌜ length (now beats) ≤ min (length (now «out_beats»)) (length (now «out_values»)) ⌝ }
+    ensures { λ _. ⌜ now («out_beats» .exit) ≡ laid (map quantized (now (beats .entry))) (now («out_beats» .entry)) ⌝ }
+    ensures { λ _. ⌜ now («out_values» .exit) ≡ laid (now (values .entry)) (now («out_values» .entry)) ⌝ }
+{
+    if beats.len() <= 64 {
+        lay_few(beats, values, out_beats, out_values);
+        return;
+    }
+    if beats.len() <= limits::MOST_ENTRIES {
+        lay_many(beats, values, out_beats, out_values);
+        return;
+    }
+    lay_each(beats, values, out_beats, out_values);
+}
+
+// ---- whether every entry stays, column by column: loops that count what fails have no branch
+
+fn beat_goes(beat: f64) -> usize
+    ensures { λ r. ⌜ r ≡ miss beatStays beat ⌝ }
+{
+    if beat >= 0.0 {
+        if beat <= 65536.0 {
+            return 0;
+        }
+        return 1;
+    }
+    1
+}
+
+fn beats_stay(beats: &[f64]) -> bool
+    ensures { λ r. ⌜ r ≡ every beatStays (now (beats .entry)) ⌝ }
+{
+    let mut gone: usize = 0;
+    let mut i = 0;
+    while i < beats.len() {
+        gone += beat_goes(beats[i]);
+        i += 1;
+    }
+    gone == 0
+}
+
+fn value_goes(value: f64) -> usize
+    ensures { λ r. ⌜ r ≡ miss valueStays value ⌝ }
+{
+    if value > 0.0 {
+        if value <= 1073741824.0 {
+            return 0;
+        }
+        return 1;
+    }
+    1
+}
+
+fn values_stay(values: &[f64]) -> bool
+    ensures { λ r. ⌜ r ≡ every valueStays (now (values .entry)) ⌝ }
+{
+    let mut gone: usize = 0;
+    let mut i = 0;
+    while i < values.len() {
+        gone += value_goes(values[i]);
+        i += 1;
+    }
+    gone == 0
+}
+
+// Whether every entry stays for certain: of a taken list, whether every one does.
+fn all_stay(beats: &[f64], values: &[f64]) -> bool
+    requires { ⌜ length (now beats) ≡ length (now values) ⌝ }
+    ensures { λ r. ⌜ (r ≡ true → length (stayed (now (beats .entry)) (now (values .entry))) ≡ length (now (beats .entry))) ⌝ }
+{
+    if beats_stay(beats) {
+        return values_stay(values);
+    }
+    false
+}
+
 // The entries that stay, each beat on its row, over the front of the rooms.
 fn lay_stayed(beats: &[f64], values: &[f64], out_beats: &mut [f64], out_values: &mut [f64]) -> usize
     requires { ⌜ length (now beats) ≡ length (now values) ⌝ }
@@ -105,7 +255,7 @@ fn lay_stayed(beats: &[f64], values: &[f64], out_beats: &mut [f64], out_values: 
     ensures { λ _. ⌜ now («out_beats» .exit) ≡ laid (map first (stayed (now (beats .entry)) (now (values .entry)))) (now («out_beats» .entry)) ⌝ }
     ensures { λ _. ⌜ now («out_values» .exit) ≡ laid (map second (stayed (now (beats .entry)) (now (values .entry)))) (now («out_values» .entry)) ⌝ }
 {
-    if count_stayed(beats, values) == beats.len() {
+    if all_stay(beats, values) {
         lay_all(beats, values, out_beats, out_values);
         return beats.len();
     }

@@ -16,15 +16,9 @@ use Rattle.ieee.proofs.RoundedSize.{Near, grid-fine, grid-ge, grid-near}
 use Rattle.ieee.proofs.SignedSizes.{negative}
 use Rattle.ieee.proofs.Units.{round-units}
 use Rattle.rows.specs.Rows.{beatOf}
+use Rattle.rows.specs.Marks.{larger, smaller}
 use Rattle.rows.proofs.RowValue.{unlike-positive, beat-rounded}
 use Rattle.rows.proofs.FortyEighths.{Close, close-round}
-
--- ---- the parts: (2 ^ 22 - 1) / 3 over 2 ^ 26, which lacks one part in 2 ^ 22 of a 48th, and that part, the next value above it
-abbrev pub larger : Float
-larger = fin false 1398101 (negsuc 25)
-
-abbrev pub smaller : Float
-smaller = fin false 3002399751580331 (negsuc 78)
 
 -- ---- with x a number of smallest units: `rest` is near to x times the smaller part, so the two parts of x are near to x / 48
 rest-above : (x rest : ℕ) → rest * 2 ^ 79 * 2 ^ 36 ≤ x * 3002399751580331 * 2 ^ 36 + x * 3002399751580331 → rest * 3 * 2 ^ 61 ≤ x * (2 ^ 35 + 1)

@@ -2,3 +2,4 @@ pub mod StayTests
 pub mod Narrowed
 pub mod SortedChanges
 pub mod Outcomes
+pub mod EachStays

@@ -8,32 +8,21 @@ use native.Mathlib.Numerals.{add-one}
 use lib.ListN.{length, drop, getD, drop-of-length-le}
 use lib.Seq.{drop-cons}
 use lib.Ieee.{Float, nan}
-use borrow.Author.Tests.{lt-ltb}
 use Rattle.picks.specs.Pick.{pick}
 use Rattle.tidy_rows.specs.RowTidying.{rowKeyAt}
-use Rattle.keeping.specs.Passing.{Waiting, writes, comes, passed, written}
-use Rattle.keeping.proofs.InOnePass.{state}
+use Rattle.keeping.specs.Passing.{writes, passed, written}
+use Rattle.keeping.proofs.AllApart.{Apart, all-written}
 use Rattle.speeds.specs.Speed.{SpeedValue, SpeedEntry, nearSpeed, noSpeed}
 use Rattle.speeds.proofs.NearNoSpeed.{near-no-speed}
 use Rattle.speed_order.specs.OrderedSpeeds.{unheld, keptSpeeds}
 
 module _ {B W : Type 0} (row : B → ℕ) (near : W → W → Bool) where
-  -- each entry is on a later row than the one before it, and not near it
-  abbrev pub Apart : B × W → List (B × W) → Type 0
-  Apart x [] = Unit {0}
-  Apart x (y ∷ list) = (row (x .0) < row (y .0)) × (near (y .1) (x .1) ≡ false) × Apart y list
-
-  all-written : (before : W) (x : B × W) (list : List (B × W)) → Apart x list → written row near (state true before (row (x .0)) x) list ≡ x ∷ list
-  unfolding written writes passed
-  all-written before x [] a = refl
-  all-written before x (y ∷ list) a = rw (lt-ltb (row (x .0)) (row (y .0)) (a .0), a .1) (ap (_∷_ x) (all-written (x .1) y list (a .2)))
-
   -- up to place i, with the row of the entry before it
   pub record AllSoFar (list : List (B × W)) (d : B × W) (last i : ℕ) : Type 0 where
     pub from : 1 ≤ i
     pub upTo : i ≤ length list
     pub lastIs : last ≡ row (getD list (i - 1) d .0)
-    pub rest : Apart (getD list (i - 1) d) (drop i list) → Apart (getD list 0 d) (drop 1 list)
+    pub rest : Apart row near (getD list (i - 1) d) (drop i list) → Apart row near (getD list 0 d) (drop 1 list)
 
   module _ (list : List (B × W)) (d : B × W) where
     pub so-far-one : (k : ℕ) → 0 < length list → k ≡ row (getD list 0 d .0) → AllSoFar list d k 1
@@ -51,10 +40,10 @@ module _ {B W : Type 0} (row : B → ℕ) (near : W → W → Bool) where
             rest = λ a. p .rest (rw here (omega (arith, p .lastIs, e), n, rw back at a));
           }
 
-      pub so-far-all : length list ≤ i → Apart (getD list 0 d) (drop 1 list)
+      pub so-far-all : length list ≤ i → Apart row near (getD list 0 d) (drop 1 list)
       so-far-all h = p .rest (rw (drop-of-length-le list h) tt)
 
-first-kept : (x : SpeedEntry) (list : List SpeedEntry) → Apart rowKeyAt nearSpeed x list → keptSpeeds (x ∷ list) ≡ x ∷ list
+pub first-kept : (x : SpeedEntry) (list : List SpeedEntry) → Apart rowKeyAt nearSpeed x list → keptSpeeds (x ∷ list) ≡ x ∷ list
 unfolding written writes passed
 first-kept x list a = rw (near-no-speed (x .1)) (all-written rowKeyAt nearSpeed noSpeed x list a)
 

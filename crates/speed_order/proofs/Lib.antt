@@ -1,3 +1,4 @@
 pub mod Turns
 pub mod KeptInOnePass
 pub mod AllKept
+pub mod ColumnsLaid

@@ -1,1 +1,2 @@
 pub mod OrderedSpeeds
+pub mod Apart

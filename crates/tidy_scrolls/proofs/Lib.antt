@@ -1,3 +1,4 @@
 pub mod Turns
 pub mod Placing
 pub mod Outcomes
+pub mod AllKept

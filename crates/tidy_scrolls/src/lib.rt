@@ -11,11 +11,13 @@ ghost use lib.ListN.{length, take, getD};
 ghost use lib.Ieee.{nan};
 ghost use Rattle.picks.specs.Pick.{pick};
 ghost use Rattle.limits.specs.Numbers.{rangeOf};
+ghost use Rattle.limits.specs.Neighbours.{everyTwo};
 ghost use Rattle.limits.specs.Refusals.{listNumber};
 ghost use Rattle.order.specs.Order.{neverFalls};
 ghost use Rattle.order.specs.Entries.{entries};
 ghost use Rattle.tidy_rows.specs.RowTidying.{rowKeyAt, onRow, onItsRow};
 ghost use Rattle.tidy_rows.specs.Ways.{Laid};
+ghost use Rattle.by_rows.specs.ByMarks.{rowRises};
 ghost use Rattle.keeping.specs.Near.{nearTo};
 ghost use Rattle.keeping.specs.Passing.{comes, passed, written};
 ghost use Rattle.keeping.specs.Changing.{Changed};
@@ -184,6 +186,31 @@ fn tidy_ordered(
         number: limits::TAKEN,
         count: count,
     }
+}
+
+// ---- the common case: rows that rise, and no value near the one before it
+
+fn tidy_rising(
+    beats: &[f64],
+    values: &[f64],
+    out_beats: &mut [f64],
+    out_values: &mut [f64],
+) -> Outcome
+    requires { ⌜ listNumber (rangeOf Kind.Beat) (rangeOf Kind.Value) (now beats) (now values) ≡ 0 ⌝ }
+    requires { ⌜ everyTwo rowRises (now beats) ≡ true ⌝ }
+    ensures { λ r. ⌜ ScrollsTidied (now (beats .entry)) (now (values .entry)) r (now («out_beats» .entry)) (now («out_beats» .exit)) (now («out_values» .entry)) (now («out_values» .exit)) ⌝ }
+{
+    if beats.len() <= columns::room_of(out_beats.len(), out_values.len()) {
+        if keeping::all_apart(values) {
+            by_rows::lay_on_rows(beats, out_beats);
+            columns::copy(values, out_values);
+            return Outcome {
+                number: limits::TAKEN,
+                count: beats.len(),
+            };
+        }
+    }
+    tidy_ordered(beats, values, out_beats, out_values)
 }
 
 // ---- entries in no order: placed one by one in two columns
@@ -396,6 +423,9 @@ pub fn tidy_scroll_segments(
     let number = limits::list_number(Kind::Beat, Kind::Value, beats, values);
     if number != 0 {
         return columns::refused(number);
+    }
+    if by_rows::rise(beats) {
+        return tidy_rising(beats, values, out_beats, out_values);
     }
     if by_rows::in_order(beats) {
         return tidy_ordered(beats, values, out_beats, out_values);

@@ -2,6 +2,8 @@
 use columns::Outcome;
 use limits::Kind;
 ghost use mathlib.Core.Path.{_≡_};
+ghost use Rattle.order.specs.Order.{neverFalls};
+ghost use Rattle.tidy_rows.specs.RowTidying.{rowKeyAt};
 ghost use Rattle.tidy_speeds.specs.SpeedTidying.{valuesNumber, speedListNumber, SpeedsTidied};
 
 fn values_number(ratios: &[f64], delays: &[f64], units: &[u8]) -> u32
@@ -50,6 +52,16 @@ pub fn speed_list_number(beats: &[f64], ratios: &[f64], delays: &[f64], units: &
     values_number(ratios, delays, units)
 }
 
+// Whether no row is below the one before it: rows that rise are seen at a glance.
+fn in_row_order(beats: &[f64]) -> bool
+    ensures { λ r. ⌜ r ≡ neverFalls rowKeyAt (now (beats .entry)) ⌝ }
+{
+    if by_rows::rise(beats) {
+        return true;
+    }
+    by_rows::in_order(beats)
+}
+
 pub fn tidy_speed_segments(
     beats: &[f64],
     ratios: &[f64],
@@ -66,7 +78,7 @@ pub fn tidy_speed_segments(
     if number != 0 {
         return columns::refused(number);
     }
-    if by_rows::in_order(beats) {
+    if in_row_order(beats) {
         return speed_order::tidy_ordered(
             beats,
             ratios,

@@ -3,3 +3,4 @@ pub mod FromZero
 pub mod InOrder
 pub mod SortedEntries
 pub mod ByKey
+pub mod AllChange

@@ -29,3 +29,11 @@ unfoldable pub inOrder : List Float → Bool
 inOrder [] = true
 inOrder (b ∷ []) = true
 inOrder (b ∷ next ∷ beats) = pick (lt next b) false (inOrder (next ∷ beats))
+
+-- the next beat is neither below nor the same
+unfoldable pub apart : Float → Float → Bool
+apart beat next = pick (lt next beat) false (not (eq beat next))
+
+-- the next tempo is another
+abbrev pub changesTo : Float → Float → Bool
+changesTo tempo next = ne next tempo

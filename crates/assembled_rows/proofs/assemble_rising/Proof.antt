@@ -13,7 +13,7 @@ use Rattle.order.specs.Order.{laid}
 use Rattle.columns.proofs.Rooms.{refused-for-room, taken}
 use Rattle.columns.proofs.EachOverFront.{each-over-front}
 use Rattle.assembled_rows.specs.AssembledRows.{changeBy, assembledRows, assembledNumber}
-use Rattle.assembled_rows.specs.Neighbours.{everyTwo}
+use Rattle.limits.specs.Neighbours.{everyTwo}
 use Rattle.assembled_rows.proofs.QuantizedTaken.{quantized-taken}
 use Rattle.assembled_rows.proofs.RisingRows.{rising-length, rising-beats, rising-values}
 use borrow.Author.Needs.{needs}

@@ -12,14 +12,14 @@ same-length c = search needs
 returns : tie.Need-returns
 returns c = rw (c .before .before .before .before .if1 .taken) (c .before .before .quantize-column .ensures)
 
-copy-column-requires : tie.Need-copy-column-requires
-copy-column-requires c κs = search needs
+copy-requires : tie.Need-copy-requires
+copy-requires c κs = search needs
 
 same-length-2 : tie.Need-same-length-2
 same-length-2 c = search needs
 
 returns-2 : tie.Need-returns-2
-returns-2 c = rw (c .before .before .before .before .if1 .left) (c .before .before .copy-column .ensures)
+returns-2 c = rw (c .before .before .before .before .if1 .left) (c .before .before .copy .ensures)
 
 pub change-column-spec : {M : Type 1} → statement M
 change-column-spec =
@@ -28,6 +28,6 @@ change-column-spec =
     quantize-column-requires
     same-length
     returns
-    copy-column-requires
+    copy-requires
     same-length-2
     returns-2)

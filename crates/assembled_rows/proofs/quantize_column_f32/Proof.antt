@@ -1,70 +1,34 @@
--- `assembled_rows::quantize_column_f32` writes each beat quantised, as far as both columns go. Assumes nothing.
-use Prim.Native.Nat.{_-_}
+-- `assembled_rows::quantize_column_f32` narrows each beat, and then quantises each. Assumes nothing.
+use mathlib.Core.Path.{ap, _∙_}
+use mathlib.Core.List.{List}
 use native.Mathlib.Omega.{arith}
-use lib.Ieee.{nan}
-use Rattle.rows.specs.Rows.{quantized}
-use Rattle.columns.proofs.LaidEach.{LayingEach, begun, turned, ended}
+use lib.ListN.{take}
+use lib.Ieee.{Float}
+use Rattle.columns.specs.Each.{laidEach}
+use Rattle.assembled_rows.proofs.InTwoLoops.{move, narrowed-then-moved}
 use borrow.Author.Needs.{needs}
 use Rattle.assembled_rows.proofs.quantize_column_f32.Statement.{statement}
 use Rattle.assembled_rows.proofs.quantize_column_f32.Tie as tie
 
-abbrev Inv-loop : tie.InvT-loop
-Inv-loop from to₀ n i₀ to i = LayingEach quantized from to₀ n to i
-
-abbrev μ-loop : tie.MeasureT-loop
-μ-loop from to₀ n i₀ to i = n - i
-
-room-of-requires : tie.Need-room-of-requires Inv-loop μ-loop
+room-of-requires : tie.Need-room-of-requires
 room-of-requires c κs = search needs
 
-loop-holds : tie.Need-loop-holds Inv-loop μ-loop
-loop-holds c = begun (c .room-of .ensures)
+narrow-column-requires : tie.Need-narrow-column-requires
+narrow-column-requires c κs = search needs
 
-mul-quantized-f32 : tie.Need-mul-quantized-f32 Inv-loop μ-loop
-mul-quantized-f32 c = search needs
+quantize-front-requires : tie.Need-quantize-front-requires
+quantize-front-requires c κs = omega (arith, c .before .before .before .before .before .room-of .ensures)
 
-shared-slice-read-quantized-f32 : tie.Need-shared-slice-read-quantized-f32 Inv-loop μ-loop
-shared-slice-read-quantized-f32 c = search needs
-
-quantized-f32-requires : tie.Need-quantized-f32-requires Inv-loop μ-loop
-quantized-f32-requires c κs = search needs
-
-mul-to : tie.Need-mul-to Inv-loop μ-loop
-mul-to c = search needs
-
-slice-write-to : tie.Need-slice-write-to Inv-loop μ-loop
-slice-write-to c = search needs
-
-add-i : tie.Need-add-i Inv-loop μ-loop
-add-i c = search needs
-
-loop-less : tie.Need-loop-less Inv-loop μ-loop
-loop-less c = search needs
-
-loop-again : tie.Need-loop-again Inv-loop μ-loop
-loop-again c = turned (c .before .before .before .loop .inv) nan (omega arith) (c .quantized-f32 .ensures)
-
-same-length : tie.Need-same-length Inv-loop μ-loop
+same-length : tie.Need-same-length
 same-length c = search needs
 
-returns : tie.Need-returns Inv-loop μ-loop
-returns c = ended (c .before .loop .inv) (omega arith)
+returns : tie.Need-returns
+returns c =
+    let s = c .before .before .before .before .before .before .before .before .before .before .before in
+    let n = c .before .before .before .before .before .before .before .before .room-of .result in
+    c .before .before .quantize-front .ensures
+    ∙ ap (λ (l : List Float). laidEach move (take n l) l) (c .before .before .before .before .before .before .narrow-column .ensures)
+    ∙ narrowed-then-moved (s .args .from .now) (s .args .to .now) n (c .before .before .before .before .before .before .before .before .room-of .ensures)
 
 pub quantize-column-f32-spec : {M : Type 1} → statement M
-quantize-column-f32-spec =
-    tie.close
-    (tie.spec
-    Inv-loop
-    μ-loop
-    room-of-requires
-    loop-holds
-    mul-quantized-f32
-    shared-slice-read-quantized-f32
-    quantized-f32-requires
-    mul-to
-    slice-write-to
-    add-i
-    loop-less
-    loop-again
-    same-length
-    returns)
+quantize-column-f32-spec = tie.close (tie.spec room-of-requires narrow-column-requires quantize-front-requires same-length returns)

@@ -1,65 +1,29 @@
--- `limits::column_taken` counts the numbers of a column that are not taken, and there are none. Assumes nothing.
-use Prim.Native.Nat.{_+_, _-_, _≤_}
-use mathlib.Core.Path.{_≡_, ap, _∙_}
-use native.Mathlib.Omega.{arith}
-use lib.ListN.{length, getD}
-use lib.Ieee.{Float, nan}
+-- `limits::column_taken`: a column that is plain is taken, and of another each number is tested in full. Assumes nothing.
+use mathlib.Core.Path.{_≡_, sym, ap, _∙_}
+use mathlib.Core.Bool.{Bool, true}
 use Rattle.limits.specs.declared.Range.{Range}
-use Rattle.limits.specs.Numbers.{inRange, allIn, miss}
-use Rattle.limits.proofs.Every.{Counted, miss-few, counted-start, counted-turn, counted-end}
+use Rattle.limits.specs.Numbers.{allIn}
+use Rattle.limits.proofs.PlainTaken.{all-plain-taken}
 use borrow.Author.Needs.{needs}
 use Rattle.limits.proofs.column_taken.Statement.{statement}
 use Rattle.limits.proofs.column_taken.Tie as tie
 
-abbrev Inv-loop : tie.InvT-loop
-Inv-loop column range outside₀ i₀ outside i = Counted (inRange range) column i outside
-
-abbrev μ-loop : tie.MeasureT-loop
-μ-loop column range outside₀ i₀ outside i = length column - i
-
-range-of-requires : tie.Need-range-of-requires Inv-loop μ-loop
+range-of-requires : tie.Need-range-of-requires
 range-of-requires c κs = search needs
 
-loop-holds : tie.Need-loop-holds Inv-loop μ-loop
-loop-holds c = counted-start _ _
+all-plain-requires : tie.Need-all-plain-requires
+all-plain-requires c κs = search needs
 
-mul-one-outside : tie.Need-mul-one-outside Inv-loop μ-loop
-mul-one-outside c = search needs
+returns : tie.Need-returns
+returns c =
+    let column = c .before .before .before .before .args .column .now in
+    sym (all-plain-taken (c .before .before .range-of .result) column (sym (c .before .all-plain .ensures) ∙ c .if1 .taken)) ∙ ap (λ (range : Range). allIn range column) (c .before .before .range-of .ensures)
 
-shared-slice-read-one-outside : tie.Need-shared-slice-read-one-outside Inv-loop μ-loop
-shared-slice-read-one-outside c = search needs
+all-in-requires : tie.Need-all-in-requires
+all-in-requires c κs = search needs
 
-one-outside-requires : tie.Need-one-outside-requires Inv-loop μ-loop
-one-outside-requires c κs = search needs
-
-add-outside : tie.Need-add-outside Inv-loop μ-loop
-add-outside c = record { fits = omega (arith, c .one-outside .ensures, miss-few (inRange (c .before .before .before .before .range-of .result)) (getD (c .before .before .before .before .before .before .args .column .now) (c .before .before .before .loop .i) nan)) }
-
-add-i : tie.Need-add-i Inv-loop μ-loop
-add-i c = search needs
-
-loop-less : tie.Need-loop-less Inv-loop μ-loop
-loop-less c = omega arith
-
-loop-again : tie.Need-loop-again Inv-loop μ-loop
-loop-again c = counted-turn (inRange (c .before .before .before .before .range-of .result)) (c .one-outside .result) nan (c .before .before .loop-test .taken) (c .one-outside .ensures) (c .before .before .before .loop .inv)
-
-returns : tie.Need-returns Inv-loop μ-loop
-returns c = counted-end (inRange (c .before .before .range-of .result)) (c .loop-test .left) (c .before .loop .inv) ∙ ap (λ (range : Range). allIn range (c .before .before .before .before .args .column .now)) (c .before .before .range-of .ensures)
+returns-2 : tie.Need-returns-2
+returns-2 c = c .all-in .ensures ∙ ap (λ (range : Range). allIn range (c .before .before .before .before .before .args .column .now)) (c .before .before .before .range-of .ensures)
 
 pub column-taken-spec : {M : Type 1} → statement M
-column-taken-spec =
-    tie.close
-    (tie.spec
-    Inv-loop
-    μ-loop
-    range-of-requires
-    loop-holds
-    mul-one-outside
-    shared-slice-read-one-outside
-    one-outside-requires
-    add-outside
-    add-i
-    loop-less
-    loop-again
-    returns)
+column-taken-spec = tie.close (tie.spec range-of-requires all-plain-requires returns all-in-requires returns-2)

@@ -1,70 +1,29 @@
--- `limits::column_taken_f32` counts the numbers of a column that are not taken, and there are none. Assumes nothing.
-use Prim.Native.Nat.{_+_, _-_, _≤_}
-use mathlib.Core.Path.{_≡_, ap, _∙_}
-use native.Mathlib.Omega.{arith}
-use lib.ListN.{length, getD}
-use lib.Ieee.{Float, nan}
+-- `limits::column_taken_f32`: a column that is plain is taken, and of another each number is tested in full. Assumes nothing.
+use mathlib.Core.Path.{_≡_, sym, ap, _∙_}
+use mathlib.Core.Bool.{Bool, true}
 use Rattle.limits.specs.declared.Range.{Range}
-use Rattle.limits.specs.Numbers.{inRange, allIn, miss}
-use Rattle.limits.proofs.Every.{Counted, miss-few, counted-start, counted-turn, counted-end}
+use Rattle.limits.specs.Numbers.{allIn}
+use Rattle.limits.proofs.PlainTaken.{all-plain-taken}
 use borrow.Author.Needs.{needs}
 use Rattle.limits.proofs.column_taken_f32.Statement.{statement}
 use Rattle.limits.proofs.column_taken_f32.Tie as tie
 
-abbrev Inv-loop : tie.InvT-loop
-Inv-loop column range outside₀ i₀ outside i = Counted (inRange range) column i outside
-
-abbrev μ-loop : tie.MeasureT-loop
-μ-loop column range outside₀ i₀ outside i = length column - i
-
-range-of-requires : tie.Need-range-of-requires Inv-loop μ-loop
+range-of-requires : tie.Need-range-of-requires
 range-of-requires c κs = search needs
 
-loop-holds : tie.Need-loop-holds Inv-loop μ-loop
-loop-holds c = counted-start _ _
+all-plain-f32-requires : tie.Need-all-plain-f32-requires
+all-plain-f32-requires c κs = search needs
 
-mul-f32-to-f64-with-nan : tie.Need-mul-f32-to-f64-with-nan Inv-loop μ-loop
-mul-f32-to-f64-with-nan c = search needs
+returns : tie.Need-returns
+returns c =
+    let column = c .before .before .before .before .args .column .now in
+    sym (all-plain-taken (c .before .before .range-of .result) column (sym (c .before .all-plain-f32 .ensures) ∙ c .if1 .taken)) ∙ ap (λ (range : Range). allIn range column) (c .before .before .range-of .ensures)
 
-shared-slice-read-f32-to-f64-with-nan :
-    tie.Need-shared-slice-read-f32-to-f64-with-nan Inv-loop μ-loop
-shared-slice-read-f32-to-f64-with-nan c = search needs
+all-in-f32-requires : tie.Need-all-in-f32-requires
+all-in-f32-requires c κs = search needs
 
-f32-to-f64-with-nan-requires : tie.Need-f32-to-f64-with-nan-requires Inv-loop μ-loop
-f32-to-f64-with-nan-requires c κs = search needs
-
-one-outside-requires : tie.Need-one-outside-requires Inv-loop μ-loop
-one-outside-requires c κs = search needs
-
-add-outside : tie.Need-add-outside Inv-loop μ-loop
-add-outside c = record { fits = omega (arith, c .one-outside .ensures ∙ ap (miss (inRange (c .before .before .before .before .before .range-of .result))) (c .before .f32-to-f64-with-nan .ensures), miss-few (inRange (c .before .before .before .before .before .range-of .result)) (getD (c .before .before .before .before .before .before .before .args .column .now) (c .before .before .before .before .loop .i) nan)) }
-
-add-i : tie.Need-add-i Inv-loop μ-loop
-add-i c = search needs
-
-loop-less : tie.Need-loop-less Inv-loop μ-loop
-loop-less c = omega arith
-
-loop-again : tie.Need-loop-again Inv-loop μ-loop
-loop-again c = counted-turn (inRange (c .before .before .before .before .before .range-of .result)) (c .one-outside .result) nan (c .before .before .before .loop-test .taken) (c .one-outside .ensures ∙ ap (miss (inRange (c .before .before .before .before .before .range-of .result))) (c .before .f32-to-f64-with-nan .ensures)) (c .before .before .before .before .loop .inv)
-
-returns : tie.Need-returns Inv-loop μ-loop
-returns c = counted-end (inRange (c .before .before .range-of .result)) (c .loop-test .left) (c .before .loop .inv) ∙ ap (λ (range : Range). allIn range (c .before .before .before .before .args .column .now)) (c .before .before .range-of .ensures)
+returns-2 : tie.Need-returns-2
+returns-2 c = c .all-in-f32 .ensures ∙ ap (λ (range : Range). allIn range (c .before .before .before .before .before .args .column .now)) (c .before .before .before .range-of .ensures)
 
 pub column-taken-f32-spec : {M : Type 1} → statement M
-column-taken-f32-spec =
-    tie.close
-    (tie.spec
-    Inv-loop
-    μ-loop
-    range-of-requires
-    loop-holds
-    mul-f32-to-f64-with-nan
-    shared-slice-read-f32-to-f64-with-nan
-    f32-to-f64-with-nan-requires
-    one-outside-requires
-    add-outside
-    add-i
-    loop-less
-    loop-again
-    returns)
+column-taken-f32-spec = tie.close (tie.spec range-of-requires all-plain-f32-requires returns all-in-f32-requires returns-2)

@@ -17,7 +17,7 @@ use Rattle.merged_warps.proofs.process_with_warps.Lts as lts
 use Rattle.by_format.proofs.process_bpms_and_stops.Reads as process-bpms-and-stops-reads
 use Rattle.columns.proofs.room_of.Reads as room-of-reads
 use Rattle.limits.proofs.list_number.Reads as list-number-reads
-use Rattle.merged_warps.proofs.copy.Reads as copy-reads
+use Rattle.columns.proofs.copy.Reads as copy-reads
 use Rattle.merged_warps.proofs.refuse.Reads as refuse-reads
 
 -- a room's length is a usize

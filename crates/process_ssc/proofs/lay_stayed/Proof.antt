@@ -15,10 +15,10 @@ use Rattle.process_ssc.proofs.lay_stayed.Tie as tie
 
 -- each stays
 many : (c : tie.Then1) → length (stayed (c .before .before .before .before .before .before .args .beats .now) (c .before .before .before .before .before .before .args .values .now)) ≡ length (c .before .before .before .before .before .before .args .beats .now)
-many c = sym (c .before .count-stayed .ensures) ∙ c .if1 .taken
+many c = c .before .all-stay .ensures (c .if1 .taken)
 
-count-stayed-requires : tie.Need-count-stayed-requires
-count-stayed-requires c κs = search needs
+all-stay-requires : tie.Need-all-stay-requires
+all-stay-requires c κs = search needs
 
 lay-all-requires : tie.Need-lay-all-requires
 lay-all-requires c κs = (c .before .before .before .before .before .before .before .before .pre .0, omega (arith, many (c .before .before), c .before .before .before .before .before .before .before .before .pre .1))
@@ -51,7 +51,7 @@ pub lay-stayed-spec : {M : Type 1} → statement M
 lay-stayed-spec =
     tie.close
     (tie.spec
-    count-stayed-requires
+    all-stay-requires
     lay-all-requires
     same-length
     same-length-2

@@ -9,6 +9,7 @@ use Rattle.columns.proofs.LaidEach.{LayingEach, begun, turned, ended}
 use Rattle.columns.proofs.EachOverFront.{each-over-front}
 use Rattle.tidy_rows.specs.RowTidying.{onRow}
 use Rattle.tidy_rows.proofs.BothWays.{each-beat, each-value}
+use Rattle.tidy_rows.proofs.TakenBeats.{allowed-at}
 use borrow.Author.Needs.{needs}
 use Rattle.tidy_rows.proofs.lay_each.Statement.{statement}
 use Rattle.tidy_rows.proofs.lay_each.Tie as tie
@@ -22,14 +23,16 @@ abbrev μ-loop : tie.MeasureT-loop
 loop-holds : tie.Need-loop-holds Inv-loop μ-loop
 loop-holds c = (begun (omega arith), begun (omega arith))
 
-mul-on-row : tie.Need-mul-on-row Inv-loop μ-loop
-mul-on-row c = search needs
+mul-allowed-on-row : tie.Need-mul-allowed-on-row Inv-loop μ-loop
+mul-allowed-on-row c = search needs
 
-shared-slice-read-on-row : tie.Need-shared-slice-read-on-row Inv-loop μ-loop
-shared-slice-read-on-row c = search needs
+shared-slice-read-allowed-on-row : tie.Need-shared-slice-read-allowed-on-row Inv-loop μ-loop
+shared-slice-read-allowed-on-row c = search needs
 
-on-row-requires : tie.Need-on-row-requires Inv-loop μ-loop
-on-row-requires c κs = search needs
+allowed-on-row-requires : tie.Need-allowed-on-row-requires Inv-loop μ-loop
+allowed-on-row-requires c κs =
+    let start = c .before .before .before .before .before .before .before in
+    allowed-at (start .args .beats .now) (c .before .before .loop .i) (start .pre .0 .0) (c .before .loop-test .taken)
 
 mul-out-beats : tie.Need-mul-out-beats Inv-loop μ-loop
 mul-out-beats c = search needs
@@ -59,7 +62,7 @@ loop-again : tie.Need-loop-again Inv-loop μ-loop
 loop-again c =
     let inv = c .before .before .before .before .loop .inv in
     let more = c .before .before .before .loop-test .taken in
-    (turned (inv .0) nan more (c .before .on-row .ensures), turned (inv .1) nan more refl)
+    (turned (inv .0) nan more (c .before .allowed-on-row .ensures), turned (inv .1) nan more refl)
 
 same-length : tie.Need-same-length Inv-loop μ-loop
 same-length c = c .before .loop .inv .0 .long
@@ -71,7 +74,7 @@ returns : tie.Need-returns Inv-loop μ-loop
 returns c =
     let start = c .before .before .before .before .before .before in
     let given = start .args in
-    let same = start .pre .0 in
+    let same = start .pre .0 .1 in
     let inv = c .before .loop .inv in
     let past = c .loop-test .left in
     record {
@@ -88,9 +91,9 @@ lay-each-spec =
     Inv-loop
     μ-loop
     loop-holds
-    mul-on-row
-    shared-slice-read-on-row
-    on-row-requires
+    mul-allowed-on-row
+    shared-slice-read-allowed-on-row
+    allowed-on-row-requires
     mul-out-beats
     slice-write-out-beats
     mul-out-values

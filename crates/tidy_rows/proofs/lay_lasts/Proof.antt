@@ -39,14 +39,17 @@ loop-holds c = (c .before .before .before .before .pre .1 .0 .0, lasts-none rowK
 add-loop : tie.Need-add-loop Inv-loop μ-loop
 add-loop c = search needs
 
-mul-on-row : tie.Need-mul-on-row Inv-loop μ-loop
-mul-on-row c = search needs
+mul-allowed-on-row : tie.Need-mul-allowed-on-row Inv-loop μ-loop
+mul-allowed-on-row c = search needs
 
-shared-slice-read-on-row : tie.Need-shared-slice-read-on-row Inv-loop μ-loop
-shared-slice-read-on-row c = search needs
+shared-slice-read-allowed-on-row : tie.Need-shared-slice-read-allowed-on-row Inv-loop μ-loop
+shared-slice-read-allowed-on-row c = search needs
 
-on-row-requires : tie.Need-on-row-requires Inv-loop μ-loop
-on-row-requires c κs = search needs
+allowed-on-row-requires : tie.Need-allowed-on-row-requires Inv-loop μ-loop
+allowed-on-row-requires c κs =
+    let at = c .before .before in
+    let start = at .before .before .before .before .before in
+    allowed-at (start .args .beats .now) (at .loop .i) (start .pre .0) (omega arith)
 
 mul-out-beats : tie.Need-mul-out-beats Inv-loop μ-loop
 mul-out-beats c = search needs
@@ -110,19 +113,22 @@ loop-again c =
     let same = start .pre .1 .0 .1 in
     let i = at .loop .i in (
       omega arith,
-      lasts-turn rowKeyOf onItsRow (at .loop .inv .1) (start .pre .1 .1) (nan, nan) (c .before .before .before .before .on-row .result) (getD values i nan)
-          (ap (λ (beat : Float). (beat, getD values i nan)) (c .before .before .before .before .on-row .ensures) ∙ ap onItsRow (sym (entries-getD beats values i nan nan same)))
+      lasts-turn rowKeyOf onItsRow (at .loop .inv .1) (start .pre .1 .1) (nan, nan) (c .before .before .before .before .allowed-on-row .result) (getD values i nan)
+          (ap (λ (beat : Float). (beat, getD values i nan)) (c .before .before .before .before .allowed-on-row .ensures) ∙ ap onItsRow (sym (entries-getD beats values i nan nan same)))
           (omega (arith, length-entries beats values same)) (c .repeats .result) (rw (entries-getD beats values i nan nan same, entries-getD beats values (i + 1) nan nan same) (c .repeats .ensures)),
     )
 
-mul-on-row-2 : tie.Need-mul-on-row-2 Inv-loop μ-loop
-mul-on-row-2 c = search needs
+mul-allowed-on-row-2 : tie.Need-mul-allowed-on-row-2 Inv-loop μ-loop
+mul-allowed-on-row-2 c = search needs
 
-shared-slice-read-on-row-2 : tie.Need-shared-slice-read-on-row-2 Inv-loop μ-loop
-shared-slice-read-on-row-2 c = search needs
+shared-slice-read-allowed-on-row-2 : tie.Need-shared-slice-read-allowed-on-row-2 Inv-loop μ-loop
+shared-slice-read-allowed-on-row-2 c = search needs
 
-on-row-requires-2 : tie.Need-on-row-requires-2 Inv-loop μ-loop
-on-row-requires-2 c κs = search needs
+allowed-on-row-requires-2 : tie.Need-allowed-on-row-requires-2 Inv-loop μ-loop
+allowed-on-row-requires-2 c κs =
+    let at = c .before .before in
+    let start = at .before .before .before .before .before in
+    allowed-at (start .args .beats .now) (at .loop .i) (start .pre .0) (omega arith)
 
 mul-out-beats-2 : tie.Need-mul-out-beats-2 Inv-loop μ-loop
 mul-out-beats-2 c = search needs
@@ -157,8 +163,8 @@ returns c =
     let same = start .pre .1 .0 .1 in
     let i = at .loop .i in
     let laid =
-    lasts-all rowKeyOf onItsRow (at .loop .inv .1) (start .pre .1 .1) (nan, nan) (c .before .on-row2 .result) (getD values i nan)
-    (ap (λ (beat : Float). (beat, getD values i nan)) (c .before .on-row2 .ensures) ∙ ap onItsRow (sym (entries-getD beats values i nan nan same)))
+    lasts-all rowKeyOf onItsRow (at .loop .inv .1) (start .pre .1 .1) (nan, nan) (c .before .allowed-on-row2 .result) (getD values i nan)
+    (ap (λ (beat : Float). (beat, getD values i nan)) (c .before .allowed-on-row2 .ensures) ∙ ap onItsRow (sym (entries-getD beats values i nan nan same)))
     (omega (arith, length-entries beats values same)) (omega (arith, length-entries beats values same)) in
     record { beatsAre = laid .0; valuesAre = laid .1 }
 
@@ -170,9 +176,9 @@ lay-lasts-spec =
     μ-loop
     loop-holds
     add-loop
-    mul-on-row
-    shared-slice-read-on-row
-    on-row-requires
+    mul-allowed-on-row
+    shared-slice-read-allowed-on-row
+    allowed-on-row-requires
     mul-out-beats
     slice-write-out-beats
     mul-out-values
@@ -190,9 +196,9 @@ lay-lasts-spec =
     add-i
     loop-less
     loop-again
-    mul-on-row-2
-    shared-slice-read-on-row-2
-    on-row-requires-2
+    mul-allowed-on-row-2
+    shared-slice-read-allowed-on-row-2
+    allowed-on-row-requires-2
     mul-out-beats-2
     slice-write-out-beats-2
     mul-out-values-3

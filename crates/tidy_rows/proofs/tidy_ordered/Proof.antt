@@ -42,7 +42,7 @@ returns c =
 lay-each-requires : tie.Need-lay-each-requires
 lay-each-requires c κs =
     let start = c .before .before .before .before .before .before .before .before .before in
-    (even start, omega (arith, c .before .before .before .before .room-of .ensures, c .before .before .before .if1 .left, c .before .before .if2 .taken))
+    ((list-taken (start .pre .0) .beatsIn, even start), omega (arith, c .before .before .before .before .room-of .ensures, c .before .before .before .if1 .left, c .before .before .if2 .taken))
 
 same-length : tie.Need-same-length
 same-length c = search needs

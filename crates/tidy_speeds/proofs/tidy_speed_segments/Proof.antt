@@ -17,8 +17,8 @@ returns c =
     let g = c .before .before .before .before .before .before .before .before .before .before .before in
     rw (c .refused .ensures, c .before .before .speed-list-number .ensures) (list-refused (g .args .beats .now) (g .args .ratios .now) (g .args .delays .now) (g .args .units .now) (g .args .out-beats .now) (g .args .out-ratios .now) (g .args .out-delays .now) (g .args .out-units .now) (λ e. omega (arith, c .before .if1 .taken, c .before .before .speed-list-number .ensures, e)))
 
-in-order-requires : tie.Need-in-order-requires
-in-order-requires c κs = search needs
+in-row-order-requires : tie.Need-in-row-order-requires
+in-row-order-requires c κs = search needs
 
 tidy-ordered-requires : tie.Need-tidy-ordered-requires
 tidy-ordered-requires c κs = search needs
@@ -38,7 +38,7 @@ same-length-4 c = search needs
 returns-2 : tie.Need-returns-2
 returns-2 c =
     let g = c .before .before .before .before .before .before .before .before .before .before .before .before .before .before .before .before .before .before .before .before .before .before .before .before .before in
-    let ordered = sym (c .before .before .before .before .before .before .before .before .before .before .before .before .before .before .in-order .ensures) ∙ c .before .before .before .before .before .before .before .before .before .before .before .before .before .if2 .taken in
+    let ordered = sym (c .before .before .before .before .before .before .before .before .before .before .before .before .before .before .in-row-order .ensures) ∙ c .before .before .before .before .before .before .before .before .before .before .before .before .before .if2 .taken in
     rw (ordered-number (g .args .beats .now) (g .args .ratios .now) (g .args .delays .now) (g .args .units .now) (sym (c .before .before .before .before .before .before .before .before .before .before .before .before .before .before .before .before .speed-list-number .ensures) ∙ c .before .before .before .before .before .before .before .before .before .before .before .before .before .before .before .if1 .left) ordered, ordered-list (g .args .beats .now) (g .args .ratios .now) (g .args .delays .now) (g .args .units .now) (sym (c .before .before .before .before .before .before .before .before .before .before .before .before .before .before .before .before .speed-list-number .ensures) ∙ c .before .before .before .before .before .before .before .before .before .before .before .before .before .before .before .if1 .left) ordered) (c .before .before .before .before .before .before .before .before .tidy-ordered .ensures)
 
 tidy-placed-requires : tie.Need-tidy-placed-requires
@@ -59,7 +59,7 @@ same-length-8 c = search needs
 returns-3 : tie.Need-returns-3
 returns-3 c =
     let g = c .before .before .before .before .before .before .before .before .before .before .before .before .before .before .before .before .before .before .before .before .before .before .before .before .before in
-    let unordered = sym (c .before .before .before .before .before .before .before .before .before .before .before .before .before .before .in-order .ensures) ∙ c .before .before .before .before .before .before .before .before .before .before .before .before .before .if2 .left in
+    let unordered = sym (c .before .before .before .before .before .before .before .before .before .before .before .before .before .before .in-row-order .ensures) ∙ c .before .before .before .before .before .before .before .before .before .before .before .before .before .if2 .left in
     rw (placed-number (g .args .beats .now) (g .args .ratios .now) (g .args .delays .now) (g .args .units .now) (sym (c .before .before .before .before .before .before .before .before .before .before .before .before .before .before .before .before .speed-list-number .ensures) ∙ c .before .before .before .before .before .before .before .before .before .before .before .before .before .before .before .if1 .left) unordered, placed-list (g .args .beats .now) (g .args .ratios .now) (g .args .delays .now) (g .args .units .now) (sym (c .before .before .before .before .before .before .before .before .before .before .before .before .before .before .before .before .speed-list-number .ensures) ∙ c .before .before .before .before .before .before .before .before .before .before .before .before .before .before .before .if1 .left) unordered) (c .before .before .before .before .before .before .before .before .tidy-placed .ensures)
 
 pub tidy-speed-segments-spec : {M : Type 1} → statement M
@@ -69,7 +69,7 @@ tidy-speed-segments-spec =
     speed-list-number-requires
     refused-requires
     returns
-    in-order-requires
+    in-row-order-requires
     tidy-ordered-requires
     same-length
     same-length-2
