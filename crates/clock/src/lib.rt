@@ -1,6 +1,8 @@
 // The clock: at what time is this beat? A cursor goes along a timing and is handed back with each answer.
 use walk::State;
+use walk::Walked;
 ghost use mathlib.Core.Path.{_≡_};
+ghost use Prim.Native.Nat.{_+_, _<_, _^_};
 ghost use lib.ListN.{length};
 ghost use lib.Dec.{eqb};
 ghost use Rattle.picks.specs.Pick.{pick};
@@ -9,7 +11,7 @@ ghost use lib.Ieee.{binary64};
 ghost use Rattle.rows.specs.Rows.{row};
 ghost use Rattle.walk.specs.Events.{timing};
 ghost use Rattle.walk.specs.Walk.{walk};
-ghost use Rattle.clock.specs.Question.{temposOf, freshState, freshCursor, made, beginning, answered, refusedWith, reply, asking, cursorRefusal, playerNumber, playerQuestion, questionNumber, question};
+ghost use Rattle.clock.specs.Question.{temposOf, freshState, freshCursor, made, filled, beginning, answered, refusedWith, reply, asking, cursorRefusal, playerNumber, playerQuestion, questionNumber, question};
 
 // How far the questions so far have come, and the row asked last.
 #[repr(C)]
@@ -70,6 +72,23 @@ fn refused(number: u32, cursor: Cursor) -> Answer
     }
 }
 
+// The answer that a walk to a row comes to.
+fn answered(walked: Walked, row: i32, global: f64) -> Answer
+    requires { ⌜ walked .passed + 1 < 2 ^ 64 ⌝ }
+    ensures { λ r. ⌜ r ≡ answered global row walked ⌝ }
+{
+    let state = walked.state;
+    Answer {
+        number: 0,
+        time: walked.time - global,
+        count: walked.passed + 1,
+        cursor: Cursor {
+            state: state,
+            asked: row,
+        },
+    }
+}
+
 // The tempos of a timing; where it has none, the one of 60 counts.
 fn tempos_of(given: usize) -> usize
     ensures { λ r. ⌜ r ≡ pick (eqb given 0) 1 given ⌝ }
@@ -78,6 +97,49 @@ fn tempos_of(given: usize) -> usize
         return 1;
     }
     given
+}
+
+fn either<'a>(first: bool, one: &'a [f32], other: &'a [f32]) -> &'a [f32]
+    ensures { λ r. ⌜ now r ≡ pick first (now (one .entry)) (now (other .entry)) ⌝ }
+{
+    if first {
+        return one;
+    }
+    other
+}
+
+// The walk to a row. Where the timing has no tempo, it has the one of 60 at beat 0.
+fn walk_filled(
+    begin: State,
+    row: i32,
+    tempo_beats: &[f32],
+    tempo_values: &[f32],
+    stop_beats: &[f32],
+    stop_values: &[f32],
+    delay_beats: &[f32],
+    delay_values: &[f32],
+    warp_beats: &[f32],
+    warp_lengths: &[f32],
+) -> Walked
+    ensures { λ r. ⌜ r ≡ walk (filled (timing (now («tempo_beats» .entry)) (now («tempo_values» .entry)) (now («stop_beats» .entry)) (now («stop_values» .entry)) (now («delay_beats» .entry)) (now («delay_values» .entry)) (now («warp_beats» .entry)) (now («warp_lengths» .entry)))) row begin ⌝ }
+{
+    let none = tempo_beats.len() == 0;
+    let beat_of_none = [0.0f32];
+    let tempo_of_none = [60.0f32];
+    let beats = either(none, &beat_of_none, tempo_beats);
+    let tempos = either(none, &tempo_of_none, tempo_values);
+    walk::walk_to(
+        begin,
+        row,
+        beats,
+        tempos,
+        stop_beats,
+        stop_values,
+        delay_beats,
+        delay_values,
+        warp_beats,
+        warp_lengths,
+    )
 }
 
 impl Cursor {
@@ -111,48 +173,6 @@ impl Cursor {
         self.state
     }
 
-    // The walk to the beat, on lists that have a tempo.
-    fn walk_on(
-        mut self,
-        tempo_beats: &[f32],
-        tempo_values: &[f32],
-        stop_beats: &[f32],
-        stop_values: &[f32],
-        delay_beats: &[f32],
-        delay_values: &[f32],
-        warp_beats: &[f32],
-        warp_lengths: &[f32],
-        offset: f64,
-        global: f64,
-        beat: f64,
-    ) -> Answer
-        ensures { λ r. ⌜ r ≡ answered global (row binary64 beat) (walk (timing (now («tempo_beats» .entry)) (now («tempo_values» .entry)) (now («stop_beats» .entry)) (now («stop_values» .entry)) (now («delay_beats» .entry)) (now («delay_values» .entry)) (now («warp_beats» .entry)) (now («warp_lengths» .entry))) (row binary64 beat) (beginning self (row binary64 beat) offset global)) ⌝ }
-    {
-        let row = rows::beat_to_note_row(beat);
-        let begin = self.begin(row, offset, global);
-        let walked = walk::walk_to(
-            begin,
-            row,
-            tempo_beats,
-            tempo_values,
-            stop_beats,
-            stop_values,
-            delay_beats,
-            delay_values,
-            warp_beats,
-            warp_lengths,
-        );
-        let state = walked.state;
-        self.state = state;
-        self.asked = row;
-        Answer {
-            number: 0,
-            time: walked.time - global,
-            count: walked.passed + 1,
-            cursor: self,
-        }
-    }
-
     fn reply(
         self,
         tempo_beats: &[f32],
@@ -169,24 +189,11 @@ impl Cursor {
     ) -> Answer
         ensures { λ r. ⌜ r ≡ reply (timing (now («tempo_beats» .entry)) (now («tempo_values» .entry)) (now («stop_beats» .entry)) (now («stop_values» .entry)) (now («delay_beats» .entry)) (now («delay_values» .entry)) (now («warp_beats» .entry)) (now («warp_lengths» .entry))) self offset global beat ⌝ }
     {
-        if tempo_beats.len() == 0 {
-            let beats = [0.0f32];
-            let tempos = [60.0f32];
-            return self.walk_on(
-                &beats,
-                &tempos,
-                stop_beats,
-                stop_values,
-                delay_beats,
-                delay_values,
-                warp_beats,
-                warp_lengths,
-                offset,
-                global,
-                beat,
-            );
-        }
-        self.walk_on(
+        let row = rows::beat_to_note_row(beat);
+        let begin = self.begin(row, offset, global);
+        let walked = walk_filled(
+            begin,
+            row,
             tempo_beats,
             tempo_values,
             stop_beats,
@@ -195,15 +202,14 @@ impl Cursor {
             delay_values,
             warp_beats,
             warp_lengths,
-            offset,
-            global,
-            beat,
-        )
+        );
+        answered(walked, row, global)
     }
 
-    // A question of a run, whose timing and cursor were tested where it began: only the beat is tested.
+    // A question of a run, whose timing and cursor were tested where it began: only the beat is tested. It walks by itself, not by `reply`: the walk, which is long,
+    // then has two callers and is left a call, and what stands around it is short enough to be inlined, so that no cursor is copied from call to call.
     pub fn ask(
-        mut self,
+        self,
         tempo_beats: &[f32],
         tempo_values: &[f32],
         stop_beats: &[f32],
@@ -220,7 +226,11 @@ impl Cursor {
     {
         let number = timing_tests::beat_number(beat);
         if number == 0 {
-            return self.reply(
+            let row = rows::beat_to_note_row(beat);
+            let begin = self.begin(row, offset, global);
+            let walked = walk_filled(
+                begin,
+                row,
                 tempo_beats,
                 tempo_values,
                 stop_beats,
@@ -229,10 +239,8 @@ impl Cursor {
                 delay_values,
                 warp_beats,
                 warp_lengths,
-                offset,
-                global,
-                beat,
             );
+            return answered(walked, row, global);
         }
         refused(number, self)
     }

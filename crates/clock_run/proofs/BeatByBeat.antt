@@ -18,9 +18,9 @@ use Rattle.clock.specs.declared.Cursor.{Cursor}
 use Rattle.clock.specs.declared.Answer.{Answer}
 use Rattle.clock_run.specs.Run.{answers, lastCursor, numberOf, timeOf, countOf}
 use Rattle.clock_run.specs.Asked.{AllAsked}
-use Rattle.clock_run.specs.Ahead.{lookAhead, isQuiet, quietTime}
+use Rattle.clock_run.specs.Ahead.{isQuiet, quietTime}
 use Rattle.clock_run.specs.declared.Ahead.{Ahead}
-use Rattle.clock_run.proofs.QuietRows.{quiet-answer}
+use Rattle.clock_run.proofs.QuietRows.{Sees, quiet-answer}
 
 module _ (t : Timing) (offset global : Float) where
   -- with the next beat the answers have one less to come
@@ -72,7 +72,7 @@ module _ (t : Timing) (offset global : Float) where
           }
 
       -- a beat before the next event
-      pub quiet-turn : (ahead : Ahead) → ahead ≡ lookAhead t (c .state) → (r : ℤ) → r ≡ row binary64 (getD beats i nan) → isQuiet ahead (c .asked) (getD beats i nan) r ≡ true
+      pub quiet-turn : (ahead : Ahead) → Sees t (c .state) ahead → (r : ℤ) → r ≡ row binary64 (getD beats i nan) → isQuiet ahead (c .asked) (getD beats i nan) r ≡ true
           → (time : Float) → time ≡ sub binary64 (quietTime (c .state) (ahead .rate) r) global
           → i < length beats → length beats ≤ length numbers₀ → length beats ≤ length times₀ → length beats ≤ length counts₀
           → Running c₀ beats numbers₀ times₀ counts₀ (record { state = c .state; asked = r }) (set numbers i 0) (set times i time) (set counts i 1) (i + 1)

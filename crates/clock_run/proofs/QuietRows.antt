@@ -113,17 +113,22 @@ seen false false false x h = no h
 seen false true c x h = no h
 seen true b c x h = no h
 
+-- what is known ahead of a state is what there is to see
+abbrev pub Sees : Timing → State → Ahead → Type 0
+Sees t s ahead = ahead .known ≡ true → ahead ≡ lookAhead t s
+
 module _ (t : Timing) (offset global : Float) (c : Cursor) (beat : Float) where
   quiet-reply : eqb (beatNumber beat) 0 ≡ true → eqb (length (t .tempoBeats)) 0 ≡ false → ltZ (row binary64 beat) (c .asked) ≡ false → (w : Walked) → walk t (row binary64 beat) (c .state) ≡ w
       → asking t c offset global beat ≡ record { number = 0; time = sub binary64 (w .time) global; count = w .passed + 1; cursor = record { state = w .state; asked = row binary64 beat } }
   unfolding asking reply filled beginning
   quiet-reply number some later w e = rw (number, some, later, e)
 
-  pub quiet-answer : (ahead : Ahead) → ahead ≡ lookAhead t (c .state) → isQuiet ahead (c .asked) beat (row binary64 beat) ≡ true
+  pub quiet-answer : (ahead : Ahead) → Sees t (c .state) ahead → isQuiet ahead (c .asked) beat (row binary64 beat) ≡ true
       → record { number = 0; time = sub binary64 (quietTime (c .state) (ahead .rate) (row binary64 beat)) global; count = 1; cursor = record { state = c .state; asked = row binary64 beat } } ≡ asking t c offset global beat
   unfolding isQuiet lookAhead
-  quiet-answer ahead e h =
+  quiet-answer ahead sees h =
       let four = all-four (eqb (beatNumber beat) 0) (ahead .known) (ltZ (row binary64 beat) (c .asked)) (ltZ (row binary64 beat) (ahead .row)) h in
+      let e = sees (four .1) in
       let sight = seen (eqb (length (t .tempoBeats)) 0) (eqb (c .state .tempos) 0) (ltb (c .state .tempos - 1) (length (t .tempoValues))) _ (ap (λ (a : Ahead). a .known) (sym e) ∙ four .1) in
       let whole = e ∙ sight .2 in
       let before : ltZ (row binary64 beat) (quietUntil (t .tempoBeats) (t .stopBeats) (t .delayBeats) (t .warpBeats) (c .state)) ≡ true = ap (λ (a : Ahead). ltZ (row binary64 beat) (a .row)) (sym whole) ∙ four .3 in

@@ -192,18 +192,11 @@ fn ask_each(
     ensures { λ r. ⌜ AllAsked (timing (now («tempo_beats» .entry)) (now («tempo_values» .entry)) (now («stop_beats» .entry)) (now («stop_values» .entry)) (now («delay_beats» .entry)) (now («delay_values» .entry)) (now («warp_beats» .entry)) (now («warp_lengths» .entry))) offset global cursor (now (beats .entry)) r (now (numbers .entry)) (now (numbers .exit)) (now (times .entry)) (now (times .exit)) (now (counts .entry)) (now (counts .exit)) ⌝ }
 {
     let mut at = cursor;
-    let first = cursor.state;
-    let mut ahead = look_ahead(
-        first,
-        tempo_beats,
-        tempo_values,
-        stop_beats,
-        stop_values,
-        delay_beats,
-        delay_values,
-        warp_beats,
-        warp_lengths,
-    );
+    let mut ahead = Ahead {
+        known: false,
+        row: 0,
+        rate: 0.0,
+    };
     let mut i = 0;
     while i < beats.len() {
         let beat = beats[i];

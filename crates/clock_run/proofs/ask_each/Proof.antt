@@ -11,8 +11,10 @@ use mir.Val.{toZ, ofZ}
 use Rattle.rows.specs.Rows.{row}
 use Rattle.walk.specs.Events.{timing}
 use Rattle.walk.proofs.BackFromBits.{back}
-use Rattle.clock_run.specs.Ahead.{lookAhead, isQuiet}
+use Rattle.walk.proofs.RowOrder.{no}
+use Rattle.clock_run.specs.Ahead.{isQuiet}
 use Rattle.clock_run.proofs.BeatByBeat.{Running, begun, turned, quiet-turn, ended}
+use Rattle.clock_run.proofs.QuietRows.{Sees}
 use Rattle.clock_run.proofs.PlacesInColumns.{scaled4, scaled8, inside}
 use borrow.Author.Needs.{needs}
 use Rattle.clock_run.proofs.ask_each.Statement.{statement}
@@ -20,22 +22,19 @@ use Rattle.clock_run.proofs.ask_each.Tie as tie
 
 abbrev Inv-loop : tie.InvT-loop
 Inv-loop tempo-beats tempo-values stop-beats stop-values delay-beats delay-values warp-beats warp-lengths offset global beats numbers₀ times₀ counts₀ at₀ ahead₀ i₀ numbers times counts at ahead i =
-    Running (timing tempo-beats tempo-values stop-beats stop-values delay-beats delay-values warp-beats warp-lengths) offset global at₀ beats numbers₀ times₀ counts₀ at numbers times counts i × (ahead ≡ lookAhead (timing tempo-beats tempo-values stop-beats stop-values delay-beats delay-values warp-beats warp-lengths) (at .state))
+    Running (timing tempo-beats tempo-values stop-beats stop-values delay-beats delay-values warp-beats warp-lengths) offset global at₀ beats numbers₀ times₀ counts₀ at numbers times counts i × Sees (timing tempo-beats tempo-values stop-beats stop-values delay-beats delay-values warp-beats warp-lengths) (at .state) ahead
 
 abbrev μ-loop : tie.MeasureT-loop
 μ-loop tempo-beats tempo-values stop-beats stop-values delay-beats delay-values warp-beats warp-lengths offset global beats numbers₀ times₀ counts₀ at₀ ahead₀ i₀ numbers times counts at ahead i = length beats - i
 
-look-ahead-requires : tie.Need-look-ahead-requires Inv-loop μ-loop
-look-ahead-requires c κs = search needs
-
 loop-holds : tie.Need-loop-holds Inv-loop μ-loop
 loop-holds c =
-    let a = c .before .before .before .before .before .before .before .before .before .before .before .before .before .before .args in
-    (begun (timing (a .tempo-beats .now) (a .tempo-values .now) (a .stop-beats .now) (a .stop-values .now) (a .delay-beats .now) (a .delay-values .now) (a .warp-beats .now) (a .warp-lengths .now)) (a .offset) (a .global) (a .cursor) (a .beats .now) (a .numbers .now) (a .times .now) (a .counts .now), c .look-ahead .ensures)
+    let a = c .before .before .before .before .before .before .before .before .before .before .before .before .args in
+    (begun (timing (a .tempo-beats .now) (a .tempo-values .now) (a .stop-beats .now) (a .stop-values .now) (a .delay-beats .now) (a .delay-values .now) (a .warp-beats .now) (a .warp-lengths .now)) (a .offset) (a .global) (a .cursor) (a .beats .now) (a .numbers .now) (a .times .now) (a .counts .now), λ e. no e)
 
 mul-beat : tie.Need-mul-beat Inv-loop μ-loop
 mul-beat c =
-    let s = c .before .before .before .before .before .before .before .before .before .before .before .before .before .before .before .before in
+    let s = c .before .before .before .before .before .before .before .before .before .before .before .before .before .before in
     scaled8 (c .before .loop .i) (length (s .args .beats .now)) (c .loop-test .taken) (s .good .1 .1 .1 .1 .1 .1 .1 .1 .1 .1 .1 .0 .1)
 
 shared-slice-read-beat : tie.Need-shared-slice-read-beat Inv-loop μ-loop
@@ -52,37 +51,37 @@ quiet-time-requires c κs = search needs
 
 mul-numbers : tie.Need-mul-numbers Inv-loop μ-loop
 mul-numbers c =
-    let s = c .before .before .before .before .before .before .before .before .before .before .before .before .before .before .before .before .before .before .before .before .before .before .before in
+    let s = c .before .before .before .before .before .before .before .before .before .before .before .before .before .before .before .before .before .before .before .before .before in
     scaled4 (c .before .before .before .before .before .before .before .before .loop .i) (length (s .args .numbers .now)) (inside (c .before .before .before .before .before .before .before .before .loop .i) (length (s .args .beats .now)) (length (s .args .numbers .now)) (c .before .before .before .before .before .before .before .loop-test .taken) (s .pre .0)) (s .good .1 .1 .1 .1 .1 .1 .1 .1 .1 .1 .1 .1 .0 .1)
 
 slice-write-numbers : tie.Need-slice-write-numbers Inv-loop μ-loop
 slice-write-numbers c =
-    let s = c .before .before .before .before .before .before .before .before .before .before .before .before .before .before .before .before .before .before .before .before .before .before .before in
+    let s = c .before .before .before .before .before .before .before .before .before .before .before .before .before .before .before .before .before .before .before .before .before in
     rw (c .before .before .before .before .before .before .before .before .loop .inv .0 .ofNumbers .size) (inside (c .before .before .before .before .before .before .before .before .loop .i) (length (s .args .beats .now)) (length (s .args .numbers .now)) (c .before .before .before .before .before .before .before .loop-test .taken) (s .pre .0))
 
 mul-times : tie.Need-mul-times Inv-loop μ-loop
 mul-times c =
-    let s = c .before .before .before .before .before .before .before .before .before .before .before .before .before .before .before .before .before .before .before .before .before .before .before in
+    let s = c .before .before .before .before .before .before .before .before .before .before .before .before .before .before .before .before .before .before .before .before .before in
     scaled8 (c .before .before .before .before .before .before .before .before .loop .i) (length (s .args .times .now)) (inside (c .before .before .before .before .before .before .before .before .loop .i) (length (s .args .beats .now)) (length (s .args .times .now)) (c .before .before .before .before .before .before .before .loop-test .taken) (s .pre .1)) (s .good .1 .1 .1 .1 .1 .1 .1 .1 .1 .1 .1 .1 .1 .0 .1)
 
 slice-write-times : tie.Need-slice-write-times Inv-loop μ-loop
 slice-write-times c =
-    let s = c .before .before .before .before .before .before .before .before .before .before .before .before .before .before .before .before .before .before .before .before .before .before .before in
+    let s = c .before .before .before .before .before .before .before .before .before .before .before .before .before .before .before .before .before .before .before .before .before in
     rw (c .before .before .before .before .before .before .before .before .loop .inv .0 .ofTimes .size) (inside (c .before .before .before .before .before .before .before .before .loop .i) (length (s .args .beats .now)) (length (s .args .times .now)) (c .before .before .before .before .before .before .before .loop-test .taken) (s .pre .1))
 
 mul-counts : tie.Need-mul-counts Inv-loop μ-loop
 mul-counts c =
-    let s = c .before .before .before .before .before .before .before .before .before .before .before .before .before .before .before .before .before .before .before .before .before .before .before in
+    let s = c .before .before .before .before .before .before .before .before .before .before .before .before .before .before .before .before .before .before .before .before .before in
     scaled8 (c .before .before .before .before .before .before .before .before .loop .i) (length (s .args .counts .now)) (inside (c .before .before .before .before .before .before .before .before .loop .i) (length (s .args .beats .now)) (length (s .args .counts .now)) (c .before .before .before .before .before .before .before .loop-test .taken) (s .pre .2)) (s .good .1 .1 .1 .1 .1 .1 .1 .1 .1 .1 .1 .1 .1 .1 .0 .1)
 
 slice-write-counts : tie.Need-slice-write-counts Inv-loop μ-loop
 slice-write-counts c =
-    let s = c .before .before .before .before .before .before .before .before .before .before .before .before .before .before .before .before .before .before .before .before .before .before .before in
+    let s = c .before .before .before .before .before .before .before .before .before .before .before .before .before .before .before .before .before .before .before .before .before in
     rw (c .before .before .before .before .before .before .before .before .loop .inv .0 .ofCounts .size) (inside (c .before .before .before .before .before .before .before .before .loop .i) (length (s .args .beats .now)) (length (s .args .counts .now)) (c .before .before .before .before .before .before .before .loop-test .taken) (s .pre .2))
 
 add-i : tie.Need-add-i Inv-loop μ-loop
 add-i c =
-    let s = c .before .before .before .before .before .before .before .before .before .before .before .before .before .before .before .before .before .before .before .before .before .before .before in
+    let s = c .before .before .before .before .before .before .before .before .before .before .before .before .before .before .before .before .before .before .before .before .before in
     omega (arith, c .before .before .before .before .before .before .before .loop-test .taken, s .good .1 .1 .1 .1 .1 .1 .1 .1 .1 .1 .1 .0 .0)
 
 loop-less : tie.Need-loop-less Inv-loop μ-loop
@@ -90,7 +89,7 @@ loop-less c = omega (arith, c .before .before .before .before .before .before .b
 
 loop-again : tie.Need-loop-again Inv-loop μ-loop
 loop-again c =
-    let s = c .before .before .before .before .before .before .before .before .before .before .before .before .before .before .before .before .before .before .before .before .before .before .before in
+    let s = c .before .before .before .before .before .before .before .before .before .before .before .before .before .before .before .before .before .before .before .before .before in
     let a = s .args in
     let l = c .before .before .before .before .before .before .before .before .loop in
     let r = toZ w32 (ofZ w32 (c .before .before .before .before .before .beat-to-note-row .result)) in
@@ -104,40 +103,40 @@ ask-requires c κs = search needs
 
 mul-numbers-2 : tie.Need-mul-numbers-2 Inv-loop μ-loop
 mul-numbers-2 c =
-    let s = c .before .before .before .before .before .before .before .before .before .before .before .before .before .before .before .before .before .before .before .before .before .before in
+    let s = c .before .before .before .before .before .before .before .before .before .before .before .before .before .before .before .before .before .before .before .before in
     scaled4 (c .before .before .before .before .before .before .before .loop .i) (length (s .args .numbers .now)) (inside (c .before .before .before .before .before .before .before .loop .i) (length (s .args .beats .now)) (length (s .args .numbers .now)) (c .before .before .before .before .before .before .loop-test .taken) (s .pre .0)) (s .good .1 .1 .1 .1 .1 .1 .1 .1 .1 .1 .1 .1 .0 .1)
 
 slice-write-numbers-2 : tie.Need-slice-write-numbers-2 Inv-loop μ-loop
 slice-write-numbers-2 c =
-    let s = c .before .before .before .before .before .before .before .before .before .before .before .before .before .before .before .before .before .before .before .before .before .before in
+    let s = c .before .before .before .before .before .before .before .before .before .before .before .before .before .before .before .before .before .before .before .before in
     rw (c .before .before .before .before .before .before .before .loop .inv .0 .ofNumbers .size) (inside (c .before .before .before .before .before .before .before .loop .i) (length (s .args .beats .now)) (length (s .args .numbers .now)) (c .before .before .before .before .before .before .loop-test .taken) (s .pre .0))
 
 mul-times-2 : tie.Need-mul-times-2 Inv-loop μ-loop
 mul-times-2 c =
-    let s = c .before .before .before .before .before .before .before .before .before .before .before .before .before .before .before .before .before .before .before .before .before .before in
+    let s = c .before .before .before .before .before .before .before .before .before .before .before .before .before .before .before .before .before .before .before .before in
     scaled8 (c .before .before .before .before .before .before .before .loop .i) (length (s .args .times .now)) (inside (c .before .before .before .before .before .before .before .loop .i) (length (s .args .beats .now)) (length (s .args .times .now)) (c .before .before .before .before .before .before .loop-test .taken) (s .pre .1)) (s .good .1 .1 .1 .1 .1 .1 .1 .1 .1 .1 .1 .1 .1 .0 .1)
 
 slice-write-times-2 : tie.Need-slice-write-times-2 Inv-loop μ-loop
 slice-write-times-2 c =
-    let s = c .before .before .before .before .before .before .before .before .before .before .before .before .before .before .before .before .before .before .before .before .before .before in
+    let s = c .before .before .before .before .before .before .before .before .before .before .before .before .before .before .before .before .before .before .before .before in
     rw (c .before .before .before .before .before .before .before .loop .inv .0 .ofTimes .size) (inside (c .before .before .before .before .before .before .before .loop .i) (length (s .args .beats .now)) (length (s .args .times .now)) (c .before .before .before .before .before .before .loop-test .taken) (s .pre .1))
 
 mul-counts-2 : tie.Need-mul-counts-2 Inv-loop μ-loop
 mul-counts-2 c =
-    let s = c .before .before .before .before .before .before .before .before .before .before .before .before .before .before .before .before .before .before .before .before .before .before in
+    let s = c .before .before .before .before .before .before .before .before .before .before .before .before .before .before .before .before .before .before .before .before in
     scaled8 (c .before .before .before .before .before .before .before .loop .i) (length (s .args .counts .now)) (inside (c .before .before .before .before .before .before .before .loop .i) (length (s .args .beats .now)) (length (s .args .counts .now)) (c .before .before .before .before .before .before .loop-test .taken) (s .pre .2)) (s .good .1 .1 .1 .1 .1 .1 .1 .1 .1 .1 .1 .1 .1 .1 .0 .1)
 
 slice-write-counts-2 : tie.Need-slice-write-counts-2 Inv-loop μ-loop
 slice-write-counts-2 c =
-    let s = c .before .before .before .before .before .before .before .before .before .before .before .before .before .before .before .before .before .before .before .before .before .before in
+    let s = c .before .before .before .before .before .before .before .before .before .before .before .before .before .before .before .before .before .before .before .before in
     rw (c .before .before .before .before .before .before .before .loop .inv .0 .ofCounts .size) (inside (c .before .before .before .before .before .before .before .loop .i) (length (s .args .beats .now)) (length (s .args .counts .now)) (c .before .before .before .before .before .before .loop-test .taken) (s .pre .2))
 
-look-ahead-requires-2 : tie.Need-look-ahead-requires-2 Inv-loop μ-loop
-look-ahead-requires-2 c κs = search needs
+look-ahead-requires : tie.Need-look-ahead-requires Inv-loop μ-loop
+look-ahead-requires c κs = search needs
 
 add-i-2 : tie.Need-add-i-2 Inv-loop μ-loop
 add-i-2 c =
-    let s = c .before .before .before .before .before .before .before .before .before .before .before .before .before .before .before .before .before .before .before .before .before .before .before .before .before in
+    let s = c .before .before .before .before .before .before .before .before .before .before .before .before .before .before .before .before .before .before .before .before .before .before .before in
     omega (arith, c .before .before .before .before .before .before .before .before .before .loop-test .taken, s .good .1 .1 .1 .1 .1 .1 .1 .1 .1 .1 .1 .0 .0)
 
 loop-less-2 : tie.Need-loop-less-2 Inv-loop μ-loop
@@ -145,10 +144,10 @@ loop-less-2 c = omega (arith, c .before .before .before .before .before .before 
 
 loop-again-2 : tie.Need-loop-again-2 Inv-loop μ-loop
 loop-again-2 c =
-    let s = c .before .before .before .before .before .before .before .before .before .before .before .before .before .before .before .before .before .before .before .before .before .before .before .before .before in
+    let s = c .before .before .before .before .before .before .before .before .before .before .before .before .before .before .before .before .before .before .before .before .before .before .before in
     let a = s .args in
     let l = c .before .before .before .before .before .before .before .before .before .before .loop in
-    (turned (timing (a .tempo-beats .now) (a .tempo-values .now) (a .stop-beats .now) (a .stop-values .now) (a .delay-beats .now) (a .delay-values .now) (a .warp-beats .now) (a .warp-lengths .now)) (a .offset) (a .global) (a .cursor) (a .beats .now) (a .numbers .now) (a .times .now) (a .counts .now) (l .at) (l .numbers) (l .times) (l .counts) (l .i) (l .inv .0) (c .before .before .before .ask .result) (c .before .before .before .ask .ensures) (c .before .before .before .before .before .before .before .before .before .loop-test .taken) (s .pre .0) (s .pre .1) (s .pre .2), c .look-ahead2 .ensures)
+    (turned (timing (a .tempo-beats .now) (a .tempo-values .now) (a .stop-beats .now) (a .stop-values .now) (a .delay-beats .now) (a .delay-values .now) (a .warp-beats .now) (a .warp-lengths .now)) (a .offset) (a .global) (a .cursor) (a .beats .now) (a .numbers .now) (a .times .now) (a .counts .now) (l .at) (l .numbers) (l .times) (l .counts) (l .i) (l .inv .0) (c .before .before .before .ask .result) (c .before .before .before .ask .ensures) (c .before .before .before .before .before .before .before .before .before .loop-test .taken) (s .pre .0) (s .pre .1) (s .pre .2), λ e. c .look-ahead .ensures)
 
 same-length : tie.Need-same-length Inv-loop μ-loop
 same-length c = c .before .loop .inv .0 .ofNumbers .size
@@ -161,7 +160,7 @@ same-length-3 c = c .before .loop .inv .0 .ofCounts .size
 
 returns : tie.Need-returns Inv-loop μ-loop
 returns c =
-    let a = c .before .before .before .before .before .before .before .before .before .before .before .before .before .before .before .before .args in
+    let a = c .before .before .before .before .before .before .before .before .before .before .before .before .before .before .args in
     let l = c .before .loop in
     ended (timing (a .tempo-beats .now) (a .tempo-values .now) (a .stop-beats .now) (a .stop-values .now) (a .delay-beats .now) (a .delay-values .now) (a .warp-beats .now) (a .warp-lengths .now)) (a .offset) (a .global) (a .cursor) (a .beats .now) (a .numbers .now) (a .times .now) (a .counts .now) (l .at) (l .numbers) (l .times) (l .counts) (l .i) (l .inv .0) (c .loop-test .left)
 
@@ -171,7 +170,6 @@ ask-each-spec =
     (tie.spec
     Inv-loop
     μ-loop
-    look-ahead-requires
     loop-holds
     mul-beat
     shared-slice-read-beat
@@ -194,7 +192,7 @@ ask-each-spec =
     slice-write-times-2
     mul-counts-2
     slice-write-counts-2
-    look-ahead-requires-2
+    look-ahead-requires
     add-i-2
     loop-less-2
     loop-again-2
