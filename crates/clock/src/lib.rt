@@ -209,7 +209,7 @@ impl Cursor {
     // A question of a run, whose timing and cursor were tested where it began: only the beat is tested. It walks by itself, not by `reply`: the walk, which is long,
     // then has two callers and is left a call, and what stands around it is short enough to be inlined, so that no cursor is copied from call to call.
     pub fn ask(
-        self,
+        mut self,
         tempo_beats: &[f32],
         tempo_values: &[f32],
         stop_beats: &[f32],
