@@ -1,7 +1,12 @@
--- `report::write_assembled` keeps the page, and what it answers counts bytes of it. Assumes nothing.
+-- `report_whole::write_assembled` meets its contract. Assumes nothing.
+use Prim.Native.Nat.{ℕ}
+use lib.ListN.{length-replicate}
+use lib.Ieee.{Float, binary32, ofBits}
+use Rattle.report_answer.proofs.Pieces.{wrote-as}
+use Rattle.report_whole.proofs.AssembledText.{assembled-text}
 use borrow.Author.Needs.{needs}
-use Rattle.report.proofs.write_assembled.Statement.{statement}
-use Rattle.report.proofs.write_assembled.Tie as tie
+use Rattle.report_whole.proofs.write_assembled.Statement.{statement}
+use Rattle.report_whole.proofs.write_assembled.Tie as tie
 
 slice-aggregate-out-tempo-beats : tie.Need-slice-aggregate-out-tempo-beats
 slice-aggregate-out-tempo-beats c = search needs
@@ -61,7 +66,11 @@ same-length : tie.Need-same-length
 same-length c = c .before .before .before .before .before .before .before .before .before .before .before .before .before .before .before .before .before .before .write-answer .kept .0
 
 returns : tie.Need-returns
-returns c = c .before .before .before .before .before .before .before .before .before .before .before .before .before .before .before .before .before .before .write-answer .ensures .1
+returns c =
+    let made = c .before .before .before .before .before .before .before .before .before .before .before .before .before .before .before .before .before .before .before .before .before .before .before .before .before .before .before .before .before .before .before .before .before .before .before .before .before .before .before .before .before .before .before .before .before .before .before .before .before .before .before .before .before .before .before .before .before .before .before .before .before .before .before .before .before .before .before .before .compute-timing-segments-within .ensures in
+    let put = c .before .before .before .before .before .before .before .before .before .before .before .before .before .before .before .before .before .before .write-answer .ensures in
+    let text = assembled-text _ _ _ _ _ _ _ _ _ _ _ _ _ _ _ _ _ (length-replicate {A = Float} 256 (ofBits binary32 0)) (length-replicate {A = ℕ} 256 0) (made .0) (made .1 .0) (made .1 .1 .0) (made .1 .1 .1 .0) (made .1 .1 .1 .1) in
+    (wrote-as text (put .0), put .1)
 
 pub write-assembled-spec : {M : Type 1} → statement M
 write-assembled-spec =
