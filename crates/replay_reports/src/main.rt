@@ -74,7 +74,7 @@ fn replay(sizes: Sizes, first: bool) -> bool {
     let mut read = read_text(&mut input, sizes.input);
     read = both(read, read_text(&mut answer, sizes.answer));
     read = both(read, read_text(&mut end, 1));
-    let length = report_whole::report_of(
+    let length = report_bytes::report_of(
         &mut page,
         report_answer::front_units(&input, sizes.input),
     );

@@ -6,7 +6,7 @@ ghost use lib.ListN.{take};
 ghost use Rattle.io.specs.Counts.{Counts};
 ghost use Rattle.report_text.specs.Page.{Wrote};
 ghost use Rattle.report_answer.specs.Report.{takenText};
-ghost use Rattle.report_whole.specs.Whole.{formatRead, countOf, reportText, reportOf, Reported};
+ghost use Rattle.report_whole.specs.Whole.{formatRead, countOf, reportText, Reported};
 
 fn format_of(ssc: bool) -> TimingFormat
     ensures { λ r. ⌜ r ≡ formatRead ssc ⌝ }
@@ -61,38 +61,22 @@ fn write_assembled(
     ensures { λ r. ⌜ Wrote (takenText format (now («tempo_beats» .entry)) (now («tempo_values» .entry)) (now («stop_beats» .entry)) (now («stop_values» .entry)) (now («delay_beats» .entry)) (now («delay_values» .entry)) (now («warp_beats» .entry)) (now («warp_lengths» .entry)) (now («speed_beats» .entry)) (now («speed_ratios» .entry)) (now («speed_delays» .entry)) (now («speed_units» .entry)) (now («scroll_beats» .entry)) (now («scroll_values» .entry)) (now («fake_beats» .entry)) (now («fake_lengths» .entry))) 0 r (now (page .entry)) (now (page .exit)) ⌝ }
     ensures { λ r. ⌜ Counts r (now (page .exit)) ⌝ }
 {
-    let mut room_tempo_beats = [0.0; 256];
-    let out_tempo_beats: &mut [f32] = &mut room_tempo_beats;
-    let mut room_tempo_values = [0.0; 256];
-    let out_tempo_values: &mut [f32] = &mut room_tempo_values;
-    let mut room_stop_beats = [0.0; 256];
-    let out_stop_beats: &mut [f32] = &mut room_stop_beats;
-    let mut room_stop_values = [0.0; 256];
-    let out_stop_values: &mut [f32] = &mut room_stop_values;
-    let mut room_delay_beats = [0.0; 256];
-    let out_delay_beats: &mut [f32] = &mut room_delay_beats;
-    let mut room_delay_values = [0.0; 256];
-    let out_delay_values: &mut [f32] = &mut room_delay_values;
-    let mut room_warp_beats = [0.0; 256];
-    let out_warp_beats: &mut [f32] = &mut room_warp_beats;
-    let mut room_warp_lengths = [0.0; 256];
-    let out_warp_lengths: &mut [f32] = &mut room_warp_lengths;
-    let mut room_speed_beats = [0.0; 256];
-    let out_speed_beats: &mut [f32] = &mut room_speed_beats;
-    let mut room_speed_ratios = [0.0; 256];
-    let out_speed_ratios: &mut [f32] = &mut room_speed_ratios;
-    let mut room_speed_delays = [0.0; 256];
-    let out_speed_delays: &mut [f32] = &mut room_speed_delays;
-    let mut room_speed_units = [0u8; 256];
-    let out_speed_units: &mut [u8] = &mut room_speed_units;
-    let mut room_scroll_beats = [0.0; 256];
-    let out_scroll_beats: &mut [f32] = &mut room_scroll_beats;
-    let mut room_scroll_values = [0.0; 256];
-    let out_scroll_values: &mut [f32] = &mut room_scroll_values;
-    let mut room_fake_beats = [0.0; 256];
-    let out_fake_beats: &mut [f32] = &mut room_fake_beats;
-    let mut room_fake_lengths = [0.0; 256];
-    let out_fake_lengths: &mut [f32] = &mut room_fake_lengths;
+    let mut out_tempo_beats = [0.0f32; 256];
+    let mut out_tempo_values = [0.0f32; 256];
+    let mut out_stop_beats = [0.0f32; 256];
+    let mut out_stop_values = [0.0f32; 256];
+    let mut out_delay_beats = [0.0f32; 256];
+    let mut out_delay_values = [0.0f32; 256];
+    let mut out_warp_beats = [0.0f32; 256];
+    let mut out_warp_lengths = [0.0f32; 256];
+    let mut out_speed_beats = [0.0f32; 256];
+    let mut out_speed_ratios = [0.0f32; 256];
+    let mut out_speed_delays = [0.0f32; 256];
+    let mut out_speed_units = [0u8; 256];
+    let mut out_scroll_beats = [0.0f32; 256];
+    let mut out_scroll_values = [0.0f32; 256];
+    let mut out_fake_beats = [0.0f32; 256];
+    let mut out_fake_lengths = [0.0f32; 256];
     let done = assembly::compute_timing_segments_within(
         256,
         format,
@@ -112,42 +96,42 @@ fn write_assembled(
         scroll_values,
         fake_beats,
         fake_lengths,
-        out_tempo_beats,
-        out_tempo_values,
-        out_stop_beats,
-        out_stop_values,
-        out_delay_beats,
-        out_delay_values,
-        out_warp_beats,
-        out_warp_lengths,
-        out_speed_beats,
-        out_speed_ratios,
-        out_speed_delays,
-        out_speed_units,
-        out_scroll_beats,
-        out_scroll_values,
-        out_fake_beats,
-        out_fake_lengths,
+        &mut out_tempo_beats,
+        &mut out_tempo_values,
+        &mut out_stop_beats,
+        &mut out_stop_values,
+        &mut out_delay_beats,
+        &mut out_delay_values,
+        &mut out_warp_beats,
+        &mut out_warp_lengths,
+        &mut out_speed_beats,
+        &mut out_speed_ratios,
+        &mut out_speed_delays,
+        &mut out_speed_units,
+        &mut out_scroll_beats,
+        &mut out_scroll_values,
+        &mut out_fake_beats,
+        &mut out_fake_lengths,
     );
     report_answer::write_answer(
         page,
         done,
-        out_tempo_beats,
-        out_tempo_values,
-        out_stop_beats,
-        out_stop_values,
-        out_delay_beats,
-        out_delay_values,
-        out_warp_beats,
-        out_warp_lengths,
-        out_speed_beats,
-        out_speed_ratios,
-        out_speed_delays,
-        out_speed_units,
-        out_scroll_beats,
-        out_scroll_values,
-        out_fake_beats,
-        out_fake_lengths,
+        &out_tempo_beats,
+        &out_tempo_values,
+        &out_stop_beats,
+        &out_stop_values,
+        &out_delay_beats,
+        &out_delay_values,
+        &out_warp_beats,
+        &out_warp_lengths,
+        &out_speed_beats,
+        &out_speed_ratios,
+        &out_speed_delays,
+        &out_speed_units,
+        &out_scroll_beats,
+        &out_scroll_values,
+        &out_fake_beats,
+        &out_fake_lengths,
     )
 }
 
@@ -207,71 +191,5 @@ pub fn write_report(
         front(scroll_values, scrolls),
         front(fake_beats, fakes),
         front(fake_lengths, fakes),
-    )
-}
-
-// Writes the report of an input that is there as a whole.
-pub fn report_of(page: &mut [u8], input: &[u8]) -> usize
-    ensures { λ r. ⌜ Reported (reportOf (now (input .entry))) r (now (page .entry)) (now (page .exit)) ⌝ }
-    ensures { λ r. ⌜ Counts r (now (page .exit)) ⌝ }
-{
-    let mut counts = [0u64; 9];
-    let mut tempo_beats = [0.0; 256];
-    let mut tempo_values = [0.0; 256];
-    let mut stop_beats = [0.0; 256];
-    let mut stop_values = [0.0; 256];
-    let mut delay_beats = [0.0; 256];
-    let mut delay_values = [0.0; 256];
-    let mut warp_beats = [0.0; 256];
-    let mut warp_lengths = [0.0; 256];
-    let mut speed_beats = [0.0; 256];
-    let mut speed_ratios = [0.0; 256];
-    let mut speed_delays = [0.0; 256];
-    let mut speed_units = [0u8; 256];
-    let mut scroll_beats = [0.0; 256];
-    let mut scroll_values = [0.0; 256];
-    let mut fake_beats = [0.0; 256];
-    let mut fake_lengths = [0.0; 256];
-    let reading = report_feed::feed(
-        report_form::begin(),
-        input,
-        &mut counts,
-        &mut tempo_beats,
-        &mut tempo_values,
-        &mut stop_beats,
-        &mut stop_values,
-        &mut delay_beats,
-        &mut delay_values,
-        &mut warp_beats,
-        &mut warp_lengths,
-        &mut speed_beats,
-        &mut speed_ratios,
-        &mut speed_delays,
-        &mut speed_units,
-        &mut scroll_beats,
-        &mut scroll_values,
-        &mut fake_beats,
-        &mut fake_lengths,
-    );
-    write_report(
-        page,
-        reading,
-        &counts,
-        &tempo_beats,
-        &tempo_values,
-        &stop_beats,
-        &stop_values,
-        &delay_beats,
-        &delay_values,
-        &warp_beats,
-        &warp_lengths,
-        &speed_beats,
-        &speed_ratios,
-        &speed_delays,
-        &speed_units,
-        &scroll_beats,
-        &scroll_values,
-        &fake_beats,
-        &fake_lengths,
     )
 }

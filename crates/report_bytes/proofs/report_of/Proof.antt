@@ -1,9 +1,9 @@
--- `report_whole::report_of` meets its contract: the bytes are fed, and what they leave is written. Assumes nothing.
+-- `report_bytes::report_of` meets its contract: the bytes are fed, and what they leave is written. Assumes nothing.
 use lib.Ieee.{ofBits}
 use Rattle.report_whole.proofs.ReadReport.{read-report, reported-as}
 use borrow.Author.Needs.{needs}
-use Rattle.report_whole.proofs.report_of.Statement.{statement}
-use Rattle.report_whole.proofs.report_of.Tie as tie
+use Rattle.report_bytes.proofs.report_of.Statement.{statement}
+use Rattle.report_bytes.proofs.report_of.Tie as tie
 
 begin-requires : tie.Need-begin-requires
 begin-requires c κs = search needs
