@@ -312,3 +312,38 @@ pub fn about_the_limit() -> Vec<Input> {
     }
     made
 }
+
+/// Scrolls and speeds whose kept list falls: taken while it is the last entry that makes it fall, refused with 6 once another follows, and
+/// with a lower number where one is to be given.
+pub fn out_of_order() -> Vec<Input> {
+    let falling = |list: usize, count: usize| -> Vec<Entry> {
+        [(4.0, 1.0), (8.0, 2.0), (0.0, 2.0), (16.0, 3.0)][..count]
+            .iter()
+            .map(|(beat, value)| {
+                let mut made = entry(*beat, *value);
+                if list == SPEED {
+                    made.numbers.push(0.5_f64.to_bits());
+                }
+                made
+            })
+            .collect()
+    };
+    let mut made = Vec::new();
+    for list in [SPEED, SPEED + 1] {
+        for count in [3, 4] {
+            let mut input = Input { ssc: list == SPEED, ..Input::default() };
+            input.lists[list] = falling(list, count);
+            made.push(input);
+        }
+        for (other, spoiled) in [(2, entry(70_000.0, 1.0)), (6, entry(1.0, power(31)))] {
+            let mut input = Input::default();
+            input.lists[list] = falling(list, 4);
+            input.lists[other] = vec![entry(0.0, 1.0), spoiled];
+            made.push(input);
+        }
+        let mut input = about_the_limit().pop().expect("warps that are one too many");
+        input.lists[list] = falling(list, 4);
+        made.push(input);
+    }
+    made
+}

@@ -1,3 +1,4 @@
 pub mod Inside
 pub mod Pieces
 pub mod TakenReport
+pub mod TakenFits

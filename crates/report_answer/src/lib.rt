@@ -17,7 +17,8 @@ fn front(column: &[f32], count: usize) -> &[f32]
     column
 }
 
-fn front_units(column: &[u8], count: usize) -> &[u8]
+// The same of units.
+pub fn front_units(column: &[u8], count: usize) -> &[u8]
     ensures { λ r. ⌜ now r ≡ take count (now (column .entry)) ⌝ }
 {
     if count < column.len() {

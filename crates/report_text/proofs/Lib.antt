@@ -1,3 +1,5 @@
 pub mod Joined
 pub mod Turns
 pub mod DecimalDigits
+pub mod TextSizes
+pub mod WholePage

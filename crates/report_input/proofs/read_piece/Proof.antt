@@ -1,7 +1,7 @@
--- `report::read_piece` keeps the lengths of its columns. Assumes nothing.
+-- `report_input::read_piece` feeds the bytes that it read. Assumes nothing.
 use borrow.Author.Needs.{needs}
-use Rattle.report.proofs.read_piece.Statement.{statement}
-use Rattle.report.proofs.read_piece.Tie as tie
+use Rattle.report_input.proofs.read_piece.Statement.{statement}
+use Rattle.report_input.proofs.read_piece.Tie as tie
 
 slice-aggregate-read-full : tie.Need-slice-aggregate-read-full
 slice-aggregate-read-full c = search needs
@@ -70,7 +70,9 @@ same-length-17 : tie.Need-same-length-17
 same-length-17 c = c .before .before .before .before .before .before .before .before .before .before .before .before .before .before .before .before .before .before .before .before .before .before .before .before .before .before .before .before .before .before .before .before .before .before .feed .kept .1 .1 .1 .1 .1 .1 .1 .1 .1 .1 .1 .1 .1 .1 .1 .1 .1 .1 .0
 
 returns : tie.Need-returns
-returns c = search needs
+returns c =
+    let fed = c .before .before .before .before .before .before .before .before .before .before .before .before .before .before .before .before .before .before .before .before .before .before .before .before .before .before .before .before .before .before .before .before .before .before .feed .ensures in
+    record { bytes = _; read = fed .0; counts = fed .1 .0; bpmBeats = fed .1 .1 .0; bpmValues = fed .1 .1 .1 .0; stopBeats = fed .1 .1 .1 .1 .0; stopValues = fed .1 .1 .1 .1 .1 .0; delayBeats = fed .1 .1 .1 .1 .1 .1 .0; delayValues = fed .1 .1 .1 .1 .1 .1 .1 .0; warpBeats = fed .1 .1 .1 .1 .1 .1 .1 .1 .0; warpValues = fed .1 .1 .1 .1 .1 .1 .1 .1 .1 .0; speedBeats = fed .1 .1 .1 .1 .1 .1 .1 .1 .1 .1 .0; speedRatios = fed .1 .1 .1 .1 .1 .1 .1 .1 .1 .1 .1 .0; speedDelays = fed .1 .1 .1 .1 .1 .1 .1 .1 .1 .1 .1 .1 .0; speedUnits = fed .1 .1 .1 .1 .1 .1 .1 .1 .1 .1 .1 .1 .1 .0; scrollBeats = fed .1 .1 .1 .1 .1 .1 .1 .1 .1 .1 .1 .1 .1 .1 .0; scrollValues = fed .1 .1 .1 .1 .1 .1 .1 .1 .1 .1 .1 .1 .1 .1 .1 .0; fakeBeats = fed .1 .1 .1 .1 .1 .1 .1 .1 .1 .1 .1 .1 .1 .1 .1 .1 .0; fakeValues = fed .1 .1 .1 .1 .1 .1 .1 .1 .1 .1 .1 .1 .1 .1 .1 .1 .1 }
 
 pub read-piece-spec : {M : Type 1} → statement M
 read-piece-spec =

@@ -1,10 +1,13 @@
--- `report::read_all` keeps the lengths of its columns, and its loop ends. Assumes nothing.
+-- `report_input::read_all` feeds all that it reads, and its loop ends. Assumes nothing.
 use mathlib.Core.Path.{_≡_, refl, _∙_}
 use native.Mathlib.Omega.{arith}
 use lib.ListN.{length}
 use borrow.Author.Needs.{needs}
-use Rattle.report.proofs.read_all.Statement.{statement}
-use Rattle.report.proofs.read_all.Tie as tie
+use Rattle.report_form.specs.Form.{start}
+use Rattle.report_input.specs.Fed.{Fed}
+use Rattle.report_input.proofs.Pieces.{fed-none, fed-join}
+use Rattle.report_input.proofs.read_all.Statement.{statement}
+use Rattle.report_input.proofs.read_all.Tie as tie
 
 abbrev Inv-loop : tie.InvT-loop
 Inv-loop counts₀ bpm-beats₀ bpm-values₀ stop-beats₀ stop-values₀ delay-beats₀ delay-values₀ warp-beats₀ warp-values₀ speed-beats₀ speed-ratios₀ speed-delays₀ speed-units₀ scroll-beats₀ scroll-values₀ fake-beats₀ fake-values₀ reading₀ turns₀ counts bpm-beats bpm-values stop-beats stop-values delay-beats delay-values warp-beats warp-values speed-beats speed-ratios speed-delays speed-units scroll-beats scroll-values fake-beats fake-values reading turns =
@@ -25,6 +28,7 @@ Inv-loop counts₀ bpm-beats₀ bpm-values₀ stop-beats₀ stop-values₀ delay
     × (length scroll-values ≡ length scroll-values₀)
     × (length fake-beats ≡ length fake-beats₀)
     × (length fake-values ≡ length fake-values₀)
+    × Fed start reading counts₀ counts bpm-beats₀ bpm-beats bpm-values₀ bpm-values stop-beats₀ stop-beats stop-values₀ stop-values delay-beats₀ delay-beats delay-values₀ delay-values warp-beats₀ warp-beats warp-values₀ warp-values speed-beats₀ speed-beats speed-ratios₀ speed-ratios speed-delays₀ speed-delays speed-units₀ speed-units scroll-beats₀ scroll-beats scroll-values₀ scroll-values fake-beats₀ fake-beats fake-values₀ fake-values
 
 abbrev μ-loop : tie.MeasureT-loop
 μ-loop counts₀ bpm-beats₀ bpm-values₀ stop-beats₀ stop-values₀ delay-beats₀ delay-values₀ warp-beats₀ warp-values₀ speed-beats₀ speed-ratios₀ speed-delays₀ speed-units₀ scroll-beats₀ scroll-values₀ fake-beats₀ fake-values₀ reading₀ turns₀ counts bpm-beats bpm-values stop-beats stop-values delay-beats delay-values warp-beats warp-values speed-beats speed-ratios speed-delays speed-units scroll-beats scroll-values fake-beats fake-values reading turns = turns
@@ -33,7 +37,7 @@ begin-requires : tie.Need-begin-requires Inv-loop μ-loop
 begin-requires c κs = search needs
 
 loop-holds : tie.Need-loop-holds Inv-loop μ-loop
-loop-holds c = (refl, refl, refl, refl, refl, refl, refl, refl, refl, refl, refl, refl, refl, refl, refl, refl, refl)
+loop-holds c = (refl, refl, refl, refl, refl, refl, refl, refl, refl, refl, refl, refl, refl, refl, refl, refl, refl, fed-none (c .begin .ensures))
 
 read-piece-requires : tie.Need-read-piece-requires Inv-loop μ-loop
 read-piece-requires c κs = search needs
@@ -90,7 +94,7 @@ same-length-17 : tie.Need-same-length-17 Inv-loop μ-loop
 same-length-17 c = c .before .before .before .before .before .before .before .before .before .before .before .before .before .before .before .before .before .before .before .before .before .before .before .before .before .before .before .before .before .before .before .before .before .before .before .before .before .read-piece .kept .1 .1 .1 .1 .1 .1 .1 .1 .1 .1 .1 .1 .1 .1 .1 .1 .1 .0 ∙ c .before .before .before .before .before .before .before .before .before .before .before .before .before .before .before .before .before .before .before .before .before .before .before .before .before .before .before .before .before .before .before .before .before .before .before .before .before .before .before .before .before .before .before .before .before .before .before .before .before .before .before .before .before .before .before .before .loop .inv .16
 
 returns : tie.Need-returns Inv-loop μ-loop
-returns c = search needs
+returns c = fed-join (c .before .before .before .before .before .before .before .before .before .before .before .before .before .before .before .before .before .before .before .before .before .before .before .before .before .before .before .before .before .before .before .before .before .before .before .before .before .before .before .before .before .before .before .before .before .before .before .before .before .before .before .before .before .before .before .before .loop .inv .17) (c .before .before .before .before .before .before .before .before .before .before .before .before .before .before .before .before .before .before .before .before .before .before .before .before .before .before .before .before .before .before .before .before .before .before .before .before .before .read-piece .ensures)
 
 sub-turns : tie.Need-sub-turns Inv-loop μ-loop
 sub-turns c = let positive = c .before .before .before .before .before .before .before .before .before .before .before .before .before .before .before .before .before .before .before .before .before .before .before .before .before .before .before .before .before .before .before .before .before .before .before .before .before .before .before .before .before .before .before .before .before .before .before .before .before .before .before .before .before .before .before .loop-test .taken in search needs
@@ -101,24 +105,25 @@ loop-less c = omega (arith, c .before .before .before .before .before .before .b
 loop-again : tie.Need-loop-again Inv-loop μ-loop
 loop-again c =
     let read = c .before .before .before .before .before .before .before .before .before .before .before .before .before .before .before .before .before .before .before .before .before .before .before .before .before .before .before .before .before .before .before .before .before .before .before .before .before in
-    let start = c .before .before .before .before .before .before .before .before .before .before .before .before .before .before .before .before .before .before .before .before .before .before .before .before .before .before .before .before .before .before .before .before .before .before .before .before .before .before .before .before .before .before .before .before .before .before .before .before .before .before .before .before .before .before .before .before in (
-      read .read-piece .kept .1 .0 ∙ start .loop .inv .0,
-      read .read-piece .kept .1 .1 .0 ∙ start .loop .inv .1,
-      read .read-piece .kept .1 .1 .1 .0 ∙ start .loop .inv .2,
-      read .read-piece .kept .1 .1 .1 .1 .0 ∙ start .loop .inv .3,
-      read .read-piece .kept .1 .1 .1 .1 .1 .0 ∙ start .loop .inv .4,
-      read .read-piece .kept .1 .1 .1 .1 .1 .1 .0 ∙ start .loop .inv .5,
-      read .read-piece .kept .1 .1 .1 .1 .1 .1 .1 .0 ∙ start .loop .inv .6,
-      read .read-piece .kept .1 .1 .1 .1 .1 .1 .1 .1 .0 ∙ start .loop .inv .7,
-      read .read-piece .kept .1 .1 .1 .1 .1 .1 .1 .1 .1 .0 ∙ start .loop .inv .8,
-      read .read-piece .kept .1 .1 .1 .1 .1 .1 .1 .1 .1 .1 .0 ∙ start .loop .inv .9,
-      read .read-piece .kept .1 .1 .1 .1 .1 .1 .1 .1 .1 .1 .1 .0 ∙ start .loop .inv .10,
-      read .read-piece .kept .1 .1 .1 .1 .1 .1 .1 .1 .1 .1 .1 .1 .0 ∙ start .loop .inv .11,
-      read .read-piece .kept .1 .1 .1 .1 .1 .1 .1 .1 .1 .1 .1 .1 .1 .0 ∙ start .loop .inv .12,
-      read .read-piece .kept .1 .1 .1 .1 .1 .1 .1 .1 .1 .1 .1 .1 .1 .1 .0 ∙ start .loop .inv .13,
-      read .read-piece .kept .1 .1 .1 .1 .1 .1 .1 .1 .1 .1 .1 .1 .1 .1 .1 .0 ∙ start .loop .inv .14,
-      read .read-piece .kept .1 .1 .1 .1 .1 .1 .1 .1 .1 .1 .1 .1 .1 .1 .1 .1 .0 ∙ start .loop .inv .15,
-      read .read-piece .kept .1 .1 .1 .1 .1 .1 .1 .1 .1 .1 .1 .1 .1 .1 .1 .1 .1 .0 ∙ start .loop .inv .16,
+    let turn = c .before .before .before .before .before .before .before .before .before .before .before .before .before .before .before .before .before .before .before .before .before .before .before .before .before .before .before .before .before .before .before .before .before .before .before .before .before .before .before .before .before .before .before .before .before .before .before .before .before .before .before .before .before .before .before .before in (
+      read .read-piece .kept .1 .0 ∙ turn .loop .inv .0,
+      read .read-piece .kept .1 .1 .0 ∙ turn .loop .inv .1,
+      read .read-piece .kept .1 .1 .1 .0 ∙ turn .loop .inv .2,
+      read .read-piece .kept .1 .1 .1 .1 .0 ∙ turn .loop .inv .3,
+      read .read-piece .kept .1 .1 .1 .1 .1 .0 ∙ turn .loop .inv .4,
+      read .read-piece .kept .1 .1 .1 .1 .1 .1 .0 ∙ turn .loop .inv .5,
+      read .read-piece .kept .1 .1 .1 .1 .1 .1 .1 .0 ∙ turn .loop .inv .6,
+      read .read-piece .kept .1 .1 .1 .1 .1 .1 .1 .1 .0 ∙ turn .loop .inv .7,
+      read .read-piece .kept .1 .1 .1 .1 .1 .1 .1 .1 .1 .0 ∙ turn .loop .inv .8,
+      read .read-piece .kept .1 .1 .1 .1 .1 .1 .1 .1 .1 .1 .0 ∙ turn .loop .inv .9,
+      read .read-piece .kept .1 .1 .1 .1 .1 .1 .1 .1 .1 .1 .1 .0 ∙ turn .loop .inv .10,
+      read .read-piece .kept .1 .1 .1 .1 .1 .1 .1 .1 .1 .1 .1 .1 .0 ∙ turn .loop .inv .11,
+      read .read-piece .kept .1 .1 .1 .1 .1 .1 .1 .1 .1 .1 .1 .1 .1 .0 ∙ turn .loop .inv .12,
+      read .read-piece .kept .1 .1 .1 .1 .1 .1 .1 .1 .1 .1 .1 .1 .1 .1 .0 ∙ turn .loop .inv .13,
+      read .read-piece .kept .1 .1 .1 .1 .1 .1 .1 .1 .1 .1 .1 .1 .1 .1 .1 .0 ∙ turn .loop .inv .14,
+      read .read-piece .kept .1 .1 .1 .1 .1 .1 .1 .1 .1 .1 .1 .1 .1 .1 .1 .1 .0 ∙ turn .loop .inv .15,
+      read .read-piece .kept .1 .1 .1 .1 .1 .1 .1 .1 .1 .1 .1 .1 .1 .1 .1 .1 .1 .0 ∙ turn .loop .inv .16,
+      fed-join (turn .loop .inv .17) (read .read-piece .ensures),
     )
 
 same-length-18 : tie.Need-same-length-18 Inv-loop μ-loop
@@ -173,7 +178,7 @@ same-length-34 : tie.Need-same-length-34 Inv-loop μ-loop
 same-length-34 c = c .before .loop .inv .16
 
 returns-2 : tie.Need-returns-2 Inv-loop μ-loop
-returns-2 c = search needs
+returns-2 c = c .before .loop .inv .17
 
 pub read-all-spec : {M : Type 1} → statement M
 read-all-spec =

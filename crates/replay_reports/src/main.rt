@@ -1,0 +1,118 @@
+// Replays inputs of the report program, stored with the original's answers, from standard input, and holds what is written to the answer.
+// A case is a line with the lengths of input and answer, six decimal digits each, then the bytes of both and a line feed.
+use libc::STDIN_FILENO;
+use libc::STDOUT_FILENO;
+ghost use Prim.Native.Nat.{_≤_};
+
+// More cases than are stored: a proved loop has to end.
+const MOST: u64 = 1000000;
+
+// The lengths of a case's input and answer; not there where the cases have ended.
+struct Sizes {
+    there: bool,
+    input: usize,
+    answer: usize,
+}
+
+struct Tally {
+    reports: u64,
+    different: u64,
+}
+
+fn digit(byte: u8) -> usize
+    ensures { λ r. ⌜ r ≤ 9 ⌝ }
+{
+    if byte < b'0' {
+        return 0;
+    }
+    if byte > b'9' {
+        return 0;
+    }
+    (byte - b'0') as usize
+}
+
+fn six_digits(a: u8, b: u8, c: u8, d: u8, e: u8, f: u8) -> usize {
+    digit(a) * 100000
+        + digit(b) * 10000
+        + digit(c) * 1000
+        + digit(d) * 100
+        + digit(e) * 10
+        + digit(f)
+}
+
+fn read_sizes() -> Sizes {
+    let mut line = [0u8; 14];
+    let got = io::read_full(STDIN_FILENO, &mut line);
+    Sizes {
+        there: got > 0,
+        input: six_digits(line[0], line[1], line[2], line[3], line[4], line[5]),
+        answer: six_digits(line[7], line[8], line[9], line[10], line[11], line[12]),
+    }
+}
+
+// The next bytes, so many, to the front of a text; whether they were there, and the text has room for them.
+fn read_text(text: &mut [u8], size: usize) -> bool {
+    if size > text.len() {
+        return false;
+    }
+    io::read_full(STDIN_FILENO, &mut text[..size]) == size
+}
+
+fn both(one: bool, other: bool) -> bool {
+    if one {
+        return other;
+    }
+    false
+}
+
+// The next bytes are a case's: whether its report is the stored one. Where it is the first that is not, what was written instead is printed.
+fn replay(sizes: Sizes, first: bool) -> bool {
+    let mut input = [0u8; 65536];
+    let mut answer = [0u8; 65536];
+    let mut end = [0u8; 1];
+    let mut page = [0u8; 65536];
+    let mut read = read_text(&mut input, sizes.input);
+    read = both(read, read_text(&mut answer, sizes.answer));
+    read = both(read, read_text(&mut end, 1));
+    let length = report_bytes::report_of(
+        &mut page,
+        report_answer::front_units(&input, sizes.input),
+    );
+    let stored = report_answer::front_units(&answer, sizes.answer);
+    let same = both(read, check::same(&page[..length], stored));
+    if both(first, !same) {
+        io::write_all(STDOUT_FILENO, b"a report differs, and says\n");
+        io::write_all(STDOUT_FILENO, &page[..length]);
+    }
+    same
+}
+
+fn replay_all() -> Tally {
+    let mut reports: u64 = 0;
+    let mut different: u64 = 0;
+    while reports < MOST {
+        let sizes = read_sizes();
+        if !sizes.there {
+            return Tally {
+                reports: reports,
+                different: different,
+            };
+        }
+        if !replay(sizes, different == 0) {
+            different += 1;
+        }
+        reports += 1;
+    }
+    Tally {
+        reports: reports,
+        different: different,
+    }
+}
+
+fn main() {
+    let tally = replay_all();
+    io::print_decimal(STDOUT_FILENO, tally.reports);
+    io::write_all(STDOUT_FILENO, b" reports, ");
+    io::print_decimal(STDOUT_FILENO, tally.different);
+    io::write_all(STDOUT_FILENO, b" different\n");
+}

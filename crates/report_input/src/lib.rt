@@ -1,0 +1,119 @@
+// The report program's input, read from standard input in pieces to its end.
+use libc::STDIN_FILENO;
+use report_form::Reading;
+ghost use Rattle.report_form.specs.Form.{start};
+ghost use Rattle.report_input.specs.Fed.{Fed};
+
+const PIECE: usize = 4096;
+
+// How many bytes the last piece had, and how far the input is read.
+struct Piece {
+    got: usize,
+    reading: Reading,
+}
+
+fn read_piece(
+    reading: Reading,
+    counts: &mut [u64],
+    bpm_beats: &mut [f64],
+    bpm_values: &mut [f64],
+    stop_beats: &mut [f64],
+    stop_values: &mut [f64],
+    delay_beats: &mut [f64],
+    delay_values: &mut [f64],
+    warp_beats: &mut [f64],
+    warp_values: &mut [f64],
+    speed_beats: &mut [f64],
+    speed_ratios: &mut [f64],
+    speed_delays: &mut [f64],
+    speed_units: &mut [u8],
+    scroll_beats: &mut [f64],
+    scroll_values: &mut [f64],
+    fake_beats: &mut [f64],
+    fake_values: &mut [f64],
+) -> Piece
+    ensures { λ r. ⌜ Fed reading (r .reading) (now («counts» .entry)) (now («counts» .exit)) (now («bpm_beats» .entry)) (now («bpm_beats» .exit)) (now («bpm_values» .entry)) (now («bpm_values» .exit)) (now («stop_beats» .entry)) (now («stop_beats» .exit)) (now («stop_values» .entry)) (now («stop_values» .exit)) (now («delay_beats» .entry)) (now («delay_beats» .exit)) (now («delay_values» .entry)) (now («delay_values» .exit)) (now («warp_beats» .entry)) (now («warp_beats» .exit)) (now («warp_values» .entry)) (now («warp_values» .exit)) (now («speed_beats» .entry)) (now («speed_beats» .exit)) (now («speed_ratios» .entry)) (now («speed_ratios» .exit)) (now («speed_delays» .entry)) (now («speed_delays» .exit)) (now («speed_units» .entry)) (now («speed_units» .exit)) (now («scroll_beats» .entry)) (now («scroll_beats» .exit)) (now («scroll_values» .entry)) (now («scroll_values» .exit)) (now («fake_beats» .entry)) (now («fake_beats» .exit)) (now («fake_values» .entry)) (now («fake_values» .exit)) ⌝ }
+{
+    let mut piece = [0u8; 4096];
+    let got = io::read_full(STDIN_FILENO, &mut piece);
+    let next = report_feed::feed(
+        reading,
+        &piece[..got],
+        counts,
+        bpm_beats,
+        bpm_values,
+        stop_beats,
+        stop_values,
+        delay_beats,
+        delay_values,
+        warp_beats,
+        warp_values,
+        speed_beats,
+        speed_ratios,
+        speed_delays,
+        speed_units,
+        scroll_beats,
+        scroll_values,
+        fake_beats,
+        fake_values,
+    );
+    Piece {
+        got: got,
+        reading: next,
+    }
+}
+
+// All of standard input, fed from the first byte on. A proved loop has to end, and nothing says that the input does: the turns are
+// counted down from a number that no run uses up.
+pub fn read_all(
+    counts: &mut [u64],
+    bpm_beats: &mut [f64],
+    bpm_values: &mut [f64],
+    stop_beats: &mut [f64],
+    stop_values: &mut [f64],
+    delay_beats: &mut [f64],
+    delay_values: &mut [f64],
+    warp_beats: &mut [f64],
+    warp_values: &mut [f64],
+    speed_beats: &mut [f64],
+    speed_ratios: &mut [f64],
+    speed_delays: &mut [f64],
+    speed_units: &mut [u8],
+    scroll_beats: &mut [f64],
+    scroll_values: &mut [f64],
+    fake_beats: &mut [f64],
+    fake_values: &mut [f64],
+) -> Reading
+    ensures { λ r. ⌜ Fed start r (now («counts» .entry)) (now («counts» .exit)) (now («bpm_beats» .entry)) (now («bpm_beats» .exit)) (now («bpm_values» .entry)) (now («bpm_values» .exit)) (now («stop_beats» .entry)) (now («stop_beats» .exit)) (now («stop_values» .entry)) (now («stop_values» .exit)) (now («delay_beats» .entry)) (now («delay_beats» .exit)) (now («delay_values» .entry)) (now («delay_values» .exit)) (now («warp_beats» .entry)) (now («warp_beats» .exit)) (now («warp_values» .entry)) (now («warp_values» .exit)) (now («speed_beats» .entry)) (now («speed_beats» .exit)) (now («speed_ratios» .entry)) (now («speed_ratios» .exit)) (now («speed_delays» .entry)) (now («speed_delays» .exit)) (now («speed_units» .entry)) (now («speed_units» .exit)) (now («scroll_beats» .entry)) (now («scroll_beats» .exit)) (now («scroll_values» .entry)) (now («scroll_values» .exit)) (now («fake_beats» .entry)) (now («fake_beats» .exit)) (now («fake_values» .entry)) (now («fake_values» .exit)) ⌝ }
+{
+    let mut reading = report_form::begin();
+    let mut turns = u64::MAX;
+    while turns > 0 {
+        let piece = read_piece(
+            reading,
+            counts,
+            bpm_beats,
+            bpm_values,
+            stop_beats,
+            stop_values,
+            delay_beats,
+            delay_values,
+            warp_beats,
+            warp_values,
+            speed_beats,
+            speed_ratios,
+            speed_delays,
+            speed_units,
+            scroll_beats,
+            scroll_values,
+            fake_beats,
+            fake_values,
+        );
+        reading = piece.reading;
+        if piece.got < PIECE {
+            return reading;
+        }
+        turns -= 1;
+    }
+    reading
+}

@@ -1,0 +1,26 @@
+-- The report's text by the input's own number: its answer line, or the answer to the lists. Assumes nothing.
+use Prim.Native.Nat.{ℕ}
+use mathlib.Core.Path.{_≡_, sym, ap, _∙_}
+use mathlib.Core.List.{List}
+use borrow.Author.Tests.{eq-eqb, ne-eqb}
+use lib.ListN.{take}
+use lib.Ieee.{Float}
+use Rattle.by_format.specs.declared.TimingFormat.{TimingFormat}
+use Rattle.report_form.specs.declared.Reading.{Reading}
+use Rattle.report_form.specs.Form.{answerOf}
+use Rattle.report_text.specs.Output.{answerLine}
+use Rattle.report_answer.specs.Report.{takenText}
+use Rattle.report_whole.specs.Whole.{formatRead, countOf, reportText}
+
+module _ (reading : Reading) (counts : List ℕ) (tempoBeats tempoValues stopBeats stopValues delayBeats delayValues warpBeats warpLengths speedBeats speedRatios speedDelays : List Float) (speedUnits : List ℕ) (scrollBeats scrollValues fakeBeats fakeLengths : List Float) where
+  pub refused-text : {number : ℕ} → number ≡ answerOf reading counts → (number ≡ 0 → ⊥) → answerLine number ≡ reportText reading counts tempoBeats tempoValues stopBeats stopValues delayBeats delayValues warpBeats warpLengths speedBeats speedRatios speedDelays speedUnits scrollBeats scrollValues fakeBeats fakeLengths
+  unfolding reportText
+  refused-text e h = rw (ne-eqb (answerOf reading counts) 0 (λ z. h (e ∙ z))) (ap answerLine e)
+
+  pub taken-text : {number : ℕ} {format : TimingFormat} {tempos stops delays warps speeds scrolls fakes : ℕ} {frontTempoBeats frontTempoValues frontStopBeats frontStopValues frontDelayBeats frontDelayValues frontWarpBeats frontWarpLengths frontSpeedBeats frontSpeedRatios frontSpeedDelays : List Float} {frontSpeedUnits : List ℕ} {frontScrollBeats frontScrollValues frontFakeBeats frontFakeLengths : List Float}
+      → number ≡ answerOf reading counts → number ≡ 0 → format ≡ formatRead (reading .ssc)
+      → tempos ≡ countOf counts 2 → stops ≡ countOf counts 3 → delays ≡ countOf counts 4 → warps ≡ countOf counts 5 → speeds ≡ countOf counts 6 → scrolls ≡ countOf counts 7 → fakes ≡ countOf counts 8
+      → frontTempoBeats ≡ take tempos tempoBeats → frontTempoValues ≡ take tempos tempoValues → frontStopBeats ≡ take stops stopBeats → frontStopValues ≡ take stops stopValues → frontDelayBeats ≡ take delays delayBeats → frontDelayValues ≡ take delays delayValues → frontWarpBeats ≡ take warps warpBeats → frontWarpLengths ≡ take warps warpLengths → frontSpeedBeats ≡ take speeds speedBeats → frontSpeedRatios ≡ take speeds speedRatios → frontSpeedDelays ≡ take speeds speedDelays → frontSpeedUnits ≡ take speeds speedUnits → frontScrollBeats ≡ take scrolls scrollBeats → frontScrollValues ≡ take scrolls scrollValues → frontFakeBeats ≡ take fakes fakeBeats → frontFakeLengths ≡ take fakes fakeLengths
+      → takenText format frontTempoBeats frontTempoValues frontStopBeats frontStopValues frontDelayBeats frontDelayValues frontWarpBeats frontWarpLengths frontSpeedBeats frontSpeedRatios frontSpeedDelays frontSpeedUnits frontScrollBeats frontScrollValues frontFakeBeats frontFakeLengths ≡ reportText reading counts tempoBeats tempoValues stopBeats stopValues delayBeats delayValues warpBeats warpLengths speedBeats speedRatios speedDelays speedUnits scrollBeats scrollValues fakeBeats fakeLengths
+  unfolding reportText
+  taken-text e z f c2 c3 c4 c5 c6 c7 c8 e1 e2 e3 e4 e5 e6 e7 e8 e9 e10 e11 e12 e13 e14 e15 e16 = rw (eq-eqb (answerOf reading counts) 0 (sym e ∙ z)) (cc)

@@ -1,0 +1,4 @@
+pub mod ReportFits
+pub mod ReadReport
+pub mod ByNumber
+pub mod AssembledText

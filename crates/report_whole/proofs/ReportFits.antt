@@ -1,0 +1,34 @@
+-- Every report fits a page of 45,000 bytes. Assumes nothing.
+use Prim.Native.Nat.{ℕ, _≤_}
+use mathlib.Core.Bool.{Bool, true, false}
+use mathlib.Core.List.{List}
+use native.Mathlib.Omega.{arith}
+use native.Mathlib.Nat.{le-trans}
+use lib.Dec.{eqb}
+use lib.ListN.{length, take}
+use lib.Ieee.{Float}
+use Rattle.picks.specs.Pick.{pick}
+use Rattle.report_form.specs.declared.Reading.{Reading}
+use Rattle.report_form.specs.Form.{answerOf}
+use Rattle.report_text.specs.Page.{Wrote}
+use Rattle.report_text.specs.Output.{answerLine}
+use Rattle.report_text.proofs.TextSizes.{answer-size}
+use Rattle.report_text.proofs.WholePage.{wrote-whole}
+use Rattle.report_answer.specs.Report.{takenText}
+use Rattle.report_answer.proofs.TakenFits.{taken-size}
+use Rattle.report_whole.specs.Whole.{formatRead, countOf, reportText, Reported}
+
+module _ (reading : Reading) (counts : List ℕ) (tempoBeats tempoValues stopBeats stopValues delayBeats delayValues warpBeats warpLengths speedBeats speedRatios speedDelays : List Float) (speedUnits : List ℕ) (scrollBeats scrollValues fakeBeats fakeLengths : List Float) where
+  report-size : length (reportText reading counts tempoBeats tempoValues stopBeats stopValues delayBeats delayValues warpBeats warpLengths speedBeats speedRatios speedDelays speedUnits scrollBeats scrollValues fakeBeats fakeLengths) ≤ 45000
+  unfolding reportText
+  report-size = by-case (eqb (answerOf reading counts) 0)
+    where
+      taken : List ℕ
+      taken = takenText (formatRead (reading .ssc)) (take (countOf counts 2) tempoBeats) (take (countOf counts 2) tempoValues) (take (countOf counts 3) stopBeats) (take (countOf counts 3) stopValues) (take (countOf counts 4) delayBeats) (take (countOf counts 4) delayValues) (take (countOf counts 5) warpBeats) (take (countOf counts 5) warpLengths) (take (countOf counts 6) speedBeats) (take (countOf counts 6) speedRatios) (take (countOf counts 6) speedDelays) (take (countOf counts 6) speedUnits) (take (countOf counts 7) scrollBeats) (take (countOf counts 7) scrollValues) (take (countOf counts 8) fakeBeats) (take (countOf counts 8) fakeLengths)
+
+      by-case : (t : Bool) → length (pick t taken (answerLine (answerOf reading counts))) ≤ 45000
+      by-case true = taken-size _ _ _ _ _ _ _ _ _ _ _ _ _ _ _ _ _
+      by-case false = omega (arith, answer-size (answerOf reading counts))
+
+  pub reported : {end : ℕ} {old new : List ℕ} → Wrote (reportText reading counts tempoBeats tempoValues stopBeats stopValues delayBeats delayValues warpBeats warpLengths speedBeats speedRatios speedDelays speedUnits scrollBeats scrollValues fakeBeats fakeLengths) 0 end old new → Reported (reportText reading counts tempoBeats tempoValues stopBeats stopValues delayBeats delayValues warpBeats warpLengths speedBeats speedRatios speedDelays speedUnits scrollBeats scrollValues fakeBeats fakeLengths) end old new
+  reported {end} {old} {new} w = record { wrote = w; whole = λ h. wrote-whole (le-trans report-size h) w }

@@ -1,0 +1,178 @@
+-- `report_whole::write_assembled` meets its contract. Assumes nothing.
+use Prim.Native.Nat.{ℕ}
+use lib.ListN.{length-replicate}
+use lib.Ieee.{Float, binary32, ofBits}
+use Rattle.report_answer.proofs.Pieces.{wrote-as}
+use Rattle.report_whole.proofs.AssembledText.{assembled-text}
+use borrow.Author.Needs.{needs}
+use Rattle.report_whole.proofs.write_assembled.Statement.{statement}
+use Rattle.report_whole.proofs.write_assembled.Tie as tie
+
+slice-aggregate-compute-timing-segments-within :
+    tie.Need-slice-aggregate-compute-timing-segments-within
+slice-aggregate-compute-timing-segments-within c = search needs
+
+slice-aggregate-compute-timing-segments-within-2 :
+    tie.Need-slice-aggregate-compute-timing-segments-within-2
+slice-aggregate-compute-timing-segments-within-2 c = search needs
+
+slice-aggregate-compute-timing-segments-within-3 :
+    tie.Need-slice-aggregate-compute-timing-segments-within-3
+slice-aggregate-compute-timing-segments-within-3 c = search needs
+
+slice-aggregate-compute-timing-segments-within-4 :
+    tie.Need-slice-aggregate-compute-timing-segments-within-4
+slice-aggregate-compute-timing-segments-within-4 c = search needs
+
+slice-aggregate-compute-timing-segments-within-5 :
+    tie.Need-slice-aggregate-compute-timing-segments-within-5
+slice-aggregate-compute-timing-segments-within-5 c = search needs
+
+slice-aggregate-compute-timing-segments-within-6 :
+    tie.Need-slice-aggregate-compute-timing-segments-within-6
+slice-aggregate-compute-timing-segments-within-6 c = search needs
+
+slice-aggregate-compute-timing-segments-within-7 :
+    tie.Need-slice-aggregate-compute-timing-segments-within-7
+slice-aggregate-compute-timing-segments-within-7 c = search needs
+
+slice-aggregate-compute-timing-segments-within-8 :
+    tie.Need-slice-aggregate-compute-timing-segments-within-8
+slice-aggregate-compute-timing-segments-within-8 c = search needs
+
+slice-aggregate-compute-timing-segments-within-9 :
+    tie.Need-slice-aggregate-compute-timing-segments-within-9
+slice-aggregate-compute-timing-segments-within-9 c = search needs
+
+slice-aggregate-compute-timing-segments-within-10 :
+    tie.Need-slice-aggregate-compute-timing-segments-within-10
+slice-aggregate-compute-timing-segments-within-10 c = search needs
+
+slice-aggregate-compute-timing-segments-within-11 :
+    tie.Need-slice-aggregate-compute-timing-segments-within-11
+slice-aggregate-compute-timing-segments-within-11 c = search needs
+
+slice-aggregate-compute-timing-segments-within-12 :
+    tie.Need-slice-aggregate-compute-timing-segments-within-12
+slice-aggregate-compute-timing-segments-within-12 c = search needs
+
+slice-aggregate-compute-timing-segments-within-13 :
+    tie.Need-slice-aggregate-compute-timing-segments-within-13
+slice-aggregate-compute-timing-segments-within-13 c = search needs
+
+slice-aggregate-compute-timing-segments-within-14 :
+    tie.Need-slice-aggregate-compute-timing-segments-within-14
+slice-aggregate-compute-timing-segments-within-14 c = search needs
+
+slice-aggregate-compute-timing-segments-within-15 :
+    tie.Need-slice-aggregate-compute-timing-segments-within-15
+slice-aggregate-compute-timing-segments-within-15 c = search needs
+
+slice-aggregate-compute-timing-segments-within-16 :
+    tie.Need-slice-aggregate-compute-timing-segments-within-16
+slice-aggregate-compute-timing-segments-within-16 c = search needs
+
+compute-timing-segments-within-requires : tie.Need-compute-timing-segments-within-requires
+compute-timing-segments-within-requires c κs = search needs
+
+slice-aggregate-write-answer : tie.Need-slice-aggregate-write-answer
+slice-aggregate-write-answer c = search needs
+
+slice-aggregate-write-answer-2 : tie.Need-slice-aggregate-write-answer-2
+slice-aggregate-write-answer-2 c = search needs
+
+slice-aggregate-write-answer-3 : tie.Need-slice-aggregate-write-answer-3
+slice-aggregate-write-answer-3 c = search needs
+
+slice-aggregate-write-answer-4 : tie.Need-slice-aggregate-write-answer-4
+slice-aggregate-write-answer-4 c = search needs
+
+slice-aggregate-write-answer-5 : tie.Need-slice-aggregate-write-answer-5
+slice-aggregate-write-answer-5 c = search needs
+
+slice-aggregate-write-answer-6 : tie.Need-slice-aggregate-write-answer-6
+slice-aggregate-write-answer-6 c = search needs
+
+slice-aggregate-write-answer-7 : tie.Need-slice-aggregate-write-answer-7
+slice-aggregate-write-answer-7 c = search needs
+
+slice-aggregate-write-answer-8 : tie.Need-slice-aggregate-write-answer-8
+slice-aggregate-write-answer-8 c = search needs
+
+slice-aggregate-write-answer-9 : tie.Need-slice-aggregate-write-answer-9
+slice-aggregate-write-answer-9 c = search needs
+
+slice-aggregate-write-answer-10 : tie.Need-slice-aggregate-write-answer-10
+slice-aggregate-write-answer-10 c = search needs
+
+slice-aggregate-write-answer-11 : tie.Need-slice-aggregate-write-answer-11
+slice-aggregate-write-answer-11 c = search needs
+
+slice-aggregate-write-answer-12 : tie.Need-slice-aggregate-write-answer-12
+slice-aggregate-write-answer-12 c = search needs
+
+slice-aggregate-write-answer-13 : tie.Need-slice-aggregate-write-answer-13
+slice-aggregate-write-answer-13 c = search needs
+
+slice-aggregate-write-answer-14 : tie.Need-slice-aggregate-write-answer-14
+slice-aggregate-write-answer-14 c = search needs
+
+slice-aggregate-write-answer-15 : tie.Need-slice-aggregate-write-answer-15
+slice-aggregate-write-answer-15 c = search needs
+
+slice-aggregate-write-answer-16 : tie.Need-slice-aggregate-write-answer-16
+slice-aggregate-write-answer-16 c = search needs
+
+write-answer-requires : tie.Need-write-answer-requires
+write-answer-requires c κs = search needs
+
+same-length : tie.Need-same-length
+same-length c = c .before .before .write-answer .kept .0
+
+returns : tie.Need-returns
+returns c =
+    let made = c .before .before .before .before .before .before .before .before .before .before .before .before .before .before .before .before .before .before .before .before .before .before .before .before .before .before .before .before .before .before .before .before .before .before .before .before .compute-timing-segments-within .ensures in
+    let put = c .before .before .write-answer .ensures in
+    let text = assembled-text _ _ _ _ _ _ _ _ _ _ _ _ _ _ _ _ _ (length-replicate {A = Float} 256 (ofBits binary32 0)) (length-replicate {A = ℕ} 256 0) (made .0) (made .1 .0) (made .1 .1 .0) (made .1 .1 .1 .0) (made .1 .1 .1 .1) in
+    (wrote-as text (put .0), put .1)
+
+pub write-assembled-spec : {M : Type 1} → statement M
+write-assembled-spec =
+    tie.close
+    (tie.spec
+    slice-aggregate-compute-timing-segments-within
+    slice-aggregate-compute-timing-segments-within-2
+    slice-aggregate-compute-timing-segments-within-3
+    slice-aggregate-compute-timing-segments-within-4
+    slice-aggregate-compute-timing-segments-within-5
+    slice-aggregate-compute-timing-segments-within-6
+    slice-aggregate-compute-timing-segments-within-7
+    slice-aggregate-compute-timing-segments-within-8
+    slice-aggregate-compute-timing-segments-within-9
+    slice-aggregate-compute-timing-segments-within-10
+    slice-aggregate-compute-timing-segments-within-11
+    slice-aggregate-compute-timing-segments-within-12
+    slice-aggregate-compute-timing-segments-within-13
+    slice-aggregate-compute-timing-segments-within-14
+    slice-aggregate-compute-timing-segments-within-15
+    slice-aggregate-compute-timing-segments-within-16
+    compute-timing-segments-within-requires
+    slice-aggregate-write-answer
+    slice-aggregate-write-answer-2
+    slice-aggregate-write-answer-3
+    slice-aggregate-write-answer-4
+    slice-aggregate-write-answer-5
+    slice-aggregate-write-answer-6
+    slice-aggregate-write-answer-7
+    slice-aggregate-write-answer-8
+    slice-aggregate-write-answer-9
+    slice-aggregate-write-answer-10
+    slice-aggregate-write-answer-11
+    slice-aggregate-write-answer-12
+    slice-aggregate-write-answer-13
+    slice-aggregate-write-answer-14
+    slice-aggregate-write-answer-15
+    slice-aggregate-write-answer-16
+    write-answer-requires
+    same-length
+    returns)

@@ -1,0 +1,195 @@
+// The whole report of what was read of an input: its own number, or the answer to its lists.
+use by_format::TimingFormat;
+use report_form::Reading;
+ghost use mathlib.Core.Path.{_≡_};
+ghost use lib.ListN.{take};
+ghost use Rattle.io.specs.Counts.{Counts};
+ghost use Rattle.report_text.specs.Page.{Wrote};
+ghost use Rattle.report_answer.specs.Report.{takenText};
+ghost use Rattle.report_whole.specs.Whole.{formatRead, countOf, reportText, Reported};
+
+fn format_of(ssc: bool) -> TimingFormat
+    ensures { λ r. ⌜ r ≡ formatRead ssc ⌝ }
+{
+    if ssc {
+        return TimingFormat::Ssc;
+    }
+    TimingFormat::Sm
+}
+
+// How many entries a list has; none where the counts end before it.
+fn count_of(counts: &[u64], list: usize) -> usize
+    ensures { λ r. ⌜ r ≡ countOf (now (counts .entry)) list ⌝ }
+{
+    if list < counts.len() {
+        return counts[list] as usize;
+    }
+    0
+}
+
+// The first entries of a column.
+fn front(column: &[f64], count: usize) -> &[f64]
+    ensures { λ r. ⌜ now r ≡ take count (now (column .entry)) ⌝ }
+{
+    if count < column.len() {
+        return &column[..count];
+    }
+    column
+}
+
+// The answer to lists of an input that is taken: assembled in columns of 256 numbers, and written from the page's first byte on.
+fn write_assembled(
+    page: &mut [u8],
+    format: TimingFormat,
+    tempo_beats: &[f64],
+    tempo_values: &[f64],
+    stop_beats: &[f64],
+    stop_values: &[f64],
+    delay_beats: &[f64],
+    delay_values: &[f64],
+    warp_beats: &[f64],
+    warp_lengths: &[f64],
+    speed_beats: &[f64],
+    speed_ratios: &[f64],
+    speed_delays: &[f64],
+    speed_units: &[u8],
+    scroll_beats: &[f64],
+    scroll_values: &[f64],
+    fake_beats: &[f64],
+    fake_lengths: &[f64],
+) -> usize
+    ensures { λ r. ⌜ Wrote (takenText format (now («tempo_beats» .entry)) (now («tempo_values» .entry)) (now («stop_beats» .entry)) (now («stop_values» .entry)) (now («delay_beats» .entry)) (now («delay_values» .entry)) (now («warp_beats» .entry)) (now («warp_lengths» .entry)) (now («speed_beats» .entry)) (now («speed_ratios» .entry)) (now («speed_delays» .entry)) (now («speed_units» .entry)) (now («scroll_beats» .entry)) (now («scroll_values» .entry)) (now («fake_beats» .entry)) (now («fake_lengths» .entry))) 0 r (now (page .entry)) (now (page .exit)) ⌝ }
+    ensures { λ r. ⌜ Counts r (now (page .exit)) ⌝ }
+{
+    let mut out_tempo_beats = [0.0f32; 256];
+    let mut out_tempo_values = [0.0f32; 256];
+    let mut out_stop_beats = [0.0f32; 256];
+    let mut out_stop_values = [0.0f32; 256];
+    let mut out_delay_beats = [0.0f32; 256];
+    let mut out_delay_values = [0.0f32; 256];
+    let mut out_warp_beats = [0.0f32; 256];
+    let mut out_warp_lengths = [0.0f32; 256];
+    let mut out_speed_beats = [0.0f32; 256];
+    let mut out_speed_ratios = [0.0f32; 256];
+    let mut out_speed_delays = [0.0f32; 256];
+    let mut out_speed_units = [0u8; 256];
+    let mut out_scroll_beats = [0.0f32; 256];
+    let mut out_scroll_values = [0.0f32; 256];
+    let mut out_fake_beats = [0.0f32; 256];
+    let mut out_fake_lengths = [0.0f32; 256];
+    let done = assembly::compute_timing_segments_within(
+        256,
+        format,
+        tempo_beats,
+        tempo_values,
+        stop_beats,
+        stop_values,
+        delay_beats,
+        delay_values,
+        warp_beats,
+        warp_lengths,
+        speed_beats,
+        speed_ratios,
+        speed_delays,
+        speed_units,
+        scroll_beats,
+        scroll_values,
+        fake_beats,
+        fake_lengths,
+        &mut out_tempo_beats,
+        &mut out_tempo_values,
+        &mut out_stop_beats,
+        &mut out_stop_values,
+        &mut out_delay_beats,
+        &mut out_delay_values,
+        &mut out_warp_beats,
+        &mut out_warp_lengths,
+        &mut out_speed_beats,
+        &mut out_speed_ratios,
+        &mut out_speed_delays,
+        &mut out_speed_units,
+        &mut out_scroll_beats,
+        &mut out_scroll_values,
+        &mut out_fake_beats,
+        &mut out_fake_lengths,
+    );
+    report_answer::write_answer(
+        page,
+        done,
+        &out_tempo_beats,
+        &out_tempo_values,
+        &out_stop_beats,
+        &out_stop_values,
+        &out_delay_beats,
+        &out_delay_values,
+        &out_warp_beats,
+        &out_warp_lengths,
+        &out_speed_beats,
+        &out_speed_ratios,
+        &out_speed_delays,
+        &out_speed_units,
+        &out_scroll_beats,
+        &out_scroll_values,
+        &out_fake_beats,
+        &out_fake_lengths,
+    )
+}
+
+// Writes the report of an input that is read, from the page's first byte on, and answers how many bytes it has. Columns and counts are as
+// `report_feed::feed` leaves them. A page of 45,000 bytes holds every report; a shorter one holds its beginning.
+pub fn write_report(
+    page: &mut [u8],
+    reading: Reading,
+    counts: &[u64],
+    tempo_beats: &[f64],
+    tempo_values: &[f64],
+    stop_beats: &[f64],
+    stop_values: &[f64],
+    delay_beats: &[f64],
+    delay_values: &[f64],
+    warp_beats: &[f64],
+    warp_lengths: &[f64],
+    speed_beats: &[f64],
+    speed_ratios: &[f64],
+    speed_delays: &[f64],
+    speed_units: &[u8],
+    scroll_beats: &[f64],
+    scroll_values: &[f64],
+    fake_beats: &[f64],
+    fake_lengths: &[f64],
+) -> usize
+    ensures { λ r. ⌜ Reported (reportText reading (now (counts .entry)) (now («tempo_beats» .entry)) (now («tempo_values» .entry)) (now («stop_beats» .entry)) (now («stop_values» .entry)) (now («delay_beats» .entry)) (now («delay_values» .entry)) (now («warp_beats» .entry)) (now («warp_lengths» .entry)) (now («speed_beats» .entry)) (now («speed_ratios» .entry)) (now («speed_delays» .entry)) (now («speed_units» .entry)) (now («scroll_beats» .entry)) (now («scroll_values» .entry)) (now («fake_beats» .entry)) (now («fake_lengths» .entry))) r (now (page .entry)) (now (page .exit)) ⌝ }
+    ensures { λ r. ⌜ Counts r (now (page .exit)) ⌝ }
+{
+    let number = report_form::answer(reading, counts);
+    if number != 0 {
+        return report_answer::write_refusal(page, number);
+    }
+    let tempos = count_of(counts, 2);
+    let stops = count_of(counts, 3);
+    let delays = count_of(counts, 4);
+    let warps = count_of(counts, 5);
+    let speeds = count_of(counts, 6);
+    let scrolls = count_of(counts, 7);
+    let fakes = count_of(counts, 8);
+    write_assembled(
+        page,
+        format_of(reading.ssc),
+        front(tempo_beats, tempos),
+        front(tempo_values, tempos),
+        front(stop_beats, stops),
+        front(stop_values, stops),
+        front(delay_beats, delays),
+        front(delay_values, delays),
+        front(warp_beats, warps),
+        front(warp_lengths, warps),
+        front(speed_beats, speeds),
+        front(speed_ratios, speeds),
+        front(speed_delays, speeds),
+        report_answer::front_units(speed_units, speeds),
+        front(scroll_beats, scrolls),
+        front(scroll_values, scrolls),
+        front(fake_beats, fakes),
+        front(fake_lengths, fakes),
+    )
+}
