@@ -7,7 +7,7 @@ import re
 import sys
 
 root = pathlib.Path(__file__).resolve().parent.parent
-KIT = {"io", "libc"}
+KIT = {"io", "libc", "check", "bytes", "os", "std"}
 
 
 def crates():
