@@ -2,3 +2,4 @@ pub mod ReportFits
 pub mod ReadReport
 pub mod ByNumber
 pub mod AssembledText
+pub mod OneReport
