@@ -1,5 +1,5 @@
 -- A timing whose tempos are chosen, its own or the one of 60, is the filled one, and the events that a walk passes there can be counted. Assumes nothing.
-use Prim.Native.Nat.{ℕ, _+_, _*_, _^_, _<_}
+use Prim.Native.Nat.{_+_, _*_, _^_, _<_}
 use mathlib.Core.Bool.{Bool, true, false}
 use mathlib.Core.List.{List, [], _∷_}
 use mathlib.Core.Path.{_≡_, refl}

@@ -1,1 +1,2 @@
 pub mod FilledTempos
+pub mod QuietReply

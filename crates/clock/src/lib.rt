@@ -7,11 +7,15 @@ ghost use lib.ListN.{length};
 ghost use lib.Dec.{eqb};
 ghost use Rattle.picks.specs.Pick.{pick};
 ghost use Rattle.timing_tests.specs.CursorNumbers.{cursorNumber};
-ghost use lib.Ieee.{binary64};
+ghost use lib.Ieee.{binary64, add};
+ghost use lib.Signed.{ltZ};
+ghost use mathlib.Core.Bool.{true, false};
 ghost use Rattle.rows.specs.Rows.{row};
-ghost use Rattle.walk.specs.Events.{timing};
+ghost use Rattle.walk.specs.Events.{timing, nextEvent};
+ghost use Rattle.walk.specs.Passing.{earlyTempo, timeTo};
+ghost use Rattle.walk.specs.declared.Event.the-variants.{Asked};
 ghost use Rattle.walk.specs.Walk.{walk};
-ghost use Rattle.clock.specs.Question.{temposOf, freshState, freshCursor, made, filled, beginning, answered, refusedWith, reply, asking, cursorRefusal, playerNumber, playerQuestion, questionNumber, question};
+ghost use Rattle.clock.specs.Question.{freshState, freshCursor, made, filled, beginning, answered, refusedWith, reply, asking, playerQuestion, question};
 
 // How far the questions so far have come, and the row asked last.
 #[repr(C)]
@@ -206,6 +210,47 @@ impl Cursor {
         answered(walked, row, global)
     }
 
+    // True only where the walk to a row goes on from here, over the tempos as they are, and passes no event.
+    fn is_quiet(
+        self,
+        row: i32,
+        tempo_beats: &[f32],
+        stop_beats: &[f32],
+        delay_beats: &[f32],
+        warp_beats: &[f32],
+    ) -> bool
+        ensures { λ r. ⌜ (r ≡ true → (ltZ row (self .asked) ≡ false) × (eqb (length (now («tempo_beats» .entry))) 0 ≡ false) × (nextEvent (now («tempo_beats» .entry)) (now («stop_beats» .entry)) (now («delay_beats» .entry)) (now («warp_beats» .entry)) (self .state) row ≡ record { row = row; kind = Asked })) ⌝ }
+    {
+        if row < self.asked {
+            return false;
+        }
+        if tempo_beats.len() == 0 {
+            return false;
+        }
+        let state = self.state;
+        walk::is_quiet(state, row, tempo_beats, stop_beats, delay_beats, warp_beats)
+    }
+
+    // The answer where no event is passed.
+    fn reply_quietly(
+        self,
+        row: i32,
+        tempo_beats: &[f32],
+        tempo_values: &[f32],
+        global: f64,
+    ) -> Answer
+        ensures { λ r. ⌜ r ≡ answered global row (record { state = self .state; passed = 0; time = add binary64 (self .state .time) (timeTo (earlyTempo (now («tempo_beats» .entry)) (now («tempo_values» .entry)) (self .state)) (now («tempo_values» .entry)) (self .state) row) }) ⌝ }
+    {
+        let state = self.state;
+        let time = walk::quiet_time(state, row, tempo_beats, tempo_values);
+        let walked = Walked {
+            state: state,
+            passed: 0,
+            time: time,
+        };
+        answered(walked, row, global)
+    }
+
     // A question of a run, whose timing and cursor were tested where it began: only the beat is tested. It walks by itself, not by `reply`: the walk, which is long,
     // then has two callers and is left a call, and what stands around it is short enough to be inlined, so that no cursor is copied from call to call.
     pub fn ask(
@@ -289,6 +334,10 @@ impl Cursor {
         let lent = self.refusal(tempo_beats, stop_beats, delay_beats, warp_beats);
         let number = limits::lower_of(asked, lent);
         if number == 0 {
+            let row = rows::beat_to_note_row(beat);
+            if self.is_quiet(row, tempo_beats, stop_beats, delay_beats, warp_beats) {
+                return self.reply_quietly(row, tempo_beats, tempo_values, global);
+            }
             return self.reply(
                 tempo_beats,
                 tempo_values,

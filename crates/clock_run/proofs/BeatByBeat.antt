@@ -10,7 +10,6 @@ use mathlib.Core.Bool.{true}
 use lib.IntN.{ℤ}
 use lib.Ieee.{Float, nan, binary64, sub}
 use Rattle.rows.specs.Rows.{row}
-use Rattle.order.specs.Order.{laid}
 use Rattle.order.proofs.LaidOverFront.{Laying, laying-none, laying-more, laying-all}
 use Rattle.walk.specs.Events.{Timing}
 use Rattle.clock.specs.Question.{asking}

@@ -1,5 +1,5 @@
 -- What a run looks ahead for: up to the next event a beat's time follows from the state, and no walk is needed. Definitions only.
-use Prim.Native.Nat.{ℕ, _-_}
+use Prim.Native.Nat.{_-_}
 use mathlib.Core.Bool.{Bool, true, false}
 use mathlib.Core.List.{List}
 use lib.Dec.{ltb, eqb}
@@ -8,22 +8,13 @@ use lib.Signed.{ltZ}
 use lib.ListN.{length, getD}
 use lib.Ieee.{Float, nan, binary64, add, div}
 use Rattle.picks.specs.Pick.{pick}
-use Rattle.rows.specs.Rows.{row, beatOf}
+use Rattle.rows.specs.Rows.{beatOf}
 use Rattle.walk.specs.Events.{Timing}
+use Rattle.walk.specs.Quiet.{farthest, rowAt, endRow}
 use Rattle.walk.specs.Passing.{noTime, sixty}
 use Rattle.walk.specs.declared.State.{State}
 use Rattle.timing_tests.specs.TimingNumbers.{beatNumber}
 use Rattle.clock_run.specs.declared.Ahead.{Ahead}
-
--- where nothing is ahead: the greatest i32
-abbrev pub farthest : ℤ
-farthest = pos 2147483647
-
-unfoldable pub rowAt : List Float → ℕ → ℤ
-rowAt beats place = pick (ltb place (length beats)) (row binary64 (getD beats place nan)) farthest
-
-unfoldable pub endRow : Bool → Float → ℤ
-endRow warping end = pick warping (row binary64 end) farthest
 
 unfoldable pub least : ℤ → ℤ → ℤ
 least a b = pick (ltZ a b) a b

@@ -7,7 +7,7 @@ ghost use lib.ListN.{length};
 ghost use Rattle.walk.specs.Events.{timing};
 ghost use Rattle.clock_run.specs.Run.{roomNumber, RunLaid};
 ghost use Rattle.clock_run.specs.Asked.{AllAsked};
-ghost use Rattle.clock_run.specs.Ahead.{least, rowAt, endRow, quietUntil, lookAhead, isQuiet, quietTime};
+ghost use Rattle.clock_run.specs.Ahead.{least, quietUntil, lookAhead, isQuiet, quietTime};
 ghost use Rattle.rows.specs.Rows.{beatOf};
 ghost use lib.Ieee.{binary64};
 ghost use lib.IntN.{_-ℤ_};
@@ -48,25 +48,6 @@ fn least_of(one: i32, other: i32) -> i32
     other
 }
 
-// The row of an entry, and the greatest i32 behind the end of the list.
-fn row_at(beats: &[f32], place: usize) -> i32
-    ensures { λ r. ⌜ r ≡ rowAt (now (beats .entry)) place ⌝ }
-{
-    if place < beats.len() {
-        return rows::beat_to_note_row(std::num::f32_to_f64_with_nan(beats[place]));
-    }
-    2147483647
-}
-
-fn end_row(warping: bool, end: f64) -> i32
-    ensures { λ r. ⌜ r ≡ endRow warping end ⌝ }
-{
-    if warping {
-        return rows::beat_to_note_row(end);
-    }
-    2147483647
-}
-
 fn quiet_until(
     state: State,
     tempo_beats: &[f32],
@@ -76,14 +57,14 @@ fn quiet_until(
 ) -> i32
     ensures { λ r. ⌜ r ≡ quietUntil (now («tempo_beats» .entry)) (now («stop_beats» .entry)) (now («delay_beats» .entry)) (now («warp_beats» .entry)) state ⌝ }
 {
-    let stop = row_at(stop_beats, state.stops);
-    let warp = row_at(warp_beats, state.warps);
+    let stop = walk::row_at(stop_beats, state.stops);
+    let warp = walk::row_at(warp_beats, state.warps);
     let later = least_of(stop, warp);
-    let delay = row_at(delay_beats, state.delays);
+    let delay = walk::row_at(delay_beats, state.delays);
     let behind = least_of(delay, later);
-    let tempo = row_at(tempo_beats, state.tempos);
+    let tempo = walk::row_at(tempo_beats, state.tempos);
     let listed = least_of(tempo, behind);
-    let end = end_row(state.warping, state.end);
+    let end = walk::end_row(state.warping, state.end);
     let next = least_of(end, listed);
     least_of(2147483647, next)
 }

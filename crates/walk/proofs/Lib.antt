@@ -11,3 +11,4 @@ pub mod EarlyTempoApart
 pub mod BeforeAnyTempo
 pub mod StaysWithin
 pub mod TimeOfTheEnd
+pub mod QuietRows

@@ -1,3 +1,4 @@
 pub mod Events
 pub mod Passing
 pub mod Walk
+pub mod Quiet

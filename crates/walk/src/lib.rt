@@ -4,10 +4,12 @@ ghost use mathlib.Core.Bool.{true};
 ghost use Prim.Native.Nat.{_<_, _^_};
 ghost use lib.IntN.{_-ℤ_};
 ghost use lib.ListN.{length, getD};
-ghost use lib.Ieee.{nan, binary64};
+ghost use lib.Ieee.{nan, binary64, add};
 ghost use Rattle.rows.specs.Rows.{beatOf};
 ghost use Rattle.walk.specs.Events.{timing, sooner, offered, endOffered, nextEvent};
 ghost use Rattle.walk.specs.Passing.{tempoAt, earlyTempo, inForce, timeTo, larger, afterWarpEnd, afterTempo, afterDelay, afterStop, afterWarp, CanMove, passed as Passing·passed, firstOr, lastUpTo, sixty};
+ghost use Rattle.walk.specs.Quiet.{rowAt, endRow};
+ghost use Rattle.walk.specs.declared.Event.the-variants.{Asked};
 ghost use Rattle.walk.specs.Walk.{isEvent, isNothing, timeAt, walk};
 
 // How far a walk has come: a place in each list, the row and the time of the last event passed, the warp's end and whether it is warping.
@@ -337,6 +339,66 @@ fn time_at(state: State, next: Next, early: f64, tempo_values: &[f32]) -> f64
     }
     state.time + time_to(state, early, tempo_values, next.row)
 }
+
+// ---- rows by which no event is due
+
+// The row of an entry, and the greatest i32 behind the end of the list.
+pub fn row_at(beats: &[f32], place: usize) -> i32
+    ensures { λ r. ⌜ r ≡ rowAt (now (beats .entry)) place ⌝ }
+{
+    if place < beats.len() {
+        return rows::beat_to_note_row(std::num::f32_to_f64_with_nan(beats[place]));
+    }
+    2147483647
+}
+
+pub fn end_row(warping: bool, end: f64) -> i32
+    ensures { λ r. ⌜ r ≡ endRow warping end ⌝ }
+{
+    if warping {
+        return rows::beat_to_note_row(end);
+    }
+    2147483647
+}
+
+// True only where no event is due by the row.
+pub fn is_quiet(
+    state: State,
+    asked: i32,
+    tempo_beats: &[f32],
+    stop_beats: &[f32],
+    delay_beats: &[f32],
+    warp_beats: &[f32],
+) -> bool
+    ensures { λ r. ⌜ (r ≡ true → nextEvent (now («tempo_beats» .entry)) (now («stop_beats» .entry)) (now («delay_beats» .entry)) (now («warp_beats» .entry)) state asked ≡ record { row = asked; kind = Asked }) ⌝ }
+{
+    if asked < row_at(tempo_beats, state.tempos) {
+        if asked < row_at(stop_beats, state.stops) {
+            if asked < row_at(delay_beats, state.delays) {
+                if asked < row_at(warp_beats, state.warps) {
+                    if asked < end_row(state.warping, state.end) {
+                        return asked < 2147483647;
+                    }
+                    return false;
+                }
+                return false;
+            }
+            return false;
+        }
+        return false;
+    }
+    false
+}
+
+// The time of a row by which no event is due.
+pub fn quiet_time(state: State, asked: i32, tempo_beats: &[f32], tempo_values: &[f32]) -> f64
+    ensures { λ r. ⌜ r ≡ add binary64 (state .time) (timeTo (earlyTempo (now («tempo_beats» .entry)) (now («tempo_values» .entry)) state) (now («tempo_values» .entry)) state asked) ⌝ }
+{
+    let early = early_tempo(state, tempo_beats, tempo_values);
+    state.time + time_to(state, early, tempo_values, asked)
+}
+
+// ---- the whole walk
 
 // From a state on, every event before the asked beat.
 pub fn walk_to(

@@ -1,13 +1,13 @@
--- `clock_run::row_at` is `rowAt`. Assumes nothing.
+-- `walk::row_at` is `rowAt`. Assumes nothing.
 use mathlib.Core.Path.{ap, _∙_}
 use lib.Ieee.{binary64}
 use borrow.Author.Tests.{lt-ltb, le-ltb}
 use Rattle.rows.specs.Rows.{row}
 use Rattle.walk.proofs.BackFromBits.{back}
-use Rattle.clock_run.specs.Ahead.{rowAt}
+use Rattle.walk.specs.Quiet.{rowAt}
 use borrow.Author.Needs.{needs}
-use Rattle.clock_run.proofs.row_at.Statement.{statement}
-use Rattle.clock_run.proofs.row_at.Tie as tie
+use Rattle.walk.proofs.row_at.Statement.{statement}
+use Rattle.walk.proofs.row_at.Tie as tie
 
 mul-f32-to-f64-with-nan : tie.Need-mul-f32-to-f64-with-nan
 mul-f32-to-f64-with-nan c = search needs

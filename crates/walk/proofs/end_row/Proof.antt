@@ -1,10 +1,10 @@
--- `clock_run::end_row` is `endRow`. Assumes nothing.
+-- `walk::end_row` is `endRow`. Assumes nothing.
 use mathlib.Core.Path.{_∙_}
 use Rattle.walk.proofs.BackFromBits.{back}
-use Rattle.clock_run.specs.Ahead.{endRow}
+use Rattle.walk.specs.Quiet.{endRow}
 use borrow.Author.Needs.{needs}
-use Rattle.clock_run.proofs.end_row.Statement.{statement}
-use Rattle.clock_run.proofs.end_row.Tie as tie
+use Rattle.walk.proofs.end_row.Statement.{statement}
+use Rattle.walk.proofs.end_row.Tie as tie
 
 beat-to-note-row-requires : tie.Need-beat-to-note-row-requires
 beat-to-note-row-requires c κs = search needs
