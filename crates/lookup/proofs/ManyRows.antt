@@ -1,26 +1,17 @@
 -- Many rows: the outcome. Assumes nothing.
-use Prim.Native.Nat.{ℕ, suc, _+_, _≤_, _<_}
-use mathlib.Core.Path.{_≡_, refl, sym, ap, _∙_}
-use mathlib.Core.Bool.{Bool, true, false}
-use mathlib.Core.List.{List, [], _∷_, map}
-use mathlib.Core.Logic.{⊎-elim}
+use Prim.Native.Nat.{ℕ, _≤_, _<_}
+use mathlib.Core.Path.{_≡_, refl, _∙_}
+use mathlib.Core.Bool.{Bool}
+use mathlib.Core.List.{List, []}
 use native.Mathlib.Omega.{arith}
-use native.Mathlib.Numerals.{add-one}
-use borrow.Author.Tests.{lt-ltb, le-ltb, eq-eqb, ne-eqb, le-leb, lt-leb}
-use lib.Dec.{ltb}
+use borrow.Author.Tests.{ne-eqb, le-leb, lt-leb}
 use lib.IntN.{ℤ}
-use lib.ListN.{length, drop, getD, drop-of-length-le}
-use lib.Seq.{drop-cons}
-use lib.Ieee.{Float}
-use Rattle.picks.specs.Pick.{pick}
-use Rattle.limits.specs.Numbers.{every}
+use lib.ListN.{length}
 use Rattle.order.specs.Order.{laid}
-use Rattle.order.proofs.Compare.{below?}
 use Rattle.columns.specs.Laying.{roomNumber, refusedBy, given}
 use Rattle.columns.specs.Each.{laidEach}
 use Rattle.columns.proofs.EachOverFront.{each-over-front}
 use Rattle.lookup.specs.Lookups.{byte, Judged}
-use Rattle.lookup.specs.Finding.{Passed}
 
 -- ---- the outcome
 module _ (tests : ℕ) (judge : ℤ → Bool) (rows : List ℤ) (old : List ℕ) where

@@ -3,18 +3,16 @@ use columns::Outcome;
 use limits::Kind;
 ghost use mathlib.Core.Path.{_≡_};
 ghost use mathlib.Core.Bool.{true, false, not};
-ghost use Prim.Native.Nat.{ℕ, _+_, _-_, _≤_, _<_};
-ghost use lib.Ieee.{binary32, nan};
-ghost use lib.Dec.{ltb};
+ghost use Prim.Native.Nat.{_+_, _-_, _≤_, _<_};
+ghost use lib.Ieee.{nan};
 ghost use lib.IntN.{ℤ};
 ghost use Rattle.columns.specs.Each.{laidEach};
-ghost use lib.ListN.{length, getD};
+ghost use lib.ListN.{length};
 ghost use Rattle.picks.specs.Pick.{pick};
-ghost use Rattle.rows.specs.Rows.{beatOf};
 ghost use Rattle.limits.specs.Numbers.{rangeOf, inRange, every, miss, rowIn};
 ghost use Rattle.order.specs.RowKey.{rowKey};
-ghost use Rattle.lookup.specs.Lookups.{keyOf, lastPasses, isPaused, isWarped, isFake, isJudgable, askedRow, rowsRise, risingNumber, askedNumber, warpNumber, fakeNumber, judgableNumber, looked, byte, Judged};
-ghost use Rattle.lookup.specs.Finding.{notAbove, Usable, AllUsable, Passed, Split, Between, keyBefore, keyAfter, Stands, PlaceStands, spanCovers, startOf, warpEnd, fakeEnd, Holds, HeldStands, AllStand};
+ghost use Rattle.lookup.specs.Lookups.{keyOf, isPaused, isWarped, isFake, isJudgable, askedRow, rowsRise, risingNumber, askedNumber, warpNumber, fakeNumber, judgableNumber, looked, byte, Judged};
+ghost use Rattle.lookup.specs.Finding.{notAbove, Usable, AllUsable, Split, Between, keyBefore, keyAfter, Stands, PlaceStands, spanCovers, startOf, warpEnd, fakeEnd, Holds, HeldStands, AllStand};
 
 // ---- rows that rise
 

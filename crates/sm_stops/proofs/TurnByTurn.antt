@@ -1,8 +1,8 @@
 -- The sums of all turns, laid turn by turn, and places that stay within their lists. Assumes nothing.
-use Prim.Native.Nat.{ℕ, zero, suc, _+_, _-_, _*_, _/_, _^_, _≤_, _<_}
+use Prim.Native.Nat.{ℕ, zero, suc, _+_, _-_, _*_, _≤_}
 use mathlib.Core.List.{List, [], _∷_, _++_}
 use mathlib.Core.Bool.{Bool, true, false}
-use mathlib.Core.Path.{_≡_, refl, sym, ap, _∙_, subst}
+use mathlib.Core.Path.{_≡_, refl, ap, _∙_, subst}
 use native.Mathlib.Omega.{arith}
 use lib.ListN.{length, drop, getD, set, length-append, length-drop}
 use lib.Ieee.{Float, nan, inf, le, ne}
@@ -11,7 +11,7 @@ use Rattle.order.proofs.LaidOverFront.{Laying, laying-more, laying-room}
 use Rattle.sm_stops.specs.Merging.{Sources, Heads, Turned, none, lesser, leastBeat, meets, plus, less, onward, leading, forward, tempoPlace, beatHere, stopMet, delayMet, warpMet, turn, isOver, left, written, mergedWithin, merged, atFirst}
 use Rattle.sm_stops.specs.Filling.{flat}
 use Rattle.sm_stops.specs.Plain.{Plain}
-use Rattle.sm_stops.proofs.EveryTurnMeets.{here, left-falls, merged-on, merged-end}
+use Rattle.sm_stops.proofs.EveryTurnMeets.{here, merged-on}
 
 -- ---- places
 leading-le : (beat : Float) (beats : List Float) → leading beat beats ≤ length beats

@@ -2,19 +2,15 @@
 use Prim.Native.Nat.{ℕ, zero, suc, _+_, _≤_, _<_}
 use mathlib.Core.List.{List, [], _∷_}
 use mathlib.Core.Bool.{Bool, true, false}
-use mathlib.Core.Path.{_≡_, refl, sym, ap, _∙_}
+use mathlib.Core.Path.{_≡_, refl, ap, _∙_}
 use native.Mathlib.Omega.{arith}
-use native.Mathlib.Nat.{le-of-suc-le-suc}
-use native.Mathlib.Numerals.{add-one}
-use lib.Dec.{T}
 use lib.ListN.{length, getD, drop, drop-of-length-le, length-drop}
 use lib.Seq.{drop-cons}
-use lib.Ieee.{Float, nan, inf, fin, lt, eq}
+use lib.Ieee.{Float, nan}
 use Rattle.picks.specs.Pick.{pick}
-use Rattle.limits.specs.Numbers.{inRange, every, allIn}
+use Rattle.limits.specs.Numbers.{inRange}
 use Rattle.limits.specs.declared.Range.{Range}
 use Rattle.sm_stops.specs.Filling.{beatsIn, valuesIn}
-use Rattle.sm_stops.specs.Plain.{Numbers}
 
 drop-one : (i : ℕ) (l : List Float) → drop 1 (drop i l) ≡ drop (suc i) l
 drop-one zero l = refl

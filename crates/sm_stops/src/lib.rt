@@ -2,10 +2,9 @@
 use limits::Kind;
 ghost use mathlib.Core.Path.{_≡_};
 ghost use mathlib.Core.Bool.{true, false};
-ghost use mathlib.Core.List.{[]};
 ghost use Prim.Native.Nat.{_+_, _*_, _/_, _<_, _≤_, _^_};
 ghost use lib.Dec.{ltb, leb, eqb};
-ghost use lib.ListN.{length, getD, take, set};
+ghost use lib.ListN.{length, getD, set};
 ghost use lib.Ieee.{nan, inf, ne, neg, le};
 ghost use Rattle.picks.specs.Pick.{pick};
 ghost use Rattle.limits.specs.Numbers.{rangeOf, sizeOf, inRange, allIn, miss};
@@ -14,7 +13,7 @@ ghost use Rattle.order.specs.Order.{laid};
 ghost use Rattle.sm_stops.specs.Merging.{sources, none, lesser, meets, plus, forward, tempoPlace, less, onward, merged, atFirst};
 ghost use Rattle.sm_stops.specs.Plain.{Plain};
 ghost use Rattle.sm_stops.specs.Testing.{between, UpTo};
-ghost use Rattle.sm_stops.specs.Filling.{beatsIn, valuesIn, isEven, flatNumber, flat, isOwn, listsNumber, resultNumber, StopsFilled, chosen};
+ghost use Rattle.sm_stops.specs.Filling.{beatsIn, valuesIn, isEven, flatNumber, flat, listsNumber, StopsFilled, chosen};
 
 // What filling the work list answers: the refusal number, the entries written, and whether the caller's own stops are the answer.
 #[repr(C)]

@@ -1,6 +1,5 @@
 -- `lookup::covers` tests a span. Assumes nothing.
 use Rattle.picks.proofs.Rules.{flags}
-use borrow.Author.Needs.{needs}
 use Rattle.lookup.proofs.covers.Statement.{statement}
 use Rattle.lookup.proofs.covers.Tie as tie
 

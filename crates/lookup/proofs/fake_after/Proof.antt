@@ -1,7 +1,7 @@
 -- `lookup::fake_after` tells whether a row is fake. Assumes nothing.
 use mir.Syntax.{w32}
 use mir.ValLaws.{toZ-ofZ}
-use mathlib.Core.Path.{_≡_, sym, ap, _∙_}
+use mathlib.Core.Path.{sym, _∙_}
 use Rattle.lookup.proofs.HeldSpans.{in-fake}
 use borrow.Author.Needs.{needs}
 use Rattle.lookup.proofs.fake_after.Statement.{statement}

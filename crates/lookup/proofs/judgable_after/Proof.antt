@@ -1,7 +1,6 @@
 -- `lookup::judgable_after` tells whether a row is neither. Assumes nothing.
 use Rattle.lookup.specs.Lookups.{isJudgable}
 use Rattle.picks.proofs.Rules.{flags}
-use mathlib.Core.Path.{_≡_}
 use mir.ValLaws.{toZ-ofZ}
 use mir.Syntax.{w32}
 use Rattle.lookup.proofs.judgable_after.Statement.{statement}

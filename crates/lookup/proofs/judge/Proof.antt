@@ -4,7 +4,7 @@ use mir.ValLaws.{toZ-ofZ}
 use Rattle.lookup.specs.Lookups.{byte}
 use borrow.Author.Tests.{not-true, not-false}
 use mathlib.Core.Bool.{Bool}
-use mathlib.Core.Path.{_≡_, sym, ap, _∙_}
+use mathlib.Core.Path.{sym, ap, _∙_}
 use Rattle.lookup.proofs.HeldSpans.{in-fake, warped-inside, warped-outside, judged}
 use borrow.Author.Needs.{needs}
 use Rattle.lookup.proofs.judge.Statement.{statement}

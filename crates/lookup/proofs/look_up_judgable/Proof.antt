@@ -2,7 +2,7 @@
 use Rattle.lookup.proofs.UsableLists.{judgable-usable}
 use Rattle.lookup.specs.Lookups.{looked}
 use borrow.Author.Tests.{ne-eqb}
-use mathlib.Core.Path.{_≡_, sym, _∙_}
+use mathlib.Core.Path.{sym, _∙_}
 use mir.ValLaws.{toZ-ofZ}
 use mir.Syntax.{w32}
 use borrow.Author.Needs.{needs}

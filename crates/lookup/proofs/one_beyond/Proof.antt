@@ -1,7 +1,6 @@
 -- `lookup::one_beyond` is 1 for a row beyond the limit. Assumes nothing.
 use mir.Syntax.{w32}
 use mir.ValLaws.{toZ-ofZ}
-use mathlib.Core.Path.{_≡_}
 use Rattle.picks.proofs.Rules.{flags}
 use borrow.Author.Needs.{needs}
 use Rattle.lookup.proofs.one_beyond.Statement.{statement}

@@ -1,5 +1,4 @@
 -- `lookup::place_on` goes on to the place of a row. Assumes nothing.
-use mathlib.Core.Path.{_≡_}
 use native.Mathlib.Omega.{arith}
 use Prim.Native.Nat.{_-_, _≤_}
 use lib.ListN.{length}

@@ -1,5 +1,5 @@
 -- `lookup::reach_fake` goes from the place of one row in fakes to that of another. Assumes nothing.
-use mathlib.Core.Path.{_≡_, sym}
+use mathlib.Core.Path.{sym}
 use borrow.Author.Needs.{needs}
 use Rattle.lookup.proofs.reach_fake.Statement.{statement}
 use Rattle.lookup.proofs.reach_fake.Tie as tie

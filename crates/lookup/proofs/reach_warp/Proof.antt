@@ -1,5 +1,5 @@
 -- `lookup::reach_warp` goes from the place of one row in warps to that of another. Assumes nothing.
-use mathlib.Core.Path.{_≡_, sym}
+use mathlib.Core.Path.{sym}
 use borrow.Author.Needs.{needs}
 use Rattle.lookup.proofs.reach_warp.Statement.{statement}
 use Rattle.lookup.proofs.reach_warp.Tie as tie

@@ -1,6 +1,6 @@
 -- `lookup::rows_rise` counts the rows that do not rise, and there are none. Assumes nothing.
 use native.Mathlib.Omega.{arith}
-use mathlib.Core.Path.{_≡_, sym}
+use mathlib.Core.Path.{sym}
 use Prim.Native.Nat.{_-_, _≤_}
 use lib.ListN.{length}
 use Rattle.lookup.proofs.RowsRise.{Falls, falls-first, few-fall, falls-turn, falls-last, rise-end}

@@ -1,7 +1,7 @@
 -- `lookup::warped_after` tells whether a row is warped. Assumes nothing.
 use mir.Syntax.{w32}
 use mir.ValLaws.{toZ-ofZ}
-use mathlib.Core.Path.{_≡_, sym, ap, _∙_}
+use mathlib.Core.Path.{sym, _∙_}
 use Rattle.lookup.proofs.HeldSpans.{warped-inside, warped-outside}
 use borrow.Author.Needs.{needs}
 use Rattle.lookup.proofs.warped_after.Statement.{statement}

@@ -1,12 +1,11 @@
 -- `sm_stops::column_taken` keeps the worst of a column, and that is none. Assumes nothing.
-use native.Mathlib.Omega.{arith}
-use Prim.Native.Nat.{_+_, _-_, _≤_}
+use Prim.Native.Nat.{_+_, _-_}
 use lib.Ieee.{nan}
 use lib.ListN.{length, drop, getD}
 use Rattle.sm_stops.specs.Testing.{between}
 use Rattle.limits.specs.Numbers.{inRange, every, allIn}
 use Rattle.sm_stops.proofs.WorstSoFar.{passing, worst-turn, worst-last, every-parts, every-none}
-use mathlib.Core.Path.{_≡_, refl, sym, _∙_}
+use mathlib.Core.Path.{_≡_, refl}
 use borrow.Author.Needs.{needs}
 use Rattle.sm_stops.proofs.column_taken.Statement.{statement}
 use Rattle.sm_stops.proofs.column_taken.Tie as tie

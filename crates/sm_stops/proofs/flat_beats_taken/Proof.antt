@@ -1,6 +1,5 @@
 -- `sm_stops::flat_beats_taken` goes two by two and keeps the worst. Assumes nothing.
-use native.Mathlib.Omega.{arith}
-use Prim.Native.Nat.{_+_, _-_, _≤_}
+use Prim.Native.Nat.{_+_, _-_}
 use lib.Ieee.{nan, ofBits}
 use lib.ListN.{length, drop, getD}
 use Rattle.sm_stops.proofs.TwoByTwo.{beat-parts, beats-none}
@@ -8,7 +7,7 @@ use Rattle.sm_stops.specs.Filling.{beatsIn}
 use Rattle.limits.specs.declared.Kind.the-variants.{Beat}
 use Rattle.limits.specs.Numbers.{inRange, rangeOf}
 use Rattle.sm_stops.proofs.WorstSoFar.{passing, worst-turn, worst-last}
-use mathlib.Core.Path.{_≡_, refl, sym, _∙_}
+use mathlib.Core.Path.{_≡_, refl}
 use borrow.Author.Needs.{needs}
 use Rattle.sm_stops.proofs.flat_beats_taken.Statement.{statement}
 use Rattle.sm_stops.proofs.flat_beats_taken.Tie as tie

@@ -8,7 +8,7 @@ use Rattle.sm_stops.specs.Filling.{valuesIn}
 use Rattle.limits.specs.declared.Kind.the-variants.{Pause}
 use Rattle.limits.specs.Numbers.{inRange, rangeOf}
 use Rattle.sm_stops.proofs.WorstSoFar.{passing, worst-turn, worst-last}
-use mathlib.Core.Path.{_≡_, refl, sym, _∙_}
+use mathlib.Core.Path.{_≡_, refl}
 use borrow.Author.Needs.{needs}
 use Rattle.sm_stops.proofs.flat_values_taken.Statement.{statement}
 use Rattle.sm_stops.proofs.flat_values_taken.Tie as tie

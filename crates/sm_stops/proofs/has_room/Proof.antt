@@ -3,14 +3,11 @@ use Rattle.sm_stops.proofs.TurnByTurn.{at-most-left, flat-length}
 use Rattle.sm_stops.specs.Filling.{flat}
 use Rattle.sm_stops.specs.Merging.{Sources, sources, merged, atFirst, none}
 use lib.Dec.{leb}
-use Prim.Native.Nat.{ℕ, _/_, _*_}
-use mathlib.Core.Bool.{false}
-use lib.IntN.{pos}
-use lib.Ieee.{Float, fin}
+use Prim.Native.Nat.{ℕ, _/_}
 use lib.ListN.{length, replicate, length-replicate}
 use borrow.Author.Tests.{le-leb}
 use native.Mathlib.Omega.{arith}
-use mathlib.Core.Path.{_≡_, refl, sym, ap, _∙_}
+use mathlib.Core.Path.{_≡_, sym, ap}
 use borrow.Author.Needs.{needs}
 use Rattle.sm_stops.proofs.has_room.Statement.{statement}
 use Rattle.sm_stops.proofs.has_room.Tie as tie

@@ -1,6 +1,6 @@
 -- `sm_stops::in_range` is `inRange`. Assumes nothing.
 use mathlib.Core.Bool.{true, false}
-use mathlib.Core.Path.{_≡_, sym, _∙_}
+use mathlib.Core.Path.{sym, _∙_}
 use lib.Ieee.{lt, le, eq, inf}
 use Rattle.limits.specs.Numbers.{inRange, nothing}
 use Rattle.sm_stops.proofs.BetweenEnds.{between-ends, sizes-alone}

@@ -1,6 +1,5 @@
 -- `sm_stops::is_over` is `isOver`. Assumes nothing.
 use Rattle.picks.proofs.Rules.{flags}
-use borrow.Author.Needs.{needs}
 use Rattle.sm_stops.proofs.is_over.Statement.{statement}
 use Rattle.sm_stops.proofs.is_over.Tie as tie
 

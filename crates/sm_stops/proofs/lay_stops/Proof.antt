@@ -5,9 +5,9 @@ use Rattle.sm_stops.specs.Filling.{flat}
 use Rattle.order.proofs.LaidOverFront.{Laying, laying-none, laying-count, laying-all}
 use Rattle.sm_stops.specs.Merging.{Sources, Heads, Turned, sources, isOver, turn, left, merged, atFirst}
 use lib.ListN.{length}
-use mathlib.Core.Path.{_≡_, refl, sym, ap, _∙_, subst}
+use mathlib.Core.Path.{_≡_, sym, ap, _∙_, subst}
 use native.Mathlib.Omega.{arith}
-use Prim.Native.Nat.{_+_, _<_}
+use Prim.Native.Nat.{_<_}
 use borrow.Author.Needs.{needs}
 use Rattle.sm_stops.proofs.lay_stops.Statement.{statement}
 use Rattle.sm_stops.proofs.lay_stops.Tie as tie

@@ -1,6 +1,5 @@
 -- `sm_stops::lies_within` tests both ends. Assumes nothing.
 use Rattle.picks.proofs.Rules.{flags}
-use borrow.Author.Needs.{needs}
 use Rattle.sm_stops.proofs.lies_within.Statement.{statement}
 use Rattle.sm_stops.proofs.lies_within.Tie as tie
 

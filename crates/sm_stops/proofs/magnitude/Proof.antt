@@ -1,7 +1,6 @@
 -- `sm_stops::magnitude` is the size of a float. Assumes nothing.
 use lib.Ieee.{ofBits}
 use Rattle.picks.proofs.Rules.{flags}
-use borrow.Author.Needs.{needs}
 use Rattle.sm_stops.proofs.magnitude.Statement.{statement}
 use Rattle.sm_stops.proofs.magnitude.Tie as tie
 

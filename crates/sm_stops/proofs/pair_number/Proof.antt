@@ -1,4 +1,4 @@
-use mathlib.Core.Path.{_≡_, refl}
+use mathlib.Core.Path.{refl}
 -- `sm_stops::pair_number` is `listNumber`, test by test. Assumes nothing.
 use Rattle.limits.specs.Refusals.{listNumber}
 use lib.Ieee.{ofBits}

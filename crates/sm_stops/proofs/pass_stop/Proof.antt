@@ -1,6 +1,6 @@
 -- `sm_stops::pass_stop` passes what stops have on the beat. Assumes nothing.
 use lib.Ieee.{ofBits}
-use mathlib.Core.Path.{_≡_, refl, sym, _∙_}
+use mathlib.Core.Path.{refl, sym, _∙_}
 use borrow.Author.Needs.{needs}
 use Rattle.sm_stops.proofs.pass_stop.Statement.{statement}
 use Rattle.sm_stops.proofs.pass_stop.Tie as tie

@@ -1,6 +1,6 @@
 -- `sm_stops::pass_warp` passes what warps have on the beat. Assumes nothing.
 use lib.Ieee.{ofBits}
-use mathlib.Core.Path.{_≡_, refl, sym, _∙_}
+use mathlib.Core.Path.{refl, sym, _∙_}
 use borrow.Author.Needs.{needs}
 use Rattle.sm_stops.proofs.pass_warp.Statement.{statement}
 use Rattle.sm_stops.proofs.pass_warp.Tie as tie

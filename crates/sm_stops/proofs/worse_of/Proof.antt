@@ -1,6 +1,5 @@
 -- `sm_stops::worse_of` is the larger of two. Assumes nothing.
 use Rattle.picks.proofs.Rules.{flags}
-use borrow.Author.Needs.{needs}
 use Rattle.sm_stops.proofs.worse_of.Statement.{statement}
 use Rattle.sm_stops.proofs.worse_of.Tie as tie
 
