@@ -8,7 +8,7 @@ ghost use lib.Ieee.{nan, binary64, add};
 ghost use Rattle.rows.specs.Rows.{beatOf};
 ghost use Rattle.walk.specs.Events.{timing, sooner, offered, endOffered, nextEvent};
 ghost use Rattle.walk.specs.Passing.{tempoAt, earlyTempo, inForce, timeTo, larger, afterWarpEnd, afterTempo, afterDelay, afterStop, afterWarp, CanMove, passed as Passing·passed, firstOr, lastUpTo, sixty};
-ghost use Rattle.walk.specs.Quiet.{rowAt, endRow};
+ghost use Rattle.walk.specs.Quiet.{rowAt, endRow, isQuiet};
 ghost use Rattle.walk.specs.declared.Event.the-variants.{Asked};
 ghost use Rattle.walk.specs.Walk.{isEvent, isNothing, timeAt, walk};
 
@@ -361,7 +361,7 @@ pub fn end_row(warping: bool, end: f64) -> i32
     2147483647
 }
 
-// True only where no event is due by the row.
+// Whether no event is due by the row.
 pub fn is_quiet(
     state: State,
     asked: i32,
@@ -370,7 +370,7 @@ pub fn is_quiet(
     delay_beats: &[f32],
     warp_beats: &[f32],
 ) -> bool
-    ensures { λ r. ⌜ (r ≡ true → nextEvent (now («tempo_beats» .entry)) (now («stop_beats» .entry)) (now («delay_beats» .entry)) (now («warp_beats» .entry)) state asked ≡ record { row = asked; kind = Asked }) ⌝ }
+    ensures { λ r. ⌜ r ≡ isQuiet (now («tempo_beats» .entry)) (now («stop_beats» .entry)) (now («delay_beats» .entry)) (now («warp_beats» .entry)) state asked ⌝ }
 {
     if asked < row_at(tempo_beats, state.tempos) {
         if asked < row_at(stop_beats, state.stops) {
