@@ -2,7 +2,7 @@
 use mathlib.Core.Bool.{false}
 use mathlib.Core.Path.{sym, _∙_}
 use borrow.Author.Tests.{ne-eqb}
-use Rattle.walk.proofs.BackFromBits.{tested}
+use Rattle.walk.proofs.BackFromBits.{back, tested}
 use Rattle.walk.proofs.QuietRows.{quiet-asked}
 use Rattle.walk.proofs.RowOrder.{no}
 use borrow.Author.Needs.{needs}
@@ -25,7 +25,7 @@ returns-3 c =
     λ e. (
       tested (a .row) (a .self .asked) (s .fits .row) (record { sfits = c .before .before .before .before .struct-told .given .1 .0 .1 }) false (c .before .before .before .if1 .left),
       ne-eqb _ _ (c .before .before .if2 .left),
-      quiet-asked _ _ _ _ _ _ (sym (c .is-quiet .ensures) ∙ e),
+      rw (back (a .row) (s .fits .row)) at (quiet-asked _ _ _ _ _ _ (sym (c .is-quiet .ensures) ∙ e)),
     )
 
 pub is-quiet-spec : {M : Type 1} → statement M
