@@ -1,5 +1,7 @@
 //! The port's functions by their C names. A slice crosses as its pointer and its length.
 
+use crate::lists::Columns;
+
 /// How far a walk through a timing's events has come.
 #[derive(Clone, Copy, Debug, PartialEq)]
 #[repr(C)]
@@ -84,26 +86,36 @@ pub struct Assembled {
     pub offset: f32,
 }
 
-/// Safe calls: `slice` is a column that is read, `room` one that is written, `lent` a struct that is changed, `value` a number or a struct.
+/// Safe calls: `slice` is a column that is read and `list` a list's two, `room` and `rooms` are columns that are written, `lent` a struct that is
+/// changed, `value` a number.
 macro_rules! calls {
-    ($($(#[$doc:meta])* fn $name:ident($($kind:tt $arg:ident: $type:ty),* $(,)?) $(-> $answer:ty)? = $symbol:literal;)*) => {
-        $($(#[$doc])*
-        #[inline(always)]
+    ($(fn $name:ident($($kind:ident $arg:ident: $type:ty),* $(,)?) -> $answer:ty = $symbol:literal;)*) => {
+        $(#[inline(always)]
         #[allow(clippy::too_many_arguments)]
-        pub fn $name($($arg: calls!(@taken $kind $type)),*) $(-> $answer)? {
-            calls!(@declared $symbol [$($kind $arg: $type,)*] [$(-> $answer)?] [] []);
+        pub fn $name($($arg: calls!(@taken $kind $type)),*) -> $answer {
+            calls!(@declared $symbol [$($kind $arg: $type,)*] [$answer] [] [])
         })*
     };
     (@taken slice $type:ty) => { &[$type] };
+    (@taken list $type:ty) => { &Columns<$type> };
     (@taken room $type:ty) => { &mut [$type] };
+    (@taken rooms $type:ty) => { &mut Columns<$type> };
     (@taken lent $type:ty) => { &mut $type };
     (@taken value $type:ty) => { $type };
     // the C declaration, its parameters one by one, and the call
     (@declared $symbol:literal [slice $arg:ident: $type:ty, $($rest:tt)*] $answer:tt [$($params:tt)*] [$($given:tt)*]) => {
         calls!(@declared $symbol [$($rest)*] $answer [$($params)* _: *const $type, _: usize,] [$($given)* $arg.as_ptr(), $arg.len(),])
     };
+    (@declared $symbol:literal [list $arg:ident: $type:ty, $($rest:tt)*] $answer:tt [$($params:tt)*] [$($given:tt)*]) => {
+        calls!(@declared $symbol [$($rest)*] $answer [$($params)* _: *const $type, _: usize, _: *const $type, _: usize,]
+            [$($given)* $arg.beats.as_ptr(), $arg.beats.len(), $arg.values.as_ptr(), $arg.values.len(),])
+    };
     (@declared $symbol:literal [room $arg:ident: $type:ty, $($rest:tt)*] $answer:tt [$($params:tt)*] [$($given:tt)*]) => {
         calls!(@declared $symbol [$($rest)*] $answer [$($params)* _: *mut $type, _: usize,] [$($given)* $arg.as_mut_ptr(), $arg.len(),])
+    };
+    (@declared $symbol:literal [rooms $arg:ident: $type:ty, $($rest:tt)*] $answer:tt [$($params:tt)*] [$($given:tt)*]) => {
+        calls!(@declared $symbol [$($rest)*] $answer [$($params)* _: *mut $type, _: usize, _: *mut $type, _: usize,]
+            [$($given)* $arg.beats.as_mut_ptr(), $arg.beats.len(), $arg.values.as_mut_ptr(), $arg.values.len(),])
     };
     (@declared $symbol:literal [lent $arg:ident: $type:ty, $($rest:tt)*] $answer:tt [$($params:tt)*] [$($given:tt)*]) => {
         calls!(@declared $symbol [$($rest)*] $answer [$($params)* _: *mut $type,] [$($given)* std::ptr::from_mut($arg),])
@@ -111,13 +123,13 @@ macro_rules! calls {
     (@declared $symbol:literal [value $arg:ident: $type:ty, $($rest:tt)*] $answer:tt [$($params:tt)*] [$($given:tt)*]) => {
         calls!(@declared $symbol [$($rest)*] $answer [$($params)* _: $type,] [$($given)* $arg,])
     };
-    (@declared $symbol:literal [] [$(-> $answer:ty)?] [$($params:tt)*] [$($given:tt)*]) => {{
+    (@declared $symbol:literal [] [$answer:ty] [$($params:tt)*] [$($given:tt)*]) => {{
         unsafe extern "C" {
             #[link_name = $symbol]
-            fn call($($params)*) $(-> $answer)?;
+            fn call($($params)*) -> $answer;
         }
         // SAFETY: every slice is lent whole for the call, and what else crosses is numbers and structs of numbers, of which every pattern is taken.
-        return unsafe { call($($given)*) };
+        unsafe { call($($given)*) }
     }};
 }
 
@@ -126,76 +138,52 @@ calls! {
     fn beat_to_note_row(value beat: f64) -> i32 = "marrighentu_beat_to_note_row";
     fn compute_timing_segments(
         value format: u32,
-        slice tempo_beats: f64,
-        slice tempo_values: f64,
-        slice stop_beats: f64,
-        slice stop_values: f64,
-        slice delay_beats: f64,
-        slice delay_values: f64,
-        slice warp_beats: f64,
-        slice warp_lengths: f64,
+        list tempos: f64,
+        list stops: f64,
+        list delays: f64,
+        list warps: f64,
         slice speed_beats: f64,
         slice speed_ratios: f64,
         slice speed_delays: f64,
         slice speed_units: u8,
-        slice scroll_beats: f64,
-        slice scroll_values: f64,
-        slice fake_beats: f64,
-        slice fake_lengths: f64,
-        room out_tempo_beats: f32,
-        room out_tempo_values: f32,
-        room out_stop_beats: f32,
-        room out_stop_values: f32,
-        room out_delay_beats: f32,
-        room out_delay_values: f32,
-        room out_warp_beats: f32,
-        room out_warp_lengths: f32,
+        list scrolls: f64,
+        list fakes: f64,
+        rooms out_tempos: f32,
+        rooms out_stops: f32,
+        rooms out_delays: f32,
+        rooms out_warps: f32,
         room out_speed_beats: f32,
         room out_speed_ratios: f32,
         room out_speed_delays: f32,
         room out_speed_units: u8,
-        room out_scroll_beats: f32,
-        room out_scroll_values: f32,
-        room out_fake_beats: f32,
-        room out_fake_lengths: f32,
+        rooms out_scrolls: f32,
+        rooms out_fakes: f32,
     ) -> Assembled = "marrighentu_compute_timing_segments";
     fn check_timing(
-        slice tempo_beats: f32,
-        slice tempo_values: f32,
-        slice stop_beats: f32,
-        slice stop_values: f32,
-        slice delay_beats: f32,
-        slice delay_values: f32,
-        slice warp_beats: f32,
-        slice warp_lengths: f32,
+        list tempos: f32,
+        list stops: f32,
+        list delays: f32,
+        list warps: f32,
         value offset: f64,
         value global: f64,
     ) -> u32 = "marrighentu_check_timing";
     fn cursor_new(value offset: f64, value global: f64) -> Numbered = "marrighentu_cursor_new";
     fn time_for_beat_checked(
         lent cursor: Cursor,
-        slice tempo_beats: f32,
-        slice tempo_values: f32,
-        slice stop_beats: f32,
-        slice stop_values: f32,
-        slice delay_beats: f32,
-        slice delay_values: f32,
-        slice warp_beats: f32,
-        slice warp_lengths: f32,
+        list tempos: f32,
+        list stops: f32,
+        list delays: f32,
+        list warps: f32,
         value offset: f64,
         value global: f64,
         value beat: f64,
     ) -> Answer = "marrighentu_lent_time_for_beat_checked";
     fn run(
         lent cursor: Cursor,
-        slice tempo_beats: f32,
-        slice tempo_values: f32,
-        slice stop_beats: f32,
-        slice stop_values: f32,
-        slice delay_beats: f32,
-        slice delay_values: f32,
-        slice warp_beats: f32,
-        slice warp_lengths: f32,
+        list tempos: f32,
+        list stops: f32,
+        list delays: f32,
+        list warps: f32,
         value offset: f64,
         value global: f64,
         slice beats: f64,
@@ -204,86 +192,43 @@ calls! {
         room counts: usize,
     ) -> Numbered = "marrighentu_lent_run";
     fn build_segment_row_storage(
-        slice stop_beats: f32,
-        slice stop_values: f32,
-        slice delay_beats: f32,
-        slice delay_values: f32,
-        slice warp_beats: f32,
-        slice warp_lengths: f32,
-        slice fake_beats: f32,
-        slice fake_lengths: f32,
+        list stops: f32,
+        list delays: f32,
+        list warps: f32,
+        list fakes: f32,
         room rows: i32,
     ) -> Stored = "marrighentu_build_segment_row_storage";
-    fn is_warp_at_row(
-        slice stop_beats: f32,
-        slice stop_values: f32,
-        slice delay_beats: f32,
-        slice delay_values: f32,
-        slice warp_beats: f32,
-        slice warp_lengths: f32,
-        value row: i32,
-    ) -> Looked = "marrighentu_is_warp_at_row";
-    fn is_warp_at_beat(
-        slice stop_beats: f32,
-        slice stop_values: f32,
-        slice delay_beats: f32,
-        slice delay_values: f32,
-        slice warp_beats: f32,
-        slice warp_lengths: f32,
-        value beat: f64,
-    ) -> Looked = "marrighentu_is_warp_at_beat";
-    fn is_fake_at_row(
-        slice fake_beats: f32,
-        slice fake_lengths: f32,
-        value row: i32,
-    ) -> Looked = "marrighentu_is_fake_at_row";
-    fn is_fake_at_beat(
-        slice fake_beats: f32,
-        slice fake_lengths: f32,
-        value beat: f64,
-    ) -> Looked = "marrighentu_is_fake_at_beat";
+    fn is_warp_at_row(list stops: f32, list delays: f32, list warps: f32, value row: i32) -> Looked = "marrighentu_is_warp_at_row";
+    fn is_warp_at_beat(list stops: f32, list delays: f32, list warps: f32, value beat: f64) -> Looked = "marrighentu_is_warp_at_beat";
+    fn is_fake_at_row(list fakes: f32, value row: i32) -> Looked = "marrighentu_is_fake_at_row";
+    fn is_fake_at_beat(list fakes: f32, value beat: f64) -> Looked = "marrighentu_is_fake_at_beat";
     fn is_judgable_at_row(
-        slice stop_beats: f32,
-        slice stop_values: f32,
-        slice delay_beats: f32,
-        slice delay_values: f32,
-        slice warp_beats: f32,
-        slice warp_lengths: f32,
-        slice fake_beats: f32,
-        slice fake_lengths: f32,
+        list stops: f32,
+        list delays: f32,
+        list warps: f32,
+        list fakes: f32,
         value row: i32,
     ) -> Looked = "marrighentu_is_judgable_at_row";
     fn is_judgable_at_beat(
-        slice stop_beats: f32,
-        slice stop_values: f32,
-        slice delay_beats: f32,
-        slice delay_values: f32,
-        slice warp_beats: f32,
-        slice warp_lengths: f32,
-        slice fake_beats: f32,
-        slice fake_lengths: f32,
+        list stops: f32,
+        list delays: f32,
+        list warps: f32,
+        list fakes: f32,
         value beat: f64,
     ) -> Looked = "marrighentu_is_judgable_at_beat";
     fn judgable_rows(
-        slice stop_beats: f32,
-        slice stop_values: f32,
-        slice delay_beats: f32,
-        slice delay_values: f32,
-        slice warp_beats: f32,
-        slice warp_lengths: f32,
-        slice fake_beats: f32,
-        slice fake_lengths: f32,
+        list stops: f32,
+        list delays: f32,
+        list warps: f32,
+        list fakes: f32,
         slice rows: i32,
         room out: u8,
     ) -> Outcome = "marrighentu_judgable_rows";
     fn convert_warps_and_delays_to_sm_stops(
-        slice tempo_beats: f32,
-        slice tempo_values: f32,
+        list tempos: f32,
         slice stops: f32,
-        slice delay_beats: f32,
-        slice delay_values: f32,
-        slice warp_beats: f32,
-        slice warp_lengths: f32,
+        list delays: f32,
+        list warps: f32,
         room work: f32,
     ) -> Filled = "marrighentu_convert_warps_and_delays_to_sm_stops";
 }

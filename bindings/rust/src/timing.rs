@@ -101,38 +101,26 @@ impl Timing {
         let mut out_units = vec![0u8; MOST_ENTRIES];
         let made = ffi::compute_timing_segments(
             format.number(),
-            &tempos.beats,
-            &tempos.values,
-            &stops.beats,
-            &stops.values,
-            &delays.beats,
-            &delays.values,
-            &warps.beats,
-            &warps.values,
+            &tempos,
+            &stops,
+            &delays,
+            &warps,
             &speed_beats,
             &speed_ratios,
             &speed_delays,
             &speed_units,
-            &scrolls.beats,
-            &scrolls.values,
-            &fakes.beats,
-            &fakes.values,
-            &mut out_tempos.beats,
-            &mut out_tempos.values,
-            &mut out_stops.beats,
-            &mut out_stops.values,
-            &mut out_delays.beats,
-            &mut out_delays.values,
-            &mut out_warps.beats,
-            &mut out_warps.values,
+            &scrolls,
+            &fakes,
+            &mut out_tempos,
+            &mut out_stops,
+            &mut out_delays,
+            &mut out_warps,
             &mut out_beats,
             &mut out_ratios,
             &mut out_spans,
             &mut out_units,
-            &mut out_scrolls.beats,
-            &mut out_scrolls.values,
-            &mut out_fakes.beats,
-            &mut out_fakes.values,
+            &mut out_scrolls,
+            &mut out_fakes,
         );
         taken(made.number, ())?;
         let front = |columns: Columns<f32>, count: usize| Columns {
@@ -182,18 +170,7 @@ impl Timing {
     }
 
     fn checked(self) -> Result<Timing, Refusal> {
-        let number = ffi::check_timing(
-            &self.tempos.beats,
-            &self.tempos.values,
-            &self.stops.beats,
-            &self.stops.values,
-            &self.delays.beats,
-            &self.delays.values,
-            &self.warps.beats,
-            &self.warps.values,
-            self.offset,
-            self.global,
-        );
+        let number = ffi::check_timing(&self.tempos, &self.stops, &self.delays, &self.warps, self.offset, self.global);
         taken(number, self)
     }
 
@@ -271,15 +248,7 @@ impl Timing {
     /// [`Refusal::BadBeat`] for a row beyond 3,145,728; [`Refusal::NotRising`] or another where the lists came from
     /// [`from_lists`](Timing::from_lists) and are none that the lookups take. This goes for all lookups.
     pub fn is_warp_at_row(&self, row: i32) -> Result<bool, Refusal> {
-        answered(ffi::is_warp_at_row(
-            &self.stops.beats,
-            &self.stops.values,
-            &self.delays.beats,
-            &self.delays.values,
-            &self.warps.beats,
-            &self.warps.values,
-            row,
-        ))
+        answered(ffi::is_warp_at_row(&self.stops, &self.delays, &self.warps, row))
     }
 
     /// Whether the row of a beat is warped.
@@ -287,15 +256,7 @@ impl Timing {
     /// # Errors
     /// As [`is_warp_at_row`](Timing::is_warp_at_row).
     pub fn is_warp_at_beat(&self, beat: f64) -> Result<bool, Refusal> {
-        answered(ffi::is_warp_at_beat(
-            &self.stops.beats,
-            &self.stops.values,
-            &self.delays.beats,
-            &self.delays.values,
-            &self.warps.beats,
-            &self.warps.values,
-            beat,
-        ))
+        answered(ffi::is_warp_at_beat(&self.stops, &self.delays, &self.warps, beat))
     }
 
     /// Whether a row is fake: the last fake that starts at or before it reaches beyond it.
@@ -303,7 +264,7 @@ impl Timing {
     /// # Errors
     /// As [`is_warp_at_row`](Timing::is_warp_at_row).
     pub fn is_fake_at_row(&self, row: i32) -> Result<bool, Refusal> {
-        answered(ffi::is_fake_at_row(&self.fakes.beats, &self.fakes.values, row))
+        answered(ffi::is_fake_at_row(&self.fakes, row))
     }
 
     /// Whether the row of a beat is fake.
@@ -311,7 +272,7 @@ impl Timing {
     /// # Errors
     /// As [`is_warp_at_row`](Timing::is_warp_at_row).
     pub fn is_fake_at_beat(&self, beat: f64) -> Result<bool, Refusal> {
-        answered(ffi::is_fake_at_beat(&self.fakes.beats, &self.fakes.values, beat))
+        answered(ffi::is_fake_at_beat(&self.fakes, beat))
     }
 
     /// Whether a note on a row is judged: the row is neither warped nor fake.
@@ -331,17 +292,7 @@ impl Timing {
     /// # Errors
     /// As [`is_warp_at_row`](Timing::is_warp_at_row).
     pub fn is_judgable_at_row(&self, row: i32) -> Result<bool, Refusal> {
-        answered(ffi::is_judgable_at_row(
-            &self.stops.beats,
-            &self.stops.values,
-            &self.delays.beats,
-            &self.delays.values,
-            &self.warps.beats,
-            &self.warps.values,
-            &self.fakes.beats,
-            &self.fakes.values,
-            row,
-        ))
+        answered(ffi::is_judgable_at_row(&self.stops, &self.delays, &self.warps, &self.fakes, row))
     }
 
     /// Whether a note on a beat is judged.
@@ -349,17 +300,7 @@ impl Timing {
     /// # Errors
     /// As [`is_warp_at_row`](Timing::is_warp_at_row).
     pub fn is_judgable_at_beat(&self, beat: f64) -> Result<bool, Refusal> {
-        answered(ffi::is_judgable_at_beat(
-            &self.stops.beats,
-            &self.stops.values,
-            &self.delays.beats,
-            &self.delays.values,
-            &self.warps.beats,
-            &self.warps.values,
-            &self.fakes.beats,
-            &self.fakes.values,
-            beat,
-        ))
+        answered(ffi::is_judgable_at_beat(&self.stops, &self.delays, &self.warps, &self.fakes, beat))
     }
 
     /// Whether a note is judged on each row of a list. The timing's lists are tested once for all rows, and rising rows are cheapest: a
@@ -369,18 +310,7 @@ impl Timing {
     /// As [`is_warp_at_row`](Timing::is_warp_at_row), where any of the rows is beyond the limit.
     pub fn judgable_rows(&self, rows: &[i32]) -> Result<Vec<bool>, Refusal> {
         let mut answers = vec![0; rows.len()];
-        let outcome = ffi::judgable_rows(
-            &self.stops.beats,
-            &self.stops.values,
-            &self.delays.beats,
-            &self.delays.values,
-            &self.warps.beats,
-            &self.warps.values,
-            &self.fakes.beats,
-            &self.fakes.values,
-            rows,
-            &mut answers,
-        );
+        let outcome = ffi::judgable_rows(&self.stops, &self.delays, &self.warps, &self.fakes, rows, &mut answers);
         taken(outcome.number, ())?;
         Ok(answers.into_iter().map(|answer| answer == 1).collect())
     }
@@ -392,17 +322,7 @@ impl Timing {
     pub fn row_store(&self) -> Result<RowStore, Refusal> {
         let room = self.stops.len() + self.delays.len() + self.warps.len() + self.fakes.len();
         let mut rows = vec![0; room];
-        let stored = ffi::build_segment_row_storage(
-            &self.stops.beats,
-            &self.stops.values,
-            &self.delays.beats,
-            &self.delays.values,
-            &self.warps.beats,
-            &self.warps.values,
-            &self.fakes.beats,
-            &self.fakes.values,
-            &mut rows,
-        );
+        let stored = ffi::build_segment_row_storage(&self.stops, &self.delays, &self.warps, &self.fakes, &mut rows);
         taken(stored.number, ())?;
         let mut end = 0;
         let ends = [stored.stops, stored.delays, stored.warps, stored.fakes].map(|count| {
@@ -420,16 +340,8 @@ impl Timing {
     pub fn sm_stops(&self) -> Result<Vec<(f32, f32)>, Refusal> {
         let stops: Vec<f32> = self.stops.iter().flat_map(|(beat, seconds)| [beat, seconds]).collect();
         let mut work = vec![0.0; 2 * (self.stops.len() + self.delays.len() + self.warps.len())];
-        let filled = ffi::convert_warps_and_delays_to_sm_stops(
-            &self.tempos.beats,
-            &self.tempos.values,
-            &stops,
-            &self.delays.beats,
-            &self.delays.values,
-            &self.warps.beats,
-            &self.warps.values,
-            &mut work,
-        );
+        let filled =
+            ffi::convert_warps_and_delays_to_sm_stops(&self.tempos, &stops, &self.delays, &self.warps, &mut work);
         taken(filled.number, ())?;
         let flat = if filled.own { stops } else { work };
         let count = if filled.own { self.stops.len() } else { filled.count };
