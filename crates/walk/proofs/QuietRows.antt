@@ -54,7 +54,7 @@ module _ (r : ℤ) where
       go true x q = rw (lt-not r x q)
       go false x q = refl
 
-  none-before : (tempoBeats stopBeats delayBeats warpBeats : List Float) (s : State) → ltZ r farthest ≡ true → ltZ r (endRow (s .warping) (s .end)) ≡ true
+  pub none-before : (tempoBeats stopBeats delayBeats warpBeats : List Float) (s : State) → ltZ r farthest ≡ true → ltZ r (endRow (s .warping) (s .end)) ≡ true
       → ltZ r (rowAt tempoBeats (s .tempos)) ≡ true → ltZ r (rowAt delayBeats (s .delays)) ≡ true → ltZ r (rowAt stopBeats (s .stops)) ≡ true → ltZ r (rowAt warpBeats (s .warps)) ≡ true
       → nextEvent tempoBeats stopBeats delayBeats warpBeats s r ≡ record { row = r; kind = Asked }
   unfolding nextEvent
