@@ -8,9 +8,6 @@ ghost use Rattle.walk.specs.Events.{timing};
 ghost use Rattle.clock_run.specs.Run.{roomNumber, RunLaid};
 ghost use Rattle.clock_run.specs.Asked.{AllAsked};
 ghost use Rattle.clock_run.specs.Ahead.{least, quietUntil, lookAhead, isQuiet, quietTime};
-ghost use Rattle.rows.specs.Rows.{beatOf};
-ghost use lib.Ieee.{binary64};
-ghost use lib.IntN.{_-ℤ_};
 
 // The run's number, and the cursor after its last beat; after a refusal the cursor that was lent.
 #[repr(C)]
@@ -130,14 +127,6 @@ fn is_quiet(ahead: Ahead, last: i32, beat: f64, row: i32) -> bool
     false
 }
 
-// The beats from one row to another. Two i32 may be further apart than an i32.
-fn beats_between(from: i32, to: i32) -> f64
-    ensures { λ r. ⌜ r ≡ beatOf binary64 (to -ℤ from) ⌝ }
-{
-    let rows = (to as i64) - (from as i64);
-    (rows as f64) / (rows::ROWS_PER_BEAT as f64)
-}
-
 fn quiet_time(state: State, rate: f64, row: i32) -> f64
     ensures { λ r. ⌜ r ≡ quietTime state rate row ⌝ }
 {
@@ -145,7 +134,7 @@ fn quiet_time(state: State, rate: f64, row: i32) -> f64
     if warping {
         return state.time + 0.0;
     }
-    let beats = beats_between(state.row, row);
+    let beats = walk::beats_between(state.row, row);
     state.time + beats / rate
 }
 

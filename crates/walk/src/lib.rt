@@ -109,7 +109,7 @@ fn read_at(values: &[f32], place: usize) -> f64
 }
 
 // The beats from one row to another. Two i32 may be further apart than an i32.
-fn beats_between(from: i32, to: i32) -> f64
+pub fn beats_between(from: i32, to: i32) -> f64
     ensures { λ r. ⌜ r ≡ beatOf binary64 (to -ℤ from) ⌝ }
 {
     let rows = (to as i64) - (from as i64);
