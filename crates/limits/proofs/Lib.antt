@@ -5,3 +5,4 @@ pub mod NoRefusal
 pub mod PlainTaken
 pub mod TakenWithin
 pub mod TempoSizes
+pub mod WorstSoFar

@@ -22,7 +22,7 @@ yes true h = refl
 yes false h = absurd h
 
 module _ (k : ℕ) where
-  first-test : (most other : Bool) (beyond : Bool) → pick most other (pick beyond false false) ≡ true → T most
+  pub first-test : (most other : Bool) (beyond : Bool) → pick most other (pick beyond false false) ≡ true → T most
   first-test true other beyond e = tt
   first-test false other true e = subst T (sym e) tt
   first-test false other false e = subst T (sym e) tt

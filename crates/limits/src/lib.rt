@@ -4,7 +4,9 @@ ghost use mathlib.Core.Bool.{true, false};
 ghost use Prim.Native.Nat.{_+_, _≤_};
 ghost use lib.ListN.{length};
 ghost use Rattle.limits.specs.Numbers.{rangeOf, inRange, sizeOf, every, miss, allIn, isUnit, unitsIn, rowIn};
-ghost use Rattle.limits.specs.Plain.{plain};
+ghost use lib.Dec.{ltb};
+ghost use Rattle.picks.specs.Pick.{pick};
+ghost use Rattle.limits.specs.Plain.{inside, within, plain};
 ghost use Rattle.limits.specs.Refusals.{lower, listNumber};
 
 // ---- what a refusal answers
@@ -186,34 +188,58 @@ fn one_outside(range: Range, x: f64) -> usize
     if in_range(range, x) { 0 } else { 1 }
 }
 
-// Whether a number is from the least to the most in size.
-fn is_plain(range: Range, x: f64) -> bool
-    ensures { λ r. ⌜ r ≡ plain range x ⌝ }
+// Whether a number lies strictly between the two numbers of a size.
+fn lies_inside(size: f64, x: f64) -> bool
+    ensures { λ r. ⌜ r ≡ inside size x ⌝ }
 {
-    let size = magnitude(x);
-    if size <= range.most {
-        return size >= range.least;
+    if -size < x {
+        return x < size;
     }
     false
 }
 
-fn one_not_plain(range: Range, x: f64) -> usize
+// Whether a number lies from one number of a size to the other.
+fn lies_within(size: f64, x: f64) -> bool
+    ensures { λ r. ⌜ r ≡ within size x ⌝ }
+{
+    if -size <= x {
+        return x <= size;
+    }
+    false
+}
+
+// Whether a number is in a range by its size alone, which a machine tests for several numbers at a time.
+fn is_plain(range: Range, x: f64) -> bool
+    ensures { λ r. ⌜ r ≡ plain range x ⌝ }
+{
+    if lies_inside(range.least, x) {
+        return false;
+    }
+    lies_within(range.most, x)
+}
+
+fn one_not_plain(range: Range, x: f64) -> u32
     ensures { λ r. ⌜ r ≡ miss (plain range) x ⌝ }
 {
     if is_plain(range, x) { 0 } else { 1 }
 }
 
-// Whether every number of a column is: two tests a number, in a loop that a machine does for several at a time.
+fn worse_of(one: u32, other: u32) -> u32
+    ensures { λ r. ⌜ r ≡ pick (ltb one other) other one ⌝ }
+{
+    if one < other { other } else { one }
+}
+
 fn all_plain(range: Range, column: &[f64]) -> bool
     ensures { λ r. ⌜ r ≡ every (plain range) (now (column .entry)) ⌝ }
 {
-    let mut others: usize = 0;
+    let mut worst: u32 = 0;
     let mut i = 0;
     while i < column.len() {
-        others += one_not_plain(range, column[i]);
+        worst = worse_of(worst, one_not_plain(range, column[i]));
         i += 1;
     }
-    others == 0
+    worst == 0
 }
 
 fn all_in(range: Range, column: &[f64]) -> bool
@@ -242,13 +268,16 @@ pub fn column_taken(kind: Kind, column: &[f64]) -> bool
 fn all_plain_f32(range: Range, column: &[f32]) -> bool
     ensures { λ r. ⌜ r ≡ every (plain range) (now (column .entry)) ⌝ }
 {
-    let mut others: usize = 0;
+    let mut worst: u32 = 0;
     let mut i = 0;
     while i < column.len() {
-        others += one_not_plain(range, std::num::f32_to_f64_with_nan(column[i]));
+        worst = worse_of(
+            worst,
+            one_not_plain(range, std::num::f32_to_f64_with_nan(column[i])),
+        );
         i += 1;
     }
-    others == 0
+    worst == 0
 }
 
 fn all_in_f32(range: Range, column: &[f32]) -> bool

@@ -2,7 +2,8 @@
 use mathlib.Core.Path.{_≡_, sym, ap, _∙_}
 use mathlib.Core.Bool.{Bool, true}
 use Rattle.limits.specs.declared.Range.{Range}
-use Rattle.limits.specs.Numbers.{allIn}
+use Rattle.limits.specs.Numbers.{every, allIn}
+use Rattle.limits.specs.Plain.{plain}
 use Rattle.limits.proofs.PlainTaken.{all-plain-taken}
 use borrow.Author.Needs.{needs}
 use Rattle.limits.proofs.column_taken.Statement.{statement}
@@ -16,8 +17,10 @@ all-plain-requires c κs = search needs
 
 returns : tie.Need-returns
 returns c =
-    let column = c .before .before .before .before .args .column .now in
-    sym (all-plain-taken (c .before .before .range-of .result) column (sym (c .before .all-plain .ensures) ∙ c .if1 .taken)) ∙ ap (λ (range : Range). allIn range column) (c .before .before .range-of .ensures)
+    let a = c .before .before .before .before .args in
+    let column = a .column .now in
+    let known = ap (λ (range : Range). every (plain range) column) (sym (c .before .before .range-of .ensures)) ∙ sym (c .before .all-plain .ensures) ∙ c .if1 .taken in
+    sym (all-plain-taken (a .kind) column known)
 
 all-in-requires : tie.Need-all-in-requires
 all-in-requires c κs = search needs
