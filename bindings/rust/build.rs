@@ -12,12 +12,12 @@ fn main() {
         println!("cargo::rerun-if-changed={}", here.join(name).display());
     }
     println!("cargo::rustc-link-search=native={}", root.join("target/native").display());
+    let made = Command::new(root.join("bindings/native-archive")).args(ARCHIVES).status();
+    assert!(
+        made.is_ok_and(|status| status.success()),
+        "bindings/native-archive failed: is the Rattle kit's `rt` on the PATH?"
+    );
     for name in ARCHIVES {
-        let made = Command::new(root.join("bindings/native-archive")).arg(name).status();
-        assert!(
-            made.is_ok_and(|status| status.success()),
-            "bindings/native-archive {name} failed: is the Rattle kit's `rt` on the PATH?"
-        );
         println!("cargo::rustc-link-lib=static={name}");
     }
 }
