@@ -48,7 +48,7 @@ distance-is : (s : Bool) (a b : ℕ) (t : Bool) (c d : ℕ) → distance (ratio 
 distance-is s a b t c d = rw (signed-mul s a d, signed-mul t c b) (abs-signed s (a * d) t (c * b))
 
 -- ---- times a number
-gap-mul : (a b c : ℕ) → gap (a * c) (b * c) ≡ gap a b * c
+pub gap-mul : (a b c : ℕ) → gap (a * c) (b * c) ≡ gap a b * c
 gap-mul a b c = elim (lt-or-ge a b) [
   | inl l ↦ above a b (le-dest (le-of-lt l))
   | inr g ↦ swap (b * c) (a * c) ∙ above b a (le-dest g) ∙ ap (λ (x : ℕ). x * c) (swap a b)

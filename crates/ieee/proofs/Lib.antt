@@ -32,3 +32,4 @@ pub mod StepPower
 pub mod AnchorPattern
 pub mod NarrowBySum
 pub mod WholeByBias
+pub mod NarrowedSum

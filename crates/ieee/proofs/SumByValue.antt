@@ -13,7 +13,7 @@ use lib.Ieee.Scale.{round-same}
 use borrow.Author.Tests.{lt-ltb, le-ltb}
 use Rattle.ieee.proofs.Closest.{lt-or-ge}
 
-sub-mul : (m n k : ℕ) → (m - n) * k ≡ m * k - n * k
+pub sub-mul : (m n k : ℕ) → (m - n) * k ≡ m * k - n * k
 sub-mul m n k = mul-comm (m - n) k ∙ mul-sub k m n ∙ ap₂ _-_ (mul-comm k m) (mul-comm k n)
 
 -- ---- a' / c' and b' / c' are a / c and b / c

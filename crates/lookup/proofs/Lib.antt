@@ -6,3 +6,4 @@ pub mod UsableLists
 pub mod ManyRows
 pub mod Sentences
 pub mod SameRow
+pub mod FakeSums
