@@ -1,5 +1,6 @@
 pub mod TempoForward
 pub mod EveryTurnMeets
+pub mod HeadsInHand
 pub mod TurnByTurn
 pub mod TwoByTwo
 pub mod TakenSources

@@ -1,4 +1,5 @@
 pub mod Merging
+pub mod InHand
 pub mod Plain
 pub mod Filling
 pub mod Testing
