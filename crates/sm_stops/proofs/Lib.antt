@@ -4,6 +4,5 @@ pub mod HeadsInHand
 pub mod TurnByTurn
 pub mod TwoByTwo
 pub mod TakenSources
+pub mod SmallNumbers
 pub mod OneFilling
-pub mod WorstSoFar
-pub mod BetweenEnds

@@ -2,4 +2,3 @@ pub mod Merging
 pub mod InHand
 pub mod Plain
 pub mod Filling
-pub mod Testing

@@ -5,15 +5,13 @@ ghost use mathlib.Core.Bool.{true, false, not};
 ghost use Prim.Native.Nat.{_+_, _*_, _/_, _%_, _<_, _≤_, _^_};
 ghost use lib.Dec.{ltb, leb, eqb};
 ghost use lib.ListN.{length, getD, set};
-ghost use lib.Ieee.{nan, inf, ne, neg, le, lt};
+ghost use lib.Ieee.{nan, inf, ne, lt};
 ghost use Rattle.picks.specs.Pick.{pick};
-ghost use Rattle.limits.specs.Numbers.{rangeOf, sizeOf, inRange, allIn, miss};
-ghost use Rattle.limits.specs.Refusals.{listNumber};
+ghost use Rattle.limits.specs.Numbers.{rangeOf};
 ghost use Rattle.order.specs.Order.{laid};
 ghost use Rattle.sm_stops.specs.Merging.{sources, none, meets, plus, forward, tempoPlace, less, onward, merged, atFirst};
 ghost use Rattle.sm_stops.specs.InHand.{headAt, secondsAt};
 ghost use Rattle.sm_stops.specs.Plain.{Plain};
-ghost use Rattle.sm_stops.specs.Testing.{between, UpTo};
 ghost use Rattle.sm_stops.specs.Filling.{beatsIn, valuesIn, isEven, flatNumber, flat, listsNumber, StopsFilled, chosen};
 
 // What filling the work list answers: the refusal number, the entries written, and whether the caller's own stops are the answer.
@@ -330,116 +328,30 @@ fn has_room(
 
 // ---- refusals
 
-fn magnitude(x: f32) -> f32
-    ensures { λ r. ⌜ r ≡ sizeOf x ⌝ }
-{
-    if x < 0.0 { -x } else { x }
-}
-
-// Whether a number lies between the two numbers of a size.
-fn lies_within(most: f32, x: f32) -> bool
-    ensures { λ r. ⌜ r ≡ pick (le (neg most) x) (le x most) false ⌝ }
-{
-    if -most <= x {
-        return x <= most;
-    }
-    false
-}
-
-// Whether a number's size is from the least to the most; where zeros are taken the least is 0. In f32, so that a loop does it for four at a time.
-fn in_range(least: f32, most: f32, zeros: bool, x: f32) -> bool
-    requires { ⌜ (zeros ≡ true → UpTo least most) ⌝ }
-    ensures { λ r. ⌜ r ≡ inRange (between least most zeros) x ⌝ }
-{
-    if zeros {
-        return lies_within(most, x);
-    }
-    let size = magnitude(x);
-    if size <= most {
-        return size >= least;
-    }
-    false
-}
-
-fn one_outside(least: f32, most: f32, zeros: bool, x: f32) -> u32
-    requires { ⌜ (zeros ≡ true → UpTo least most) ⌝ }
-    ensures { λ r. ⌜ r ≡ miss (inRange (between least most zeros)) x ⌝ }
-{
-    if in_range(least, most, zeros, x) {
-        0
-    } else {
-        1
-    }
-}
-
-fn worse_of(one: u32, other: u32) -> u32
-    ensures { λ r. ⌜ r ≡ pick (ltb one other) other one ⌝ }
-{
-    if one < other { other } else { one }
-}
-
-// Whether every number of a column is in a range.
-fn column_taken(least: f32, most: f32, zeros: bool, column: &[f32]) -> bool
-    requires { ⌜ (zeros ≡ true → UpTo least most) ⌝ }
-    ensures { λ r. ⌜ r ≡ allIn (between least most zeros) (now (column .entry)) ⌝ }
-{
-    let mut worst: u32 = 0;
-    let mut i = 0;
-    while i < column.len() {
-        worst = worse_of(worst, one_outside(least, most, zeros, column[i]));
-        i += 1;
-    }
-    worst == 0
-}
-
-// What a list of beats and of values in a range answers by itself.
-fn pair_number(least: f32, most: f32, zeros: bool, beats: &[f32], values: &[f32]) -> u32
-    requires { ⌜ (zeros ≡ true → UpTo least most) ⌝ }
-    ensures { λ r. ⌜ r ≡ listNumber (rangeOf Kind.Beat) (between least most zeros) (now (beats .entry)) (now (values .entry)) ⌝ }
-{
-    if beats.len() > limits::MOST_ENTRIES {
-        return limits::TOO_LONG;
-    }
-    if values.len() > limits::MOST_ENTRIES {
-        return limits::TOO_LONG;
-    }
-    if beats.len() != values.len() {
-        return limits::UNEVEN;
-    }
-    if !column_taken(0.0, 65536.0, true, beats) {
-        return limits::BAD_BEAT;
-    }
-    if !column_taken(least, most, zeros, values) {
-        return limits::BAD_VALUE;
-    }
-    limits::TAKEN
-}
-
 fn flat_beats_taken(list: &[f32]) -> bool
     ensures { λ r. ⌜ r ≡ beatsIn (rangeOf Kind.Beat) (now (list .entry)) ⌝ }
 {
-    let mut worst: u32 = 0;
     let mut i = 0;
     while i < list.len() {
-        worst = worse_of(worst, one_outside(0.0, 65536.0, true, list[i]));
+        if !limits::taken(Kind::Beat, std::num::f32_to_f64_with_nan(list[i])) {
+            return false;
+        }
         i += 2;
     }
-    worst == 0
+    true
 }
 
 fn flat_values_taken(list: &[f32]) -> bool
     ensures { λ r. ⌜ r ≡ valuesIn (rangeOf Kind.Pause) (now (list .entry)) ⌝ }
 {
-    let mut worst: u32 = 0;
     let mut i = 0;
     while i + 1 < list.len() {
-        worst = worse_of(
-            worst,
-            one_outside(0.0, 1125899906842624.0, true, list[i + 1]),
-        );
+        if !limits::taken(Kind::Pause, std::num::f32_to_f64_with_nan(list[i + 1])) {
+            return false;
+        }
         i += 2;
     }
-    worst == 0
+    true
 }
 
 fn is_even(size: usize) -> bool
@@ -448,7 +360,7 @@ fn is_even(size: usize) -> bool
     size % 2 == 0
 }
 
-// What a flat list answers by itself.
+// What a flat list answers by itself. Values are hardly ever beyond what beats are taken up to, so one test of all numbers is usually enough.
 fn flat_number(list: &[f32]) -> u32
     ensures { λ r. ⌜ r ≡ flatNumber (rangeOf Kind.Beat) (rangeOf Kind.Pause) (now (list .entry)) ⌝ }
 {
@@ -457,6 +369,9 @@ fn flat_number(list: &[f32]) -> u32
     }
     if !is_even(list.len()) {
         return limits::UNEVEN;
+    }
+    if limits::column_taken_f32(Kind::Beat, list) {
+        return limits::TAKEN;
     }
     if !flat_beats_taken(list) {
         return limits::BAD_BEAT;
@@ -488,16 +403,10 @@ fn lists_number(
 ) -> u32
     ensures { λ r. ⌜ r ≡ listsNumber (sources (now («tempo_beats» .entry)) (now («tempo_values» .entry)) (now (stops .entry)) (now («delay_beats» .entry)) (now («delay_values» .entry)) (now («warp_beats» .entry)) (now («warp_lengths» .entry))) size ⌝ }
 {
-    let tempos = pair_number(
-        9.5367431640625e-7,
-        1073741824.0,
-        false,
-        tempo_beats,
-        tempo_values,
-    );
+    let tempos = limits::list_number_f32(Kind::Beat, Kind::Tempo, tempo_beats, tempo_values);
     let own = flat_number(stops);
-    let delays = pair_number(0.0, 1125899906842624.0, true, delay_beats, delay_values);
-    let warps = pair_number(0.0, 1073741824.0, true, warp_beats, warp_lengths);
+    let delays = limits::list_number_f32(Kind::Beat, Kind::Pause, delay_beats, delay_values);
+    let warps = limits::list_number_f32(Kind::Beat, Kind::Value, warp_beats, warp_lengths);
     let room = work_number(size);
     let first = limits::lower_of(tempos, own);
     let others = limits::lower_of(delays, warps);
