@@ -109,6 +109,9 @@ module _ (s : Sources) (h : Heads) where
       go false e = ⊎-elim (λ t. no (sym e ∙ t)) (λ m. rw (m .below)) (over-or-met plain)
 
 module _ (s : Sources) (h : Heads) (plain : Plain s) (more : isOver s h ≡ false) where
+  some-met : (stopMet s h ≡ true) ⊎ ((delayMet s h ≡ true) ⊎ (warpMet s h ≡ true))
+  some-met = ⊎-elim (λ t. no (sym more ∙ t)) (λ m. m .some) (over-or-met s h plain)
+
   -- one entry fewer at least: of three lists, of which those that are met move on
   fewer : (a b c : Bool) (S D W p q r : ℕ) → (a ≡ true → p < S) → (b ≡ true → q < D) → (c ≡ true → r < W) → (a ≡ true) ⊎ ((b ≡ true) ⊎ (c ≡ true))
       → (S + 1 - onward a p 2) / 2 + (D - onward b q 1) + (W - onward c r 1) < (S + 1 - p) / 2 + (D - q) + (W - r)
@@ -127,7 +130,7 @@ module _ (s : Sources) (h : Heads) (plain : Plain s) (more : isOver s h ≡ fals
   unfolding turn
   left-falls =
       fewer (stopMet s h) (delayMet s h) (warpMet s h) (length (s .stops)) (length (s .delayBeats)) (length (s .warpBeats)) (h .stop) (h .delay) (h .warp)
-      (here (s .stops) (h .stop) (beatHere s h)) (here (s .delayBeats) (h .delay) (beatHere s h)) (here (s .warpBeats) (h .warp) (beatHere s h)) (⊎-elim (λ t. no (sym more ∙ t)) (λ m. m .some) (over-or-met s h plain))
+      (here (s .stops) (h .stop) (beatHere s h)) (here (s .delayBeats) (h .delay) (beatHere s h)) (here (s .warpBeats) (h .warp) (beatHere s h)) some-met
 
 -- ---- the turns of the merge
 module _ (s : Sources) (plain : Plain s) where
