@@ -4,6 +4,8 @@ pub mod GivenRows
 pub mod LastRow
 pub mod StraightParts
 pub mod SortedRows
+pub mod RowMarks
+pub mod RowsInLine
 pub mod FourLists
 pub mod PartRows
 pub mod Unique

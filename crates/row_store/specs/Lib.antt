@@ -1,2 +1,3 @@
 pub mod RowStore
 pub mod Placing
+pub mod InLine

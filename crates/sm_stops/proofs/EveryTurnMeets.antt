@@ -1,8 +1,8 @@
 -- Where a head is left, the least beat is that of a head, which is met: so every turn lessens what is left. Assumes nothing.
 use Prim.Native.Nat.{ℕ, zero, suc, _+_, _-_, _/_, _≤_, _<_}
 use mathlib.Core.List.{List, [], _++_}
-use mathlib.Core.Bool.{Bool, true, false}
-use mathlib.Core.Logic.{_⊎_, inl, inr}
+use mathlib.Core.Bool.{Bool, true, false, not}
+use mathlib.Core.Logic.{_⊎_, inl, inr, ⊎-elim}
 use mathlib.Core.Path.{_≡_, refl, sym, ap, _∙_}
 use native.Mathlib.Omega.{arith}
 use borrow.Author.Tests.{ltb-true, lt-ltb}
@@ -46,41 +46,71 @@ none-here beats place n h = go (ltb place (length beats)) refl
     go false e = refl
     go true e = no (sym (h e) ∙ n .below place (ltb-true place (length beats) e))
 
-module _ (s : Sources) (h : Heads) (plain : Plain s) (more : isOver s h ≡ false) where
+-- a head that is met is there
+pub here : (beats : List Float) (place : ℕ) (beat : Float) → meets beats place beat ≡ true → place < length beats
+unfolding meets
+here beats place beat e = go (ltb place (length beats)) refl
+  where
+    go : (a : Bool) → ltb place (length beats) ≡ a → place < length beats
+    go true q = ltb-true place (length beats) q
+    go false q = no (rw q at e)
+
+module _ (s : Sources) (h : Heads) where
   abbrev first : Float
   first = lesser (inf false) (s .stops) (h .stop)
 
   abbrev second : Float
   second = lesser first (s .delayBeats) (h .delay)
 
-  some-met : (stopMet s h ≡ true) ⊎ ((delayMet s h ≡ true) ⊎ (warpMet s h ≡ true))
+  -- the least beat is below infinity, and a head is on it
+  record Met : Type 0 where
+    below : lt (beatHere s h) (inf false) ≡ true
+    some : (stopMet s h ≡ true) ⊎ ((delayMet s h ≡ true) ⊎ (warpMet s h ≡ true))
+
+  on-head : (beats : List Float) (place : ℕ) → Numbers beats → ltb place (length beats) ≡ true → beatHere s h ≡ getD beats place nan → lt (beatHere s h) (inf false) ≡ true
+  on-head beats place n here e = rw e (n .below place (ltb-true place (length beats) here))
+
+  over-or-met : Plain s → (isOver s h ≡ true) ⊎ Met
   unfolding leastBeat isOver
-  some-met = by-warp (compare second (s .warpBeats) (h .warp))
+  over-or-met plain = by-warp (compare second (s .warpBeats) (h .warp))
     where
-      by-warp : Compared second (s .warpBeats) (h .warp) → (stopMet s h ≡ true) ⊎ ((delayMet s h ≡ true) ⊎ (warpMet s h ≡ true))
-      by-warp (gives here e) = inr (inr (met (s .warpBeats) (h .warp) (beatHere s h) (plain .warps) here e))
+      by-warp : Compared second (s .warpBeats) (h .warp) → (isOver s h ≡ true) ⊎ Met
+      by-warp (gives here e) = inr (record { below = on-head (s .warpBeats) (h .warp) (plain .warps) here e; some = inr (inr (met (s .warpBeats) (h .warp) (beatHere s h) (plain .warps) here e)) })
       by-warp (stays kept w) = by-delay (compare first (s .delayBeats) (h .delay))
         where
-          by-delay : Compared first (s .delayBeats) (h .delay) → (stopMet s h ≡ true) ⊎ ((delayMet s h ≡ true) ⊎ (warpMet s h ≡ true))
-          by-delay (gives here e) = inr (inl (met (s .delayBeats) (h .delay) (beatHere s h) (plain .delays) here (kept ∙ e)))
+          by-delay : Compared first (s .delayBeats) (h .delay) → (isOver s h ≡ true) ⊎ Met
+          by-delay (gives here e) = inr (record { below = on-head (s .delayBeats) (h .delay) (plain .delays) here (kept ∙ e); some = inr (inl (met (s .delayBeats) (h .delay) (beatHere s h) (plain .delays) here (kept ∙ e))) })
           by-delay (stays kept′ d) = by-stop (compare (inf false) (s .stops) (h .stop))
             where
-              by-stop : Compared (inf false) (s .stops) (h .stop) → (stopMet s h ≡ true) ⊎ ((delayMet s h ≡ true) ⊎ (warpMet s h ≡ true))
-              by-stop (gives here e) = inl (met (s .stops) (h .stop) (beatHere s h) (plain .stops) here (kept ∙ kept′ ∙ e))
+              by-stop : Compared (inf false) (s .stops) (h .stop) → (isOver s h ≡ true) ⊎ Met
+              by-stop (gives here e) = inr (record { below = on-head (s .stops) (h .stop) (plain .stops) here (kept ∙ kept′ ∙ e); some = inl (met (s .stops) (h .stop) (beatHere s h) (plain .stops) here (kept ∙ kept′ ∙ e)) })
               by-stop (stays kept″ p) =
                   let a = none-here (s .stops) (h .stop) (plain .stops) p in
                   let b = none-here (s .delayBeats) (h .delay) (plain .delays) (λ x. sym (ap (lt (getD (s .delayBeats) (h .delay) nan)) kept″) ∙ d x) in
                   let c = none-here (s .warpBeats) (h .warp) (plain .warps) (λ x. sym (ap (lt (getD (s .warpBeats) (h .warp) nan)) (kept′ ∙ kept″)) ∙ w x) in
-                  no (sym (rw (a, b, c) at more))
+                  inl (rw (a, b, c))
 
-  -- a head that is met is there
-  pub here : (beats : List Float) (place : ℕ) (beat : Float) → meets beats place beat ≡ true → place < length beats
-  unfolding meets
-  here beats place beat e = go (ltb place (length beats)) refl
+  over-least : isOver s h ≡ true → lt (beatHere s h) (inf false) ≡ false
+  unfolding leastBeat lesser isOver lt
+  over-least e = go (ltb (h .stop) (length (s .stops))) (ltb (h .delay) (length (s .delayBeats))) (ltb (h .warp) (length (s .warpBeats))) refl refl refl
     where
-      go : (a : Bool) → ltb place (length beats) ≡ a → place < length beats
-      go true q = ltb-true place (length beats) q
-      go false q = no (rw q at e)
+      go : (a b c : Bool) → ltb (h .stop) (length (s .stops)) ≡ a → ltb (h .delay) (length (s .delayBeats)) ≡ b → ltb (h .warp) (length (s .warpBeats)) ≡ c → lt (beatHere s h) (inf false) ≡ false
+      go false false false p q r = rw (p, q, r)
+      go true b c p q r = no (rw p at e)
+      go false true c p q r = no (rw (p, q) at e)
+      go false false true p q r = no (rw (p, q, r) at e)
+
+  -- it is over just where the least beat is infinite
+  pub over-by-least : Plain s → not (lt (beatHere s h) (inf false)) ≡ isOver s h
+  over-by-least plain = go (isOver s h) refl
+    where
+      go : (o : Bool) → isOver s h ≡ o → not (lt (beatHere s h) (inf false)) ≡ o
+      go true e = rw (over-least e)
+      go false e = ⊎-elim (λ t. no (sym e ∙ t)) (λ m. rw (m .below)) (over-or-met plain)
+
+module _ (s : Sources) (h : Heads) (plain : Plain s) (more : isOver s h ≡ false) where
+  some-met : (stopMet s h ≡ true) ⊎ ((delayMet s h ≡ true) ⊎ (warpMet s h ≡ true))
+  some-met = ⊎-elim (λ t. no (sym more ∙ t)) (λ m. m .some) (over-or-met s h plain)
 
   -- one entry fewer at least: of three lists, of which those that are met move on
   fewer : (a b c : Bool) (S D W p q r : ℕ) → (a ≡ true → p < S) → (b ≡ true → q < D) → (c ≡ true → r < W) → (a ≡ true) ⊎ ((b ≡ true) ⊎ (c ≡ true))

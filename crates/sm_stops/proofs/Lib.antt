@@ -1,8 +1,8 @@
 pub mod TempoForward
 pub mod EveryTurnMeets
+pub mod HeadsInHand
 pub mod TurnByTurn
 pub mod TwoByTwo
 pub mod TakenSources
+pub mod SmallNumbers
 pub mod OneFilling
-pub mod WorstSoFar
-pub mod BetweenEnds

@@ -1,11 +1,11 @@
 -- Lists that are taken are short, and their beats are finite. Assumes nothing.
-use Prim.Native.Nat.{ℕ, zero, suc, _+_, _*_, _/_, _≤_, _<_}
+use Prim.Native.Nat.{ℕ, zero, suc, _+_, _*_, _/_, _%_, _≤_, _<_}
 use mathlib.Core.List.{List, [], _∷_}
 use mathlib.Core.Bool.{Bool, true, false}
 use mathlib.Core.Path.{_≡_, refl, sym, ap, _∙_}
 use native.Mathlib.Omega.{arith}
 use native.Mathlib.Nat.{le-of-suc-le-suc}
-use borrow.Author.Tests.{ltb-false, eq-eqb}
+use borrow.Author.Tests.{ltb-false, eq-eqb, eqb-true}
 use lib.Dec.{ltb}
 use lib.ListN.{length, getD}
 use lib.Ieee.{Float, nan, inf, fin, neg, level, lt, le, eq, up, down}
@@ -65,10 +65,11 @@ flat-at k j (x ∷ v ∷ list) h g (suc (suc i)) p =
 
 record FlatTaken (list : List Float) : Type 0 where
   few : length list ≤ 2048
+  pairs : length list % 2 ≡ 0
   plain : Numbers list
 
-by-tests : (long even beats values : Bool) → _≡_ {A = ℕ} (pick long 1 (pick even (pick beats (pick values 0 4) 3) 2)) 0 → (long ≡ false) × (beats ≡ true) × (values ≡ true)
-by-tests false true true true h = (refl, refl, refl)
+by-tests : (long even beats values : Bool) → _≡_ {A = ℕ} (pick long 1 (pick even (pick beats (pick values 0 4) 3) 2)) 0 → (long ≡ false) × (even ≡ true) × (beats ≡ true) × (values ≡ true)
+by-tests false true true true h = (refl, refl, refl, refl)
 by-tests true even beats values h = absurd (omega arith)
 by-tests false false beats values h = absurd (omega arith)
 by-tests false true false values h = absurd (omega arith)
@@ -80,7 +81,8 @@ flat-taken list h =
     let t = by-tests (ltb 2048 (length list)) (isEven (length list)) (beatsIn (rangeOf Beat) list) (valuesIn (rangeOf Pause) list) h in
     record {
       few = ltb-false 2048 (length list) (t .0);
-      plain = record { same = λ i p. flat-at 16 50 list (t .1) (t .2) i p .same; below = λ i p. flat-at 16 50 list (t .1) (t .2) i p .below };
+      pairs = eqb-true (length list % 2) 0 (t .1);
+      plain = record { same = λ i p. flat-at 16 50 list (t .2) (t .3) i p .same; below = λ i p. flat-at 16 50 list (t .2) (t .3) i p .below };
     }
 
 pub record SourcesTaken (s : Sources) : Type 0 where
@@ -103,7 +105,14 @@ sources-taken s size h =
     let d : Taken (rangeOf Beat) (rangeOf Pause) (s .delayBeats) (s .delayValues) = list-taken (others .0) in
     let w : Taken (rangeOf Beat) (rangeOf Value) (s .warpBeats) (s .warpLengths) = list-taken (others .1) in
     record {
-      plain = record { stops = own .plain; delays = numbers 16 (s .delayBeats) (d .beatsIn); warps = numbers 16 (s .warpBeats) (w .beatsIn) };
+      plain = record {
+        stops = own .plain;
+        delays = numbers 16 (s .delayBeats) (d .beatsIn);
+        warps = numbers 16 (s .warpBeats) (w .beatsIn);
+        stopPairs = own .pairs;
+        delayColumns = d .even;
+        warpColumns = w .even;
+      };
       stops = own .few;
       delays = d .few;
       warps = w .few;

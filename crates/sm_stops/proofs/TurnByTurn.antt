@@ -1,5 +1,5 @@
 -- The sums of all turns, laid turn by turn, and places that stay within their lists. Assumes nothing.
-use Prim.Native.Nat.{ℕ, zero, suc, _+_, _-_, _*_, _≤_}
+use Prim.Native.Nat.{ℕ, zero, suc, _+_, _-_, _*_, _%_, _≤_}
 use mathlib.Core.List.{List, [], _∷_, _++_}
 use mathlib.Core.Bool.{Bool, true, false}
 use mathlib.Core.Path.{_≡_, refl, ap, _∙_, subst}
@@ -23,7 +23,7 @@ leading-le beat (b ∷ beats) = go (le b beat) (leading-le beat beats)
     go true h = omega arith
     go false h = omega arith
 
-forward-le : (beats : List Float) (place : ℕ) (beat : Float) → place ≤ length beats → forward beats place beat ≤ length beats
+pub forward-le : (beats : List Float) (place : ℕ) (beat : Float) → place ≤ length beats → forward beats place beat ≤ length beats
 unfolding forward
 forward-le beats place beat h = omega (arith, leading-le beat (drop (place + 1) beats), length-drop (place + 1) beats)
 
@@ -32,14 +32,19 @@ pub record Fit (s : Sources) (h : Heads) : Type 0 where
   pub stop : h .stop ≤ length (s .stops) + 1
   pub delay : h .delay ≤ length (s .delayBeats)
   pub warp : h .warp ≤ length (s .warpBeats)
+  pub stopPair : h .stop % 2 ≡ 0
 
 pub first-fit : (s : Sources) → Fit s atFirst
-first-fit s = record { tempo = omega arith; stop = omega arith; delay = omega arith; warp = omega arith }
+first-fit s = record { tempo = omega arith; stop = omega arith; delay = omega arith; warp = omega arith; stopPair = refl }
 
 module _ (s : Sources) (h : Heads) (plain : Plain s) (more : isOver s h ≡ false) where
   moved : (b : Bool) (place by most : ℕ) → place ≤ most → (b ≡ true → place + by ≤ most) → onward b place by ≤ most
   moved true place by most p q = q refl
   moved false place by most p q = p
+
+  pair-moved : (b : Bool) (place : ℕ) → place % 2 ≡ 0 → onward b place 2 % 2 ≡ 0
+  pair-moved true place p = omega arith
+  pair-moved false place p = p
 
   tempo-moved : (b : Bool) (place : ℕ) (beat : Float) → place ≤ length (s .tempoBeats) → tempoPlace b (s .tempoBeats) place beat ≤ length (s .tempoBeats)
   tempo-moved true place beat p = forward-le (s .tempoBeats) place beat p
@@ -48,14 +53,15 @@ module _ (s : Sources) (h : Heads) (plain : Plain s) (more : isOver s h ≡ fals
   pub turned-fit : Fit s h → Fit s (turn s h .heads)
   unfolding turn
   turned-fit f =
-      let stop-here = here s h plain more (s .stops) (h .stop) (beatHere s h) in
-      let delay-here = here s h plain more (s .delayBeats) (h .delay) (beatHere s h) in
-      let warp-here = here s h plain more (s .warpBeats) (h .warp) (beatHere s h) in
+      let stop-here = here (s .stops) (h .stop) (beatHere s h) in
+      let delay-here = here (s .delayBeats) (h .delay) (beatHere s h) in
+      let warp-here = here (s .warpBeats) (h .warp) (beatHere s h) in
       record {
         tempo = tempo-moved (warpMet s h) (h .tempo) (beatHere s h) (f .tempo);
         stop = moved (stopMet s h) (h .stop) 2 (length (s .stops) + 1) (f .stop) (λ e. omega (arith, stop-here e));
         delay = moved (delayMet s h) (h .delay) 1 (length (s .delayBeats)) (f .delay) (λ e. omega (arith, delay-here e));
         warp = moved (warpMet s h) (h .warp) 1 (length (s .warpBeats)) (f .warp) (λ e. omega (arith, warp-here e));
+        stopPair = pair-moved (stopMet s h) (h .stop) (f .stopPair);
       }
 
 -- ---- a turn made list by list

@@ -1,5 +1,5 @@
--- Lists whose beats are finite, of which every turn uses up an entry. Definitions only.
-use Prim.Native.Nat.{ℕ, _<_}
+-- Lists whose beats are finite, of which every turn uses up an entry, and whose columns are as long as one another. Definitions only.
+use Prim.Native.Nat.{ℕ, _%_, _<_}
 use mathlib.Core.List.{List}
 use mathlib.Core.Bool.{true, false}
 use mathlib.Core.Path.{_≡_}
@@ -16,3 +16,6 @@ pub record Plain (s : Sources) : Type 0 where
   pub stops : Numbers (s .stops)
   pub delays : Numbers (s .delayBeats)
   pub warps : Numbers (s .warpBeats)
+  pub stopPairs : length (s .stops) % 2 ≡ 0
+  pub delayColumns : length (s .delayBeats) ≡ length (s .delayValues)
+  pub warpColumns : length (s .warpBeats) ≡ length (s .warpLengths)

@@ -1,18 +1,17 @@
 // Warps and delays as the stops of an SM chart.
 use limits::Kind;
 ghost use mathlib.Core.Path.{_≡_};
-ghost use mathlib.Core.Bool.{true, false};
-ghost use Prim.Native.Nat.{_+_, _*_, _/_, _<_, _≤_, _^_};
+ghost use mathlib.Core.Bool.{true, false, not};
+ghost use Prim.Native.Nat.{_+_, _*_, _/_, _%_, _<_, _≤_, _^_};
 ghost use lib.Dec.{ltb, leb, eqb};
 ghost use lib.ListN.{length, getD, set};
-ghost use lib.Ieee.{nan, inf, ne, neg, le};
+ghost use lib.Ieee.{nan, inf, ne, lt};
 ghost use Rattle.picks.specs.Pick.{pick};
-ghost use Rattle.limits.specs.Numbers.{rangeOf, sizeOf, inRange, allIn, miss};
-ghost use Rattle.limits.specs.Refusals.{listNumber};
+ghost use Rattle.limits.specs.Numbers.{rangeOf};
 ghost use Rattle.order.specs.Order.{laid};
-ghost use Rattle.sm_stops.specs.Merging.{sources, none, lesser, meets, plus, forward, tempoPlace, less, onward, merged, atFirst};
+ghost use Rattle.sm_stops.specs.Merging.{sources, none, meets, plus, forward, tempoPlace, less, onward, merged, atFirst};
+ghost use Rattle.sm_stops.specs.InHand.{headAt, secondsAt};
 ghost use Rattle.sm_stops.specs.Plain.{Plain};
-ghost use Rattle.sm_stops.specs.Testing.{between, UpTo};
 ghost use Rattle.sm_stops.specs.Filling.{beatsIn, valuesIn, isEven, flatNumber, flat, listsNumber, StopsFilled, chosen};
 
 // What filling the work list answers: the refusal number, the entries written, and whether the caller's own stops are the answer.
@@ -35,61 +34,54 @@ fn read_at(list: &[f32], place: usize) -> f32
     0.0 / 0.0
 }
 
-fn lesser_of(least: f32, beats: &[f32], place: usize) -> f32
-    ensures { λ r. ⌜ r ≡ lesser least (now (beats .entry)) place ⌝ }
+// The beat of a list's head, and infinity beyond its end.
+fn head_at(beats: &[f32], place: usize) -> f32
+    ensures { λ r. ⌜ r ≡ headAt (now (beats .entry)) place ⌝ }
 {
     if place < beats.len() {
-        if beats[place] < least {
-            return beats[place];
-        }
-        return least;
+        return beats[place];
     }
-    least
+    1.0 / 0.0
 }
 
-// The least beat of the three heads.
-fn least_beat(
-    stop: usize,
-    delay: usize,
-    warp: usize,
-    stops: &[f32],
-    delay_beats: &[f32],
-    warp_beats: &[f32],
-) -> f32
-    ensures { λ r. ⌜ r ≡ lesser (lesser (lesser (inf false) (now (stops .entry)) stop) (now («delay_beats» .entry)) delay) (now («warp_beats» .entry)) warp ⌝ }
+fn lesser_of(least: f32, head: f32) -> f32
+    ensures { λ r. ⌜ r ≡ pick (lt head least) head least ⌝ }
 {
-    let first = lesser_of(1.0 / 0.0, stops, stop);
-    let second = lesser_of(first, delay_beats, delay);
-    lesser_of(second, warp_beats, warp)
+    if head < least { head } else { least }
 }
 
-fn is_met(beats: &[f32], place: usize, beat: f32) -> bool
-    ensures { λ r. ⌜ r ≡ meets (now (beats .entry)) place beat ⌝ }
+// Whether no head is left: the least beat is infinite then.
+fn is_over(least: f32) -> bool
+    ensures { λ r. ⌜ r ≡ not (lt least (inf false)) ⌝ }
 {
-    if place < beats.len() {
-        return beats[place] == beat;
+    if least < 1.0 / 0.0 {
+        return false;
     }
-    false
+    true
 }
 
-// A place in a list after a turn, and the sum with what the list has on its beat.
+// A list's next place and the beat there, after a turn, and the sum with what the list has on the turn's beat.
 struct Passed {
     place: usize,
+    head: f32,
     sum: f32,
 }
 
-fn pass_stop(stops: &[f32], place: usize, beat: f32) -> Passed
-    requires { ⌜ place < 2 ^ 63 ⌝ }
-    ensures { λ r. ⌜ (r .place ≡ onward (meets (now (stops .entry)) place beat) place 2) × (r .sum ≡ plus (meets (now (stops .entry)) place beat) none (getD (now (stops .entry)) (place + 1) nan)) ⌝ }
+fn pass_stop(stops: &[f32], place: usize, head: f32, beat: f32) -> Passed
+    requires { ⌜ (place < 2 ^ 63) × (place % 2 ≡ 0) × (length (now stops) % 2 ≡ 0) ⌝ }
+    requires { ⌜ (head ≡ headAt (now stops) place) × (lt beat (inf false) ≡ true) ⌝ }
+    ensures { λ r. ⌜ (r .place ≡ onward (meets (now (stops .entry)) place beat) place 2) × (r .sum ≡ plus (meets (now (stops .entry)) place beat) none (getD (now (stops .entry)) (place + 1) nan)) × (r .head ≡ headAt (now (stops .entry)) (r .place)) ⌝ }
 {
-    if is_met(stops, place, beat) {
+    if head == beat {
         return Passed {
             place: place + 2,
-            sum: 0.0 + read_at(stops, place + 1),
+            head: head_at(stops, place + 2),
+            sum: 0.0 + stops[place + 1],
         };
     }
     Passed {
         place: place,
+        head: head,
         sum: 0.0,
     }
 }
@@ -98,20 +90,24 @@ fn pass_delay(
     delay_beats: &[f32],
     delay_values: &[f32],
     place: usize,
+    head: f32,
     beat: f32,
     sum: f32,
 ) -> Passed
-    requires { ⌜ place < 2 ^ 63 ⌝ }
-    ensures { λ r. ⌜ (r .place ≡ onward (meets (now («delay_beats» .entry)) place beat) place 1) × (r .sum ≡ plus (meets (now («delay_beats» .entry)) place beat) sum (getD (now («delay_values» .entry)) place nan)) ⌝ }
+    requires { ⌜ (place < 2 ^ 63) × (length (now «delay_beats») ≡ length (now «delay_values»)) ⌝ }
+    requires { ⌜ (head ≡ headAt (now «delay_beats») place) × (lt beat (inf false) ≡ true) ⌝ }
+    ensures { λ r. ⌜ (r .place ≡ onward (meets (now («delay_beats» .entry)) place beat) place 1) × (r .sum ≡ plus (meets (now («delay_beats» .entry)) place beat) sum (getD (now («delay_values» .entry)) place nan)) × (r .head ≡ headAt (now («delay_beats» .entry)) (r .place)) ⌝ }
 {
-    if is_met(delay_beats, place, beat) {
+    if head == beat {
         return Passed {
             place: place + 1,
-            sum: sum + read_at(delay_values, place),
+            head: head_at(delay_beats, place + 1),
+            sum: sum + delay_values[place],
         };
     }
     Passed {
         place: place,
+        head: head,
         sum: sum,
     }
 }
@@ -132,10 +128,47 @@ fn tempo_up_to(tempo_beats: &[f32], place: usize, beat: f32) -> usize
     at
 }
 
-// The same of warps, and the place of the tempo in force.
+// The tempo in force: its place, the beat of the next one, and how long a beat lasts.
+struct Pace {
+    tempo: usize,
+    next: f32,
+    seconds: f32,
+}
+
+fn pace_up_to(
+    tempo_beats: &[f32],
+    tempo_values: &[f32],
+    tempo: usize,
+    next: f32,
+    seconds: f32,
+    beat: f32,
+) -> Pace
+    requires { ⌜ tempo ≤ length (now «tempo_beats») ⌝ }
+    requires { ⌜ (next ≡ headAt (now «tempo_beats») (tempo + 1)) × (seconds ≡ secondsAt (now «tempo_values») tempo) ⌝ }
+    ensures { λ r. ⌜ (r .tempo ≡ forward (now («tempo_beats» .entry)) tempo beat) × (r .next ≡ headAt (now («tempo_beats» .entry)) (r .tempo + 1)) × (r .seconds ≡ secondsAt (now («tempo_values» .entry)) (r .tempo)) ⌝ }
+{
+    if next <= beat {
+        let here = tempo_up_to(tempo_beats, tempo, beat);
+        return Pace {
+            tempo: here,
+            next: head_at(tempo_beats, here + 1),
+            seconds: 60.0 / read_at(tempo_values, here),
+        };
+    }
+    Pace {
+        tempo: tempo,
+        next: next,
+        seconds: seconds,
+    }
+}
+
+// The same of warps as of delays, and the tempo in force.
 struct Warped {
     tempo: usize,
+    next: f32,
+    seconds: f32,
     place: usize,
+    head: f32,
     sum: f32,
 }
 
@@ -145,48 +178,38 @@ fn pass_warp(
     warp_beats: &[f32],
     warp_lengths: &[f32],
     tempo: usize,
+    next: f32,
+    seconds: f32,
     place: usize,
+    head: f32,
     beat: f32,
     sum: f32,
 ) -> Warped
-    requires { ⌜ (tempo < 2 ^ 63) × (place < 2 ^ 63) ⌝ }
+    requires { ⌜ (tempo ≤ length (now «tempo_beats»)) × (place < 2 ^ 63) × (length (now «warp_beats») ≡ length (now «warp_lengths»)) ⌝ }
+    requires { ⌜ (next ≡ headAt (now «tempo_beats») (tempo + 1)) × (seconds ≡ secondsAt (now «tempo_values») tempo) ⌝ }
+    requires { ⌜ (head ≡ headAt (now «warp_beats») place) × (lt beat (inf false) ≡ true) ⌝ }
     ensures { λ r. ⌜ (r .tempo ≡ tempoPlace (meets (now («warp_beats» .entry)) place beat) (now («tempo_beats» .entry)) tempo beat) × (r .place ≡ onward (meets (now («warp_beats» .entry)) place beat) place 1) × (r .sum ≡ less (meets (now («warp_beats» .entry)) place beat) sum (getD (now («tempo_values» .entry)) (r .tempo) nan) (getD (now («warp_lengths» .entry)) place nan)) ⌝ }
+    ensures { λ r. ⌜ (r .next ≡ headAt (now («tempo_beats» .entry)) (r .tempo + 1)) × (r .seconds ≡ secondsAt (now («tempo_values» .entry)) (r .tempo)) × (r .head ≡ headAt (now («warp_beats» .entry)) (r .place)) ⌝ }
 {
-    if is_met(warp_beats, place, beat) {
-        let here = tempo_up_to(tempo_beats, tempo, beat);
+    if head == beat {
+        let pace = pace_up_to(tempo_beats, tempo_values, tempo, next, seconds, beat);
         return Warped {
-            tempo: here,
+            tempo: pace.tempo,
+            next: pace.next,
+            seconds: pace.seconds,
             place: place + 1,
-            sum: sum - 60.0 / read_at(tempo_values, here) * read_at(warp_lengths, place),
+            head: head_at(warp_beats, place + 1),
+            sum: sum - pace.seconds * warp_lengths[place],
         };
     }
     Warped {
         tempo: tempo,
+        next: next,
+        seconds: seconds,
         place: place,
+        head: head,
         sum: sum,
     }
-}
-
-fn is_over(
-    stop: usize,
-    delay: usize,
-    warp: usize,
-    stops: &[f32],
-    delay_beats: &[f32],
-    warp_beats: &[f32],
-) -> bool
-    ensures { λ r. ⌜ r ≡ pick (ltb stop (length (now (stops .entry)))) false (pick (ltb delay (length (now («delay_beats» .entry)))) false (pick (ltb warp (length (now («warp_beats» .entry)))) false true)) ⌝ }
-{
-    if stop < stops.len() {
-        return false;
-    }
-    if delay < delay_beats.len() {
-        return false;
-    }
-    if warp < warp_beats.len() {
-        return false;
-    }
-    true
 }
 
 // ---- all turns
@@ -222,31 +245,51 @@ fn lay_stops(
     ensures { λ _. ⌜ now (work .exit) ≡ laid (flat (merged (sources (now («tempo_beats» .entry)) (now («tempo_values» .entry)) (now (stops .entry)) (now («delay_beats» .entry)) (now («delay_values» .entry)) (now («warp_beats» .entry)) (now («warp_lengths» .entry))) atFirst)) (now (work .entry)) ⌝ }
 {
     let mut tempo: usize = 0;
+    let mut next = head_at(tempo_beats, 1);
+    let mut seconds = 60.0 / read_at(tempo_values, 0);
     let mut stop: usize = 0;
+    let mut stop_beat = head_at(stops, 0);
     let mut delay: usize = 0;
+    let mut delay_beat = head_at(delay_beats, 0);
     let mut warp: usize = 0;
+    let mut warp_beat = head_at(warp_beats, 0);
     let mut at: usize = 0;
     loop {
-        if is_over(stop, delay, warp, stops, delay_beats, warp_beats) {
+        let beat = lesser_of(lesser_of(stop_beat, delay_beat), warp_beat);
+        if is_over(beat) {
             return at;
         }
-        let beat = least_beat(stop, delay, warp, stops, delay_beats, warp_beats);
-        let stopped = pass_stop(stops, stop, beat);
-        let delayed = pass_delay(delay_beats, delay_values, delay, beat, stopped.sum);
+        let stopped = pass_stop(stops, stop, stop_beat, beat);
+        let delayed = pass_delay(
+            delay_beats,
+            delay_values,
+            delay,
+            delay_beat,
+            beat,
+            stopped.sum,
+        );
         let warped = pass_warp(
             tempo_beats,
             tempo_values,
             warp_beats,
             warp_lengths,
             tempo,
+            next,
+            seconds,
             warp,
+            warp_beat,
             beat,
             delayed.sum,
         );
         tempo = warped.tempo;
+        next = warped.next;
+        seconds = warped.seconds;
         stop = stopped.place;
+        stop_beat = stopped.head;
         delay = delayed.place;
+        delay_beat = delayed.head;
         warp = warped.place;
+        warp_beat = warped.head;
         at = lay_sum(work, at, beat, warped.sum);
     }
 }
@@ -285,116 +328,30 @@ fn has_room(
 
 // ---- refusals
 
-fn magnitude(x: f32) -> f32
-    ensures { λ r. ⌜ r ≡ sizeOf x ⌝ }
-{
-    if x < 0.0 { -x } else { x }
-}
-
-// Whether a number lies between the two numbers of a size.
-fn lies_within(most: f32, x: f32) -> bool
-    ensures { λ r. ⌜ r ≡ pick (le (neg most) x) (le x most) false ⌝ }
-{
-    if -most <= x {
-        return x <= most;
-    }
-    false
-}
-
-// Whether a number's size is from the least to the most; where zeros are taken the least is 0. In f32, so that a loop does it for four at a time.
-fn in_range(least: f32, most: f32, zeros: bool, x: f32) -> bool
-    requires { ⌜ (zeros ≡ true → UpTo least most) ⌝ }
-    ensures { λ r. ⌜ r ≡ inRange (between least most zeros) x ⌝ }
-{
-    if zeros {
-        return lies_within(most, x);
-    }
-    let size = magnitude(x);
-    if size <= most {
-        return size >= least;
-    }
-    false
-}
-
-fn one_outside(least: f32, most: f32, zeros: bool, x: f32) -> u32
-    requires { ⌜ (zeros ≡ true → UpTo least most) ⌝ }
-    ensures { λ r. ⌜ r ≡ miss (inRange (between least most zeros)) x ⌝ }
-{
-    if in_range(least, most, zeros, x) {
-        0
-    } else {
-        1
-    }
-}
-
-fn worse_of(one: u32, other: u32) -> u32
-    ensures { λ r. ⌜ r ≡ pick (ltb one other) other one ⌝ }
-{
-    if one < other { other } else { one }
-}
-
-// Whether every number of a column is in a range.
-fn column_taken(least: f32, most: f32, zeros: bool, column: &[f32]) -> bool
-    requires { ⌜ (zeros ≡ true → UpTo least most) ⌝ }
-    ensures { λ r. ⌜ r ≡ allIn (between least most zeros) (now (column .entry)) ⌝ }
-{
-    let mut worst: u32 = 0;
-    let mut i = 0;
-    while i < column.len() {
-        worst = worse_of(worst, one_outside(least, most, zeros, column[i]));
-        i += 1;
-    }
-    worst == 0
-}
-
-// What a list of beats and of values in a range answers by itself.
-fn pair_number(least: f32, most: f32, zeros: bool, beats: &[f32], values: &[f32]) -> u32
-    requires { ⌜ (zeros ≡ true → UpTo least most) ⌝ }
-    ensures { λ r. ⌜ r ≡ listNumber (rangeOf Kind.Beat) (between least most zeros) (now (beats .entry)) (now (values .entry)) ⌝ }
-{
-    if beats.len() > limits::MOST_ENTRIES {
-        return limits::TOO_LONG;
-    }
-    if values.len() > limits::MOST_ENTRIES {
-        return limits::TOO_LONG;
-    }
-    if beats.len() != values.len() {
-        return limits::UNEVEN;
-    }
-    if !column_taken(0.0, 65536.0, true, beats) {
-        return limits::BAD_BEAT;
-    }
-    if !column_taken(least, most, zeros, values) {
-        return limits::BAD_VALUE;
-    }
-    limits::TAKEN
-}
-
 fn flat_beats_taken(list: &[f32]) -> bool
     ensures { λ r. ⌜ r ≡ beatsIn (rangeOf Kind.Beat) (now (list .entry)) ⌝ }
 {
-    let mut worst: u32 = 0;
     let mut i = 0;
     while i < list.len() {
-        worst = worse_of(worst, one_outside(0.0, 65536.0, true, list[i]));
+        if !limits::taken(Kind::Beat, std::num::f32_to_f64_with_nan(list[i])) {
+            return false;
+        }
         i += 2;
     }
-    worst == 0
+    true
 }
 
 fn flat_values_taken(list: &[f32]) -> bool
     ensures { λ r. ⌜ r ≡ valuesIn (rangeOf Kind.Pause) (now (list .entry)) ⌝ }
 {
-    let mut worst: u32 = 0;
     let mut i = 0;
     while i + 1 < list.len() {
-        worst = worse_of(
-            worst,
-            one_outside(0.0, 1125899906842624.0, true, list[i + 1]),
-        );
+        if !limits::taken(Kind::Pause, std::num::f32_to_f64_with_nan(list[i + 1])) {
+            return false;
+        }
         i += 2;
     }
-    worst == 0
+    true
 }
 
 fn is_even(size: usize) -> bool
@@ -403,7 +360,7 @@ fn is_even(size: usize) -> bool
     size % 2 == 0
 }
 
-// What a flat list answers by itself.
+// What a flat list answers by itself. Values are hardly ever beyond what beats are taken up to, so one test of all numbers is usually enough.
 fn flat_number(list: &[f32]) -> u32
     ensures { λ r. ⌜ r ≡ flatNumber (rangeOf Kind.Beat) (rangeOf Kind.Pause) (now (list .entry)) ⌝ }
 {
@@ -412,6 +369,9 @@ fn flat_number(list: &[f32]) -> u32
     }
     if !is_even(list.len()) {
         return limits::UNEVEN;
+    }
+    if limits::column_taken_f32(Kind::Beat, list) {
+        return limits::TAKEN;
     }
     if !flat_beats_taken(list) {
         return limits::BAD_BEAT;
@@ -443,16 +403,10 @@ fn lists_number(
 ) -> u32
     ensures { λ r. ⌜ r ≡ listsNumber (sources (now («tempo_beats» .entry)) (now («tempo_values» .entry)) (now (stops .entry)) (now («delay_beats» .entry)) (now («delay_values» .entry)) (now («warp_beats» .entry)) (now («warp_lengths» .entry))) size ⌝ }
 {
-    let tempos = pair_number(
-        9.5367431640625e-7,
-        1073741824.0,
-        false,
-        tempo_beats,
-        tempo_values,
-    );
+    let tempos = limits::list_number_f32(Kind::Beat, Kind::Tempo, tempo_beats, tempo_values);
     let own = flat_number(stops);
-    let delays = pair_number(0.0, 1125899906842624.0, true, delay_beats, delay_values);
-    let warps = pair_number(0.0, 1073741824.0, true, warp_beats, warp_lengths);
+    let delays = limits::list_number_f32(Kind::Beat, Kind::Pause, delay_beats, delay_values);
+    let warps = limits::list_number_f32(Kind::Beat, Kind::Value, warp_beats, warp_lengths);
     let room = work_number(size);
     let first = limits::lower_of(tempos, own);
     let others = limits::lower_of(delays, warps);

@@ -1,10 +1,14 @@
 -- `sm_stops::lay_stops` lays the sums. Assumes nothing.
 use Rattle.sm_stops.proofs.TurnByTurn.{Fit, first-fit, turned-fit, list-by-list, sum-room, laid-turn}
-use Rattle.sm_stops.proofs.EveryTurnMeets.{left-falls, merged-end}
+use Rattle.sm_stops.proofs.EveryTurnMeets.{left-falls, merged-end, over-by-least}
+use Rattle.sm_stops.proofs.HeadsInHand.{InHand, least-in-hand}
 use Rattle.sm_stops.specs.Filling.{flat}
 use Rattle.order.proofs.LaidOverFront.{Laying, laying-none, laying-count, laying-all}
-use Rattle.sm_stops.specs.Merging.{Sources, Heads, Turned, sources, isOver, turn, left, merged, atFirst}
-use lib.ListN.{length}
+use Rattle.sm_stops.specs.Merging.{Sources, Heads, Turned, sources, leastBeat, beatHere, isOver, turn, left, merged, atFirst}
+use Rattle.sm_stops.specs.Plain.{Plain}
+use borrow.Author.Tests.{not-false}
+use lib.Ieee.{Float, inf, lt, ofBits}
+use mathlib.Core.Bool.{true, false, not}
 use mathlib.Core.Path.{_≡_, sym, ap, _∙_, subst}
 use native.Mathlib.Omega.{arith}
 use Prim.Native.Nat.{_<_}
@@ -13,98 +17,150 @@ use Rattle.sm_stops.proofs.lay_stops.Statement.{statement}
 use Rattle.sm_stops.proofs.lay_stops.Tie as tie
 
 abbrev Inv-loop : tie.InvT-loop
-Inv-loop tempo-beats tempo-values stops delay-beats delay-values warp-beats warp-lengths work₀ tempo₀ stop₀ delay₀ warp₀ at₀ work tempo stop delay warp at =
-    Laying (flat (merged (sources tempo-beats tempo-values stops delay-beats delay-values warp-beats warp-lengths) atFirst)) work₀ work (flat (merged (sources tempo-beats tempo-values stops delay-beats delay-values warp-beats warp-lengths) (record { tempo = tempo; stop = stop; delay = delay; warp = warp }))) at × Fit (sources tempo-beats tempo-values stops delay-beats delay-values warp-beats warp-lengths) (record { tempo = tempo; stop = stop; delay = delay; warp = warp })
+Inv-loop tempo-beats tempo-values stops delay-beats delay-values warp-beats warp-lengths work₀ tempo₀ next₀ seconds₀ stop₀ stop-beat₀ delay₀ delay-beat₀ warp₀ warp-beat₀ at₀ work tempo next seconds stop stop-beat delay delay-beat warp warp-beat at =
+    Laying (flat (merged (sources tempo-beats tempo-values stops delay-beats delay-values warp-beats warp-lengths) atFirst)) work₀ work (flat (merged (sources tempo-beats tempo-values stops delay-beats delay-values warp-beats warp-lengths) (record { tempo = tempo; stop = stop; delay = delay; warp = warp }))) at × Fit (sources tempo-beats tempo-values stops delay-beats delay-values warp-beats warp-lengths) (record { tempo = tempo; stop = stop; delay = delay; warp = warp }) × InHand (sources tempo-beats tempo-values stops delay-beats delay-values warp-beats warp-lengths) (record { tempo = tempo; stop = stop; delay = delay; warp = warp }) next seconds stop-beat delay-beat warp-beat
 
 abbrev μ-loop : tie.MeasureT-loop
-μ-loop tempo-beats tempo-values stops delay-beats delay-values warp-beats warp-lengths work₀ tempo₀ stop₀ delay₀ warp₀ at₀ work tempo stop delay warp at =
+μ-loop tempo-beats tempo-values stops delay-beats delay-values warp-beats warp-lengths work₀ tempo₀ next₀ seconds₀ stop₀ stop-beat₀ delay₀ delay-beat₀ warp₀ warp-beat₀ at₀ work tempo next seconds stop stop-beat delay delay-beat warp warp-beat at =
     left (sources tempo-beats tempo-values stops delay-beats delay-values warp-beats warp-lengths) (record { tempo = tempo; stop = stop; delay = delay; warp = warp })
 
+-- ---- where the loop stands
+abbrev lists : tie.At-loop Inv-loop μ-loop → Sources
+lists c =
+    let a = c .before .before .before .before .before .before .before .before .before .before .before .before .before .before .args in
+    sources (a .tempo-beats .now) (a .tempo-values .now) (a .stops .now) (a .delay-beats .now) (a .delay-values .now) (a .warp-beats .now) (a .warp-lengths .now)
+
+abbrev heads : tie.At-loop Inv-loop μ-loop → Heads
+heads c = record { tempo = c .loop .tempo; stop = c .loop .stop; delay = c .loop .delay; warp = c .loop .warp }
+
+plain : (c : tie.At-loop Inv-loop μ-loop) → Plain (lists c)
+plain c = c .before .before .before .before .before .before .before .before .before .before .before .before .before .before .pre .0
+
+-- ---- one turn
+least : (c : tie.After-lesser-of2 Inv-loop μ-loop) → c .lesser-of2 .result ≡ beatHere (lists (c .before .before)) (heads (c .before .before))
+least c =
+    let l = c .before .before in
+    least-in-hand (lists l) (heads l) (l .loop .next) (l .loop .seconds) (l .loop .stop-beat) (l .loop .delay-beat) (l .loop .warp-beat) (plain l) (l .loop .inv .2) (c .before .lesser-of .result) (c .lesser-of2 .result) (c .before .lesser-of .ensures) (c .lesser-of2 .ensures)
+
+over : (c : tie.After-is-over Inv-loop μ-loop) → c .is-over .result ≡ isOver (lists (c .before .before .before)) (heads (c .before .before .before))
+over c =
+    let l = c .before .before .before in
+    c .is-over .ensures ∙ ap (λ (x : Float). not (lt x (inf false))) (least (c .before)) ∙ over-by-least (lists l) (heads l) (plain l)
+
+finite : (c : tie.Else1 Inv-loop μ-loop) → lt (c .before .before .lesser-of2 .result) (inf false) ≡ true
+finite c = not-false (lt (c .before .before .lesser-of2 .result) (inf false)) (sym (c .before .is-over .ensures) ∙ c .if1 .left)
+
+more : (c : tie.Else1 Inv-loop μ-loop) → isOver (lists (c .before .before .before .before)) (heads (c .before .before .before .before)) ≡ false
+more c = sym (over (c .before)) ∙ c .if1 .left
+
+abbrev made : tie.After-pass-warp Inv-loop μ-loop → Turned
+made c = record {
+  heads = record { tempo = c .pass-warp .result .tempo; stop = c .before .before .pass-stop .result .place; delay = c .before .pass-delay .result .place; warp = c .pass-warp .result .place };
+  beat = c .before .before .before .before .before .lesser-of2 .result;
+  value = c .pass-warp .result .sum;
+}
+
+is : (c : tie.After-pass-warp Inv-loop μ-loop) → made c ≡ turn (lists (c .before .before .before .before .before .before .before)) (heads (c .before .before .before .before .before .before .before))
+unfolding leastBeat
+is c =
+    let l = c .before .before .before .before .before .before .before in
+    let stopped = c .before .before .pass-stop in
+    let delayed = c .before .pass-delay in
+    let warped = c .pass-warp in
+    list-by-list (lists l) (heads l) (c .before .before .before .before .before .lesser-of2 .result) (least (c .before .before .before .before .before)) (stopped .result .place) (delayed .result .place) (warped .result .tempo) (warped .result .place) (stopped .result .sum) (delayed .result .sum) (warped .result .sum) (stopped .ensures .0) (stopped .ensures .1) (delayed .ensures .0) (delayed .ensures .1) (warped .ensures .0 .0) (warped .ensures .0 .1) (warped .ensures .0 .2)
+
+-- ---- what is asked
+head-at-requires : tie.Need-head-at-requires Inv-loop μ-loop
+head-at-requires c κs = search needs
+
+read-at-requires : tie.Need-read-at-requires Inv-loop μ-loop
+read-at-requires c κs = search needs
+
+head-at-requires-2 : tie.Need-head-at-requires-2 Inv-loop μ-loop
+head-at-requires-2 c κs = search needs
+
+head-at-requires-3 : tie.Need-head-at-requires-3 Inv-loop μ-loop
+head-at-requires-3 c κs = search needs
+
+head-at-requires-4 : tie.Need-head-at-requires-4 Inv-loop μ-loop
+head-at-requires-4 c κs = search needs
+
 loop-holds : tie.Need-loop-holds Inv-loop μ-loop
+unfolding ofBits
 loop-holds c =
-    let a = c .before .before .before .before .before .before .before .before .args in
-    let s : Sources = sources (a .tempo-beats .now) (a .tempo-values .now) (a .stops .now) (a .delay-beats .now) (a .delay-values .now) (a .warp-beats .now) (a .warp-lengths .now) in
-    (laying-none (flat (merged s atFirst)) (a .work .now), first-fit s)
+    let a = c .before .before .before .before .before .before .before .before .before .before .before .before .before .args in
+    let s : Sources = sources (a .tempo-beats .now) (a .tempo-values .now) (a .stops .now) (a .delay-beats .now) (a .delay-values .now) (a .warp-beats .now) (a .warp-lengths .now) in (
+      laying-none (flat (merged s atFirst)) (a .work .now),
+      first-fit s,
+      record {
+        next = c .before .before .before .before .head-at .ensures;
+        seconds = rw (c .before .before .before .read-at .ensures);
+        stop = c .before .before .head-at2 .ensures;
+        delay = c .before .head-at3 .ensures;
+        warp = c .head-at4 .ensures;
+      },
+    )
+
+lesser-of-requires : tie.Need-lesser-of-requires Inv-loop μ-loop
+lesser-of-requires c κs = search needs
+
+lesser-of-requires-2 : tie.Need-lesser-of-requires-2 Inv-loop μ-loop
+lesser-of-requires-2 c κs = search needs
 
 is-over-requires : tie.Need-is-over-requires Inv-loop μ-loop
 is-over-requires c κs = search needs
 
 same-length : tie.Need-same-length Inv-loop μ-loop
-same-length c = c .before .before .loop .inv .0 .size
+same-length c = c .before .before .before .before .loop .inv .0 .size
 
 returns : tie.Need-returns Inv-loop μ-loop
-unfolding isOver flat
+unfolding flat
 returns c =
-    let a = c .before .before .before .before .before .before .before .before .before .before .before .args in
-    let s : Sources = sources (a .tempo-beats .now) (a .tempo-values .now) (a .stops .now) (a .delay-beats .now) (a .delay-values .now) (a .warp-beats .now) (a .warp-lengths .now) in
-    let l = c .before .before .loop in
-    let h : Heads = record { tempo = l .tempo; stop = l .stop; delay = l .delay; warp = l .warp } in
-    let plain = c .before .before .before .before .before .before .before .before .before .before .before .pre .0 in
-    let none = ap flat (merged-end s plain h (sym (c .before .is-over .ensures) ∙ c .if1 .taken)) in
-    (laying-count (flat (merged s atFirst)) (a .work .now) (l .work) (flat (merged s h)) (l .at) (l .inv .0) none, laying-all (flat (merged s atFirst)) (a .work .now) (l .work) (flat (merged s h)) (l .at) (l .inv .0) none)
-
-least-beat-requires : tie.Need-least-beat-requires Inv-loop μ-loop
-least-beat-requires c κs = search needs
+    let l = c .before .before .before .before in
+    let s = lists l in
+    let none = ap flat (merged-end s (plain l) (heads l) (sym (over (c .before)) ∙ c .if1 .taken)) in
+    (laying-count (flat (merged s atFirst)) (l .before .before .before .before .before .before .before .before .before .before .before .before .before .before .args .work .now) (l .loop .work) (flat (merged s (heads l))) (l .loop .at) (l .loop .inv .0) none, laying-all (flat (merged s atFirst)) (l .before .before .before .before .before .before .before .before .before .before .before .before .before .before .args .work .now) (l .loop .work) (flat (merged s (heads l))) (l .loop .at) (l .loop .inv .0) none)
 
 pass-stop-requires : tie.Need-pass-stop-requires Inv-loop μ-loop
-pass-stop-requires c κs = omega (arith, c .before .before .before .loop .inv .1 .stop, c .before .before .before .before .before .before .before .before .before .before .before .before .good .1 .1 .0 .1)
+pass-stop-requires c κs =
+    let l = c .before .before .before .before in
+    ((omega (arith, l .loop .inv .1 .stop, l .before .before .before .before .before .before .before .before .before .before .before .before .before .before .good .1 .1 .0 .1), l .loop .inv .1 .stopPair, plain l .stopPairs), (l .loop .inv .2 .stop, finite c))
 
 pass-delay-requires : tie.Need-pass-delay-requires Inv-loop μ-loop
-pass-delay-requires c κs = omega (arith, c .before .before .before .before .loop .inv .1 .delay, c .before .before .before .before .before .before .before .before .before .before .before .before .before .good .1 .1 .1 .0 .1)
+pass-delay-requires c κs =
+    let l = c .before .before .before .before .before in
+    ((omega (arith, l .loop .inv .1 .delay, l .before .before .before .before .before .before .before .before .before .before .before .before .before .before .good .1 .1 .1 .0 .1), plain l .delayColumns), (l .loop .inv .2 .delay, finite (c .before)))
 
 pass-warp-requires : tie.Need-pass-warp-requires Inv-loop μ-loop
-pass-warp-requires c κs = (omega (arith, c .before .before .before .before .before .loop .inv .1 .tempo, c .before .before .before .before .before .before .before .before .before .before .before .before .before .before .good .0 .1), omega (arith, c .before .before .before .before .before .loop .inv .1 .warp, c .before .before .before .before .before .before .before .before .before .before .before .before .before .before .good .1 .1 .1 .1 .1 .0 .1))
+pass-warp-requires c κs =
+    let l = c .before .before .before .before .before .before in
+    let hand = l .loop .inv .2 in
+    ((l .loop .inv .1 .tempo, omega (arith, l .loop .inv .1 .warp, l .before .before .before .before .before .before .before .before .before .before .before .before .before .before .good .1 .1 .1 .1 .1 .0 .1), plain l .warpColumns), ((hand .next, hand .seconds), (hand .warp, finite (c .before .before))))
 
 lay-sum-requires : tie.Need-lay-sum-requires Inv-loop μ-loop
-unfolding isOver
 lay-sum-requires c κs =
-    let a = c .before .before .before .before .before .before .before .before .before .before .before .before .before .before .before .before .args in
-    let s : Sources = sources (a .tempo-beats .now) (a .tempo-values .now) (a .stops .now) (a .delay-beats .now) (a .delay-values .now) (a .warp-beats .now) (a .warp-lengths .now) in
-    let l = c .before .before .before .before .before .before .before .loop in
-    let h : Heads = record { tempo = l .tempo; stop = l .stop; delay = l .delay; warp = l .warp } in
-    let plain = c .before .before .before .before .before .before .before .before .before .before .before .before .before .before .before .before .pre .0 in
-    let more = sym (c .before .before .before .before .before .before .is-over .ensures) ∙ c .before .before .before .before .before .if1 .left in
-    let stopped = c .before .before .before .pass-stop in
-    let delayed = c .before .before .pass-delay in
-    let warped = c .before .pass-warp in
-    let beat = c .before .before .before .before .least-beat .result in
-    let t : Turned = record { heads = record { tempo = warped .result .tempo; stop = stopped .result .place; delay = delayed .result .place; warp = warped .result .place }; beat = beat; value = warped .result .sum } in
-    let is : t ≡ turn s h = list-by-list s h beat (c .before .before .before .before .least-beat .ensures) (stopped .result .place) (delayed .result .place) (warped .result .tempo) (warped .result .place) (stopped .result .sum) (delayed .result .sum) (warped .result .sum) (stopped .ensures .0) (stopped .ensures .1) (delayed .ensures .0) (delayed .ensures .1) (warped .ensures .0) (warped .ensures .1) (warped .ensures .2) in
-    (sum-room s h plain (flat (merged s atFirst)) (a .work .now) (l .work) (l .at) (l .inv .0) (c .before .before .before .before .before .before .before .before .before .before .before .before .before .before .before .before .pre .1) more t is, omega (arith, l .inv .0 .within, l .inv .0 .size, c .before .before .before .before .before .before .before .before .before .before .before .before .before .before .before .before .good .1 .1 .1 .1 .1 .1 .1 .0 .1))
+    let l = c .before .before .before .before .before .before .before .before in
+    (sum-room (lists l) (heads l) (plain l) (flat (merged (lists l) atFirst)) (l .before .before .before .before .before .before .before .before .before .before .before .before .before .before .args .work .now) (l .loop .work) (l .loop .at) (l .loop .inv .0) (l .before .before .before .before .before .before .before .before .before .before .before .before .before .before .pre .1) (more (c .before .before .before .before)) (made (c .before)) (is (c .before)), omega (arith, l .loop .inv .0 .within, l .loop .inv .0 .size, l .before .before .before .before .before .before .before .before .before .before .before .before .before .before .good .1 .1 .1 .1 .1 .1 .1 .0 .1))
 
 loop-less : tie.Need-loop-less Inv-loop μ-loop
-unfolding isOver
 loop-less c =
-    let a = c .before .before .before .before .before .before .before .before .before .before .before .before .before .before .before .before .before .before .before .args in
-    let s : Sources = sources (a .tempo-beats .now) (a .tempo-values .now) (a .stops .now) (a .delay-beats .now) (a .delay-values .now) (a .warp-beats .now) (a .warp-lengths .now) in
-    let l = c .before .before .before .before .before .before .before .before .before .before .loop in
-    let h : Heads = record { tempo = l .tempo; stop = l .stop; delay = l .delay; warp = l .warp } in
-    let plain = c .before .before .before .before .before .before .before .before .before .before .before .before .before .before .before .before .before .before .before .pre .0 in
-    let more = sym (c .before .before .before .before .before .before .before .before .before .is-over .ensures) ∙ c .before .before .before .before .before .before .before .before .if1 .left in
-    let stopped = c .before .before .before .before .before .before .pass-stop in
-    let delayed = c .before .before .before .before .before .pass-delay in
-    let warped = c .before .before .before .before .pass-warp in
-    let beat = c .before .before .before .before .before .before .before .least-beat .result in
-    let t : Turned = record { heads = record { tempo = warped .result .tempo; stop = stopped .result .place; delay = delayed .result .place; warp = warped .result .place }; beat = beat; value = warped .result .sum } in
-    let is : t ≡ turn s h = list-by-list s h beat (c .before .before .before .before .before .before .before .least-beat .ensures) (stopped .result .place) (delayed .result .place) (warped .result .tempo) (warped .result .place) (stopped .result .sum) (delayed .result .sum) (warped .result .sum) (stopped .ensures .0) (stopped .ensures .1) (delayed .ensures .0) (delayed .ensures .1) (warped .ensures .0) (warped .ensures .1) (warped .ensures .2) in
-    subst (λ (t : Turned). left s (t .heads) < left s h) (sym is) (left-falls s h plain more)
+    let l = c .before .before .before .before .before .before .before .before .before .before .before in
+    subst (λ (t : Turned). left (lists l) (t .heads) < left (lists l) (heads l)) (sym (is (c .before .before .before .before))) (left-falls (lists l) (heads l) (plain l) (more (c .before .before .before .before .before .before .before)))
 
 loop-again : tie.Need-loop-again Inv-loop μ-loop
-unfolding isOver
 loop-again c =
-    let a = c .before .before .before .before .before .before .before .before .before .before .before .before .before .before .before .before .before .before .before .args in
-    let s : Sources = sources (a .tempo-beats .now) (a .tempo-values .now) (a .stops .now) (a .delay-beats .now) (a .delay-values .now) (a .warp-beats .now) (a .warp-lengths .now) in
-    let l = c .before .before .before .before .before .before .before .before .before .before .loop in
-    let h : Heads = record { tempo = l .tempo; stop = l .stop; delay = l .delay; warp = l .warp } in
-    let plain = c .before .before .before .before .before .before .before .before .before .before .before .before .before .before .before .before .before .before .before .pre .0 in
-    let more = sym (c .before .before .before .before .before .before .before .before .before .is-over .ensures) ∙ c .before .before .before .before .before .before .before .before .if1 .left in
-    let stopped = c .before .before .before .before .before .before .pass-stop in
-    let delayed = c .before .before .before .before .before .pass-delay in
-    let warped = c .before .before .before .before .pass-warp in
-    let beat = c .before .before .before .before .before .before .before .least-beat .result in
-    let t : Turned = record { heads = record { tempo = warped .result .tempo; stop = stopped .result .place; delay = delayed .result .place; warp = warped .result .place }; beat = beat; value = warped .result .sum } in
-    let is : t ≡ turn s h = list-by-list s h beat (c .before .before .before .before .before .before .before .least-beat .ensures) (stopped .result .place) (delayed .result .place) (warped .result .tempo) (warped .result .place) (stopped .result .sum) (delayed .result .sum) (warped .result .sum) (stopped .ensures .0) (stopped .ensures .1) (delayed .ensures .0) (delayed .ensures .1) (warped .ensures .0) (warped .ensures .1) (warped .ensures .2) in
-    (laid-turn s h plain (flat (merged s atFirst)) (a .work .now) (l .work) (l .at) (l .inv .0) (c .before .before .before .before .before .before .before .before .before .before .before .before .before .before .before .before .before .before .before .pre .1) more t is (c .before .before .lay-sum .result) (c .before .before .lay-sum .last .0) (c .before .before .lay-sum .ensures .0) (c .before .before .lay-sum .ensures .1), subst (λ (t : Turned). Fit s (t .heads)) (sym is) (turned-fit s h plain more (l .inv .1)))
+    let l = c .before .before .before .before .before .before .before .before .before .before .before in
+    let laid = c .before .before .lay-sum in (
+      laid-turn (lists l) (heads l) (plain l) (flat (merged (lists l) atFirst)) (l .before .before .before .before .before .before .before .before .before .before .before .before .before .before .args .work .now) (l .loop .work) (l .loop .at) (l .loop .inv .0) (l .before .before .before .before .before .before .before .before .before .before .before .before .before .before .pre .1) (more (c .before .before .before .before .before .before .before)) (made (c .before .before .before .before)) (is (c .before .before .before .before)) (laid .result) (laid .last .0) (laid .ensures .0) (laid .ensures .1),
+      subst (λ (t : Turned). Fit (lists l) (t .heads)) (sym (is (c .before .before .before .before))) (turned-fit (lists l) (heads l) (plain l) (more (c .before .before .before .before .before .before .before)) (l .loop .inv .1)),
+      record {
+        next = c .before .before .before .before .pass-warp .ensures .1 .0;
+        seconds = c .before .before .before .before .pass-warp .ensures .1 .1;
+        stop = c .before .before .before .before .before .before .pass-stop .ensures .2;
+        delay = c .before .before .before .before .before .pass-delay .ensures .2;
+        warp = c .before .before .before .before .pass-warp .ensures .1 .2;
+      },
+    )
 
 pub lay-stops-spec : {M : Type 1} → statement M
 lay-stops-spec =
@@ -112,11 +168,17 @@ lay-stops-spec =
     (tie.spec
     Inv-loop
     μ-loop
+    head-at-requires
+    read-at-requires
+    head-at-requires-2
+    head-at-requires-3
+    head-at-requires-4
     loop-holds
+    lesser-of-requires
+    lesser-of-requires-2
     is-over-requires
     same-length
     returns
-    least-beat-requires
     pass-stop-requires
     pass-delay-requires
     pass-warp-requires

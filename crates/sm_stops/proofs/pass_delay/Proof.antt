@@ -1,26 +1,51 @@
 -- `sm_stops::pass_delay` passes what delays have on the beat. Assumes nothing.
-use lib.Ieee.{ofBits}
-use mathlib.Core.Path.{refl, sym, _∙_}
+use Prim.Native.Nat.{_<_}
+use mathlib.Core.Bool.{true}
+use mathlib.Core.Path.{_≡_, refl}
+use native.Mathlib.Omega.{arith}
+use lib.ListN.{length}
+use Rattle.sm_stops.specs.Merging.{meets}
+use Rattle.sm_stops.proofs.EveryTurnMeets.{here}
+use Rattle.sm_stops.proofs.HeadsInHand.{met-as}
 use borrow.Author.Needs.{needs}
 use Rattle.sm_stops.proofs.pass_delay.Statement.{statement}
 use Rattle.sm_stops.proofs.pass_delay.Tie as tie
 
-is-met-requires : tie.Need-is-met-requires
-is-met-requires c κs = search needs
+met : (c : tie.Then1) → meets (c .before .before .before .args .delay-beats .now) (c .before .before .before .args .place) (c .before .before .before .args .beat) ≡ true
+met c =
+    let start = c .before .before .before in
+    met-as (start .args .delay-beats .now) (start .args .place) (start .args .head) (start .args .beat) (start .pre .1 .0) (start .pre .1 .1) (c .if1 .taken)
 
-add-t7 : tie.Need-add-t7
-add-t7 c = search needs
+inside : (c : tie.Then1) → c .before .before .before .args .place < length (c .before .before .before .args .delay-values .now)
+inside c =
+    let start = c .before .before .before in
+    omega (arith, here (start .args .delay-beats .now) (start .args .place) (start .args .beat) (met c), start .pre .0 .1)
 
-read-at-requires : tie.Need-read-at-requires
-read-at-requires c κs = search needs
+add-t8 : tie.Need-add-t8
+add-t8 c = search needs
+
+add-head-at : tie.Need-add-head-at
+add-head-at c = search needs
+
+head-at-requires : tie.Need-head-at-requires
+head-at-requires c κs = search needs
+
+mul-t11 : tie.Need-mul-t11
+mul-t11 c =
+    let h = inside (c .before) in let g = c .before .before .before .before .good .1 .0 .1 in record { fits = omega arith }
+
+shared-slice-read-t13 : tie.Need-shared-slice-read-t13
+shared-slice-read-t13 c = inside (c .before .before)
 
 returns : tie.Need-returns
-unfolding ofBits
-returns c = rw (sym (c .before .before .is-met .ensures) ∙ c .before .if1 .taken, c .read-at .ensures) (refl, refl)
+returns c = rw (met (c .before .before)) (refl, refl, c .before .head-at .ensures)
 
 returns-2 : tie.Need-returns-2
-unfolding ofBits
-returns-2 c = rw (sym (c .before .is-met .ensures) ∙ c .if1 .left) (refl, refl)
+returns-2 c =
+    let start = c .before .before .before in
+    rw (met-as (start .args .delay-beats .now) (start .args .place) (start .args .head) (start .args .beat) (start .pre .1 .0) (start .pre .1 .1) (c .if1 .left)) (refl, refl, start .pre .1 .0)
 
 pub pass-delay-spec : {M : Type 1} → statement M
-pass-delay-spec = tie.close (tie.spec is-met-requires add-t7 read-at-requires returns returns-2)
+pass-delay-spec =
+    tie.close
+    (tie.spec add-t8 add-head-at head-at-requires mul-t11 shared-slice-read-t13 returns returns-2)

@@ -1,41 +1,67 @@
 -- `sm_stops::pass_warp` passes what warps have on the beat. Assumes nothing.
-use lib.Ieee.{ofBits}
-use mathlib.Core.Path.{refl, sym, _∙_}
+use Prim.Native.Nat.{_<_}
+use mathlib.Core.Bool.{true}
+use mathlib.Core.Path.{_≡_, refl, ap}
+use native.Mathlib.Omega.{arith}
+use lib.ListN.{length, getD}
+use lib.Ieee.{Float, nan, binary32, sub, mul}
+use Rattle.sm_stops.specs.Merging.{meets}
+use Rattle.sm_stops.proofs.EveryTurnMeets.{here}
+use Rattle.sm_stops.proofs.HeadsInHand.{met-as}
 use borrow.Author.Needs.{needs}
 use Rattle.sm_stops.proofs.pass_warp.Statement.{statement}
 use Rattle.sm_stops.proofs.pass_warp.Tie as tie
 
-is-met-requires : tie.Need-is-met-requires
-is-met-requires c κs = search needs
+met : (c : tie.Then1) → meets (c .before .before .before .before .before .args .warp-beats .now) (c .before .before .before .before .before .args .place) (c .before .before .before .before .before .args .beat) ≡ true
+met c =
+    let start = c .before .before .before .before .before in
+    met-as (start .args .warp-beats .now) (start .args .place) (start .args .head) (start .args .beat) (start .pre .1 .1 .0) (start .pre .1 .1 .1) (c .if1 .taken)
 
-tempo-up-to-requires : tie.Need-tempo-up-to-requires
-tempo-up-to-requires c κs = search needs
+inside : (c : tie.Then1) → c .before .before .before .before .before .args .place < length (c .before .before .before .before .before .args .warp-lengths .now)
+inside c =
+    let start = c .before .before .before .before .before in
+    omega (arith, here (start .args .warp-beats .now) (start .args .place) (start .args .beat) (met c), start .pre .0 .2)
 
-add-t11 : tie.Need-add-t11
-add-t11 c = search needs
+pace-up-to-requires : tie.Need-pace-up-to-requires
+pace-up-to-requires c κs = (c .before .before .before .before .before .pre .0 .0, c .before .before .before .before .before .pre .1 .0)
 
-read-at-requires : tie.Need-read-at-requires
-read-at-requires c κs = search needs
+add-t14 : tie.Need-add-t14
+add-t14 c = search needs
 
-read-at-requires-2 : tie.Need-read-at-requires-2
-read-at-requires-2 c κs = search needs
+add-head-at : tie.Need-add-head-at
+add-head-at c = search needs
+
+head-at-requires : tie.Need-head-at-requires
+head-at-requires c κs = search needs
+
+mul-t17 : tie.Need-mul-t17
+mul-t17 c =
+    let h = inside (c .before .before) in let g = c .before .before .before .before .before .before .before .good .1 .1 .1 .0 .1 in record { fits = omega arith }
+
+shared-slice-read-t19 : tie.Need-shared-slice-read-t19
+shared-slice-read-t19 c = inside (c .before .before .before)
 
 returns : tie.Need-returns
-unfolding ofBits
-returns c = rw (sym (c .before .before .before .before .is-met .ensures) ∙ c .before .before .before .if1 .taken, c .read-at2 .ensures, c .before .read-at .ensures) (c .before .before .tempo-up-to .ensures, refl, refl)
+returns c =
+    let start = c .before .before .before .before .before .before .before .before .before in
+    let pace = c .before .before .before .pace-up-to .ensures in
+    let taken = ap (λ (x : Float). sub binary32 (start .args .sum) (mul binary32 x (getD (start .args .warp-lengths .now) (start .args .place) nan))) (pace .2) in
+    rw (met (c .before .before .before .before)) ((pace .0, refl, taken), (pace .1, pace .2, c .before .before .head-at .ensures))
 
 returns-2 : tie.Need-returns-2
-unfolding ofBits
-returns-2 c = rw (sym (c .before .is-met .ensures) ∙ c .if1 .left) (refl, refl, refl)
+returns-2 c =
+    let start = c .before .before .before .before .before in
+    rw (met-as (start .args .warp-beats .now) (start .args .place) (start .args .head) (start .args .beat) (start .pre .1 .1 .0) (start .pre .1 .1 .1) (c .if1 .left)) ((refl, refl, refl), (start .pre .1 .0 .0, start .pre .1 .0 .1, start .pre .1 .1 .0))
 
 pub pass-warp-spec : {M : Type 1} → statement M
 pass-warp-spec =
     tie.close
     (tie.spec
-    is-met-requires
-    tempo-up-to-requires
-    add-t11
-    read-at-requires
-    read-at-requires-2
+    pace-up-to-requires
+    add-t14
+    add-head-at
+    head-at-requires
+    mul-t17
+    shared-slice-read-t19
     returns
     returns-2)
