@@ -15,8 +15,8 @@ ghost use Rattle.order.specs.Order.{laid};
 ghost use Rattle.order.specs.Entries.{first, second};
 ghost use Rattle.columns.specs.Each.{laidEach};
 ghost use Rattle.columns.specs.Laying.{LaidPair};
-ghost use Rattle.raw_lists.specs.RawLists.{rawNumber};
-ghost use Rattle.process_ssc.specs.Tests.{beatStays, valueStays};
+ghost use Rattle.raw_lists.specs.RawLists.{rawNumber, rawNumbers};
+ghost use Rattle.process_ssc.specs.Tests.{beatStays, valueStays, Known};
 ghost use Rattle.process_ssc.specs.Ssc.{staysSsc, stayed, sscTempos, SscProcessed};
 
 // Whether an entry stays: finite, the beat not below 0, the value above it.
@@ -215,7 +215,7 @@ fn beats_stay(beats: &[f64]) -> bool
 fn value_goes(value: f64) -> usize
     ensures { λ r. ⌜ r ≡ miss valueStays value ⌝ }
 {
-    if value > 0.0 {
+    if value >= 9.5367431640625e-7 {
         if value <= 1073741824.0 {
             return 0;
         }
@@ -236,11 +236,16 @@ fn values_stay(values: &[f64]) -> bool
     gone == 0
 }
 
-// Whether every entry stays for certain: of a taken list, whether every one does.
+// Whether the list is taken and every entry stays, by one test of each number.
 fn all_stay(beats: &[f64], values: &[f64]) -> bool
-    requires { ⌜ length (now beats) ≡ length (now values) ⌝ }
-    ensures { λ r. ⌜ (r ≡ true → length (stayed (now (beats .entry)) (now (values .entry))) ≡ length (now (beats .entry))) ⌝ }
+    ensures { λ r. ⌜ Known r (now (beats .entry)) (now (values .entry)) ⌝ }
 {
+    if beats.len() > limits::MOST_ENTRIES {
+        return false;
+    }
+    if beats.len() != values.len() {
+        return false;
+    }
     if beats_stay(beats) {
         return values_stay(values);
     }
@@ -248,14 +253,21 @@ fn all_stay(beats: &[f64], values: &[f64]) -> bool
 }
 
 // The entries that stay, each beat on its row, over the front of the rooms.
-fn lay_stayed(beats: &[f64], values: &[f64], out_beats: &mut [f64], out_values: &mut [f64]) -> usize
+fn lay_stayed(
+    beats: &[f64],
+    values: &[f64],
+    out_beats: &mut [f64],
+    out_values: &mut [f64],
+    whole: bool,
+) -> usize
     requires { ⌜ length (now beats) ≡ length (now values) ⌝ }
     requires { ⌜ length (stayed (now beats) (now values)) ≤ min (length (now «out_beats»)) (length (now «out_values»)) ⌝ }
+    requires { ⌜ Known whole (now beats) (now values) ⌝ }
     ensures { λ r. ⌜ r ≡ length (stayed (now (beats .entry)) (now (values .entry))) ⌝ }
     ensures { λ _. ⌜ now («out_beats» .exit) ≡ laid (map first (stayed (now (beats .entry)) (now (values .entry)))) (now («out_beats» .entry)) ⌝ }
     ensures { λ _. ⌜ now («out_values» .exit) ≡ laid (map second (stayed (now (beats .entry)) (now (values .entry)))) (now («out_values» .entry)) ⌝ }
 {
-    if all_stay(beats, values) {
+    if whole {
         lay_all(beats, values, out_beats, out_values);
         return beats.len();
     }
@@ -270,11 +282,13 @@ fn tidy_stayed(
     work_values: &mut [f64],
     out_beats: &mut [f64],
     out_values: &mut [f64],
+    whole: bool,
 ) -> Outcome
     requires { ⌜ (rawNumber (now beats) (now values) ≡ 0) × (length (now beats) ≤ min (length (now «work_beats»)) (length (now «work_values»))) ⌝ }
+    requires { ⌜ Known whole (now beats) (now values) ⌝ }
     ensures { λ r. ⌜ LaidPair 0 (sscTempos (now (beats .entry)) (now (values .entry))) r (now («out_beats» .entry)) (now («out_beats» .exit)) (now («out_values» .entry)) (now («out_values» .exit)) ⌝ }
 {
-    let count = lay_stayed(beats, values, work_beats, work_values);
+    let count = lay_stayed(beats, values, work_beats, work_values, whole);
     tidy_tempos::tidy_bpms(
         &work_beats[..count],
         &work_values[..count],
@@ -284,8 +298,15 @@ fn tidy_stayed(
 }
 
 // Columns for as many tempos as a chart has.
-fn tidy_few(beats: &[f64], values: &[f64], out_beats: &mut [f64], out_values: &mut [f64]) -> Outcome
+fn tidy_few(
+    beats: &[f64],
+    values: &[f64],
+    out_beats: &mut [f64],
+    out_values: &mut [f64],
+    whole: bool,
+) -> Outcome
     requires { ⌜ (rawNumber (now beats) (now values) ≡ 0) × (length (now beats) ≤ 64) ⌝ }
+    requires { ⌜ Known whole (now beats) (now values) ⌝ }
     ensures { λ r. ⌜ LaidPair 0 (sscTempos (now (beats .entry)) (now (values .entry))) r (now («out_beats» .entry)) (now («out_beats» .exit)) (now («out_values» .entry)) (now («out_values» .exit)) ⌝ }
 {
     let mut work_beats = [0.0; 64];
@@ -297,6 +318,7 @@ fn tidy_few(beats: &[f64], values: &[f64], out_beats: &mut [f64], out_values: &m
         &mut work_values,
         out_beats,
         out_values,
+        whole,
     )
 }
 
@@ -306,8 +328,10 @@ fn tidy_many(
     values: &[f64],
     out_beats: &mut [f64],
     out_values: &mut [f64],
+    whole: bool,
 ) -> Outcome
     requires { ⌜ rawNumber (now beats) (now values) ≡ 0 ⌝ }
+    requires { ⌜ Known whole (now beats) (now values) ⌝ }
     ensures { λ r. ⌜ LaidPair 0 (sscTempos (now (beats .entry)) (now (values .entry))) r (now («out_beats» .entry)) (now («out_beats» .exit)) (now («out_values» .entry)) (now («out_values» .exit)) ⌝ }
 {
     let mut work_beats = [0.0; 1024];
@@ -319,6 +343,7 @@ fn tidy_many(
         &mut work_values,
         out_beats,
         out_values,
+        whole,
     )
 }
 
@@ -327,14 +352,94 @@ fn lay_tempos(
     values: &[f64],
     out_beats: &mut [f64],
     out_values: &mut [f64],
+    whole: bool,
 ) -> Outcome
     requires { ⌜ rawNumber (now beats) (now values) ≡ 0 ⌝ }
+    requires { ⌜ Known whole (now beats) (now values) ⌝ }
     ensures { λ r. ⌜ LaidPair 0 (sscTempos (now (beats .entry)) (now (values .entry))) r (now («out_beats» .entry)) (now («out_beats» .exit)) (now («out_values» .entry)) (now («out_values» .exit)) ⌝ }
 {
     if beats.len() <= 64 {
-        return tidy_few(beats, values, out_beats, out_values);
+        return tidy_few(beats, values, out_beats, out_values, whole);
     }
-    tidy_many(beats, values, out_beats, out_values)
+    tidy_many(beats, values, out_beats, out_values, whole)
+}
+
+// What the lists are refused by: tested anew only where one test did not tell.
+fn number_of(
+    tempo_beats: &[f64],
+    tempo_values: &[f64],
+    stop_beats: &[f64],
+    stop_values: &[f64],
+    tempos_whole: bool,
+    stops_whole: bool,
+) -> u32
+    requires { ⌜ Known «tempos_whole» (now «tempo_beats») (now «tempo_values») ⌝ }
+    requires { ⌜ Known «stops_whole» (now «stop_beats») (now «stop_values») ⌝ }
+    ensures { λ r. ⌜ r ≡ rawNumbers (now («tempo_beats» .entry)) (now («tempo_values» .entry)) (now («stop_beats» .entry)) (now («stop_values» .entry)) ⌝ }
+{
+    if tempos_whole {
+        if stops_whole {
+            return limits::TAKEN;
+        }
+    }
+    raw_lists::number_of(tempo_beats, tempo_values, stop_beats, stop_values)
+}
+
+fn process_known(
+    tempo_beats: &[f64],
+    tempo_values: &[f64],
+    stop_beats: &[f64],
+    stop_values: &[f64],
+    out_tempo_beats: &mut [f64],
+    out_tempo_values: &mut [f64],
+    out_stop_beats: &mut [f64],
+    out_stop_values: &mut [f64],
+    tempos_whole: bool,
+    stops_whole: bool,
+) -> Processed
+    requires { ⌜ Known «tempos_whole» (now «tempo_beats») (now «tempo_values») ⌝ }
+    requires { ⌜ Known «stops_whole» (now «stop_beats») (now «stop_values») ⌝ }
+    ensures { λ r. ⌜ SscProcessed (now («tempo_beats» .entry)) (now («tempo_values» .entry)) (now («stop_beats» .entry)) (now («stop_values» .entry)) r (now («out_tempo_beats» .entry)) (now («out_tempo_beats» .exit)) (now («out_tempo_values» .entry)) (now («out_tempo_values» .exit)) (now («out_stop_beats» .entry)) (now («out_stop_beats» .exit)) (now («out_stop_values» .entry)) (now («out_stop_values» .exit)) ⌝ }
+{
+    let number = number_of(
+        tempo_beats,
+        tempo_values,
+        stop_beats,
+        stop_values,
+        tempos_whole,
+        stops_whole,
+    );
+    if number != 0 {
+        return raw_lists::refused(number);
+    }
+    let stop_room = columns::room_of(out_stop_beats.len(), out_stop_values.len());
+    if !have_room(stop_beats, stop_values, stop_room) {
+        return raw_lists::refused(limits::NO_ROOM);
+    }
+    let tempos = lay_tempos(
+        tempo_beats,
+        tempo_values,
+        out_tempo_beats,
+        out_tempo_values,
+        tempos_whole,
+    );
+    if tempos.number != 0 {
+        return raw_lists::refused(limits::NO_ROOM);
+    }
+    let stops = lay_stayed(
+        stop_beats,
+        stop_values,
+        out_stop_beats,
+        out_stop_values,
+        stops_whole,
+    );
+    Processed {
+        number: limits::TAKEN,
+        tempos: tempos.count,
+        stops: stops,
+        warps: 0,
+        offset: 0.0,
+    }
 }
 
 // Of both lists the entries that stay, beats on their rows, and the tempos tidied. Counts and columns of the tempos, then of the stops.
@@ -350,24 +455,18 @@ pub fn process_bpms_and_stops_ssc(
 ) -> Processed
     ensures { λ r. ⌜ SscProcessed (now («tempo_beats» .entry)) (now («tempo_values» .entry)) (now («stop_beats» .entry)) (now («stop_values» .entry)) r (now («out_tempo_beats» .entry)) (now («out_tempo_beats» .exit)) (now («out_tempo_values» .entry)) (now («out_tempo_values» .exit)) (now («out_stop_beats» .entry)) (now («out_stop_beats» .exit)) (now («out_stop_values» .entry)) (now («out_stop_values» .exit)) ⌝ }
 {
-    let number = raw_lists::number_of(tempo_beats, tempo_values, stop_beats, stop_values);
-    if number != 0 {
-        return raw_lists::refused(number);
-    }
-    let stop_room = columns::room_of(out_stop_beats.len(), out_stop_values.len());
-    if !have_room(stop_beats, stop_values, stop_room) {
-        return raw_lists::refused(limits::NO_ROOM);
-    }
-    let tempos = lay_tempos(tempo_beats, tempo_values, out_tempo_beats, out_tempo_values);
-    if tempos.number != 0 {
-        return raw_lists::refused(limits::NO_ROOM);
-    }
-    let stops = lay_stayed(stop_beats, stop_values, out_stop_beats, out_stop_values);
-    Processed {
-        number: limits::TAKEN,
-        tempos: tempos.count,
-        stops: stops,
-        warps: 0,
-        offset: 0.0,
-    }
+    let tempos_whole = all_stay(tempo_beats, tempo_values);
+    let stops_whole = all_stay(stop_beats, stop_values);
+    process_known(
+        tempo_beats,
+        tempo_values,
+        stop_beats,
+        stop_values,
+        out_tempo_beats,
+        out_tempo_values,
+        out_stop_beats,
+        out_stop_values,
+        tempos_whole,
+        stops_whole,
+    )
 }

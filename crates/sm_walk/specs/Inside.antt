@@ -1,12 +1,15 @@
 -- What the functions inside the walk ask and say of each other. Nothing here is needed to read the call. Definitions only.
 use Prim.Native.Nat.{ℕ, _+_, _≤_, max}
 use mathlib.Core.List.{List, [], _∷_, map}
-use mathlib.Core.Bool.{true}
+use mathlib.Core.Bool.{Bool, true, not}
 use mathlib.Core.Path.{_≡_}
-use lib.ListN.{length, set}
-use lib.Ieee.{Float, eq}
+use lib.ListN.{length, set, drop}
+use lib.Ieee.{Float, eq, lt}
 use Rattle.picks.specs.Pick.{pick}
+use Rattle.limits.specs.Numbers.{every}
+use Rattle.rows.specs.Rows.{quantized32}
 use Rattle.order.specs.Entries.{entries, first, second}
+use Rattle.sm_machine.specs.Machine.{naught, fits}
 use Rattle.sm_machine.specs.declared.State.{State}
 use Rattle.sm_machine.specs.declared.Warp.{Warp}
 use Rattle.sm_machine.specs.declared.Warp.the-variants.{Closed, Open}
@@ -84,3 +87,23 @@ pub record Chart (tempoBeats tempoValues stopBeats stopValues : List Float) : Ty
 pub record Reached (tempos stops : ℕ) (places : Places) : Type 0 where
   pub tempo : places .tempo ≤ max tempos 1
   pub stop : places .stop ≤ stops
+
+-- ---- changes that open no warp
+
+-- a stop that is written as it is
+abbrev pub pauses : Float → Bool
+pauses length = not (lt length naught)
+
+-- no warp is open, and neither a tempo nor a stop from these places on opens one
+pub record NoWarp (tempoValues stopValues : List Float) (places : Places) (state : State) : Type 0 where
+  pub closed : state .warp ≡ Closed
+  pub tempos : every fits (drop (places .tempo) tempoValues) ≡ true
+  pub stops : every pauses (drop (places .stop) stopValues) ≡ true
+
+-- an entry with its beat on its row
+abbrev pub onRow : Float × Float → Float × Float
+onRow e = (quantized32 (e .0), e .1)
+
+-- the entries from a place on, with their beats on their rows
+abbrev pub rowed : List Float → List Float → ℕ → List (Float × Float)
+rowed beats values from = map onRow (drop from (entries beats values))

@@ -3,22 +3,24 @@ use sm_machine::Change;
 use sm_machine::Entry;
 use sm_machine::Moved;
 use sm_machine::State;
+use sm_machine::Warp;
 use sm_machine::Written;
 ghost use mathlib.Core.Path.{_≡_};
+ghost use mathlib.Core.Bool.{true, false};
 ghost use mathlib.Core.List.{map};
 ghost use Prim.Native.Nat.{_<_, _+_, _≤_, _^_, max};
-ghost use lib.ListN.{length, getD};
+ghost use lib.ListN.{length, getD, drop};
 ghost use lib.Ieee.{nan};
 ghost use Rattle.limits.specs.Numbers.{every, miss};
 ghost use Rattle.order.specs.Entries.{entries, first, second};
-ghost use Rattle.sm_machine.specs.Machine.{naught, met};
+ghost use Rattle.sm_machine.specs.Machine.{naught, fits, met};
 ghost use Rattle.sm_walk.specs.Changes.{headOf, left, advanced};
 ghost use Rattle.sm_walk.specs.Chart.{listOf, writtenBy, writtenAt, walk, stopsBefore, offsetOf, temposBy0, firstValue, openingTempo, processed};
 ghost use Rattle.sm_walk.specs.Columns.{columns, most};
 ghost use lib.Dec.{eqb};
 ghost use Rattle.picks.specs.Pick.{pick};
 ghost use Rattle.sm_walk.specs.Walking.{isNumber, roomFor, chartNumber, walkNumber, WalkLaid};
-ghost use Rattle.sm_walk.specs.Inside.{placed, written, counted, noneCounted, Room, Within, Chart, Reached};
+ghost use Rattle.sm_walk.specs.Inside.{placed, written, counted, noneCounted, Room, Within, Chart, Reached, pauses, NoWarp, rowed};
 
 // The change that comes next, if there is one.
 pub enum Next {
@@ -269,6 +271,148 @@ fn run(
     }
 }
 
+// ---- where no warp opens: each list by itself, in loops that a machine does for several entries at a time
+
+fn both(one: bool, other: bool) -> bool
+    ensures { λ r. ⌜ r ≡ pick one other false ⌝ }
+{
+    if one { other } else { false }
+}
+
+fn all_fit(tempos: &[f32], from: usize) -> bool
+    ensures { λ r. ⌜ r ≡ every fits (drop from (now (tempos .entry))) ⌝ }
+{
+    let mut so_far = true;
+    let mut i = from;
+    while i < tempos.len() {
+        so_far = both(so_far, sm_machine::fits(tempos[i]));
+        i += 1;
+    }
+    so_far
+}
+
+fn is_pause(length: f32) -> bool
+    ensures { λ r. ⌜ r ≡ pauses length ⌝ }
+{
+    !(length < 0.0)
+}
+
+fn all_pause(stops: &[f32], from: usize) -> bool
+    ensures { λ r. ⌜ r ≡ every pauses (drop from (now (stops .entry))) ⌝ }
+{
+    let mut so_far = true;
+    let mut i = from;
+    while i < stops.len() {
+        so_far = both(so_far, is_pause(stops[i]));
+        i += 1;
+    }
+    so_far
+}
+
+fn no_warp(tempo_values: &[f32], stop_values: &[f32], first: Places, state: State) -> bool
+    ensures { λ r. ⌜ (r ≡ true → NoWarp (now («tempo_values» .entry)) (now («stop_values» .entry)) first state) ⌝ }
+{
+    let warp = state.warp;
+    match warp {
+        Warp::Closed => {
+            if all_fit(tempo_values, first.tempo) {
+                return all_pause(stop_values, first.stop);
+            }
+            false
+        }
+        Warp::Open(opened) => false,
+    }
+}
+
+// The entries from a place on, their beats on their rows, behind those that are written.
+fn lay_on_rows(
+    beats: &[f32],
+    values: &[f32],
+    from: usize,
+    out_beats: &mut [f64],
+    out_values: &mut [f64],
+    written: usize,
+) -> usize
+    requires { ⌜ length (now beats) ≡ length (now values) ⌝ }
+    requires { ⌜ (written + length (rowed (now beats) (now values) from) ≤ length (now «out_beats»)) × (written + length (rowed (now beats) (now values) from) ≤ length (now «out_values»)) ⌝ }
+    ensures { λ r. ⌜ r ≡ written + length (rowed (now (beats .entry)) (now (values .entry)) from) ⌝ }
+    ensures { λ _. ⌜ now («out_beats» .exit) ≡ placed written (map first (rowed (now (beats .entry)) (now (values .entry)) from)) (now («out_beats» .entry)) ⌝ }
+    ensures { λ _. ⌜ now («out_values» .exit) ≡ placed written (map second (rowed (now (beats .entry)) (now (values .entry)) from)) (now («out_values» .entry)) ⌝ }
+{
+    let mut i = from;
+    let mut count = written;
+    while i < beats.len() {
+        out_beats[count] = std::num::f32_to_f64_with_nan(rows::quantize_beat_f32(beats[i]));
+        out_values[count] = std::num::f32_to_f64_with_nan(values[i]);
+        i += 1;
+        count += 1;
+    }
+    count
+}
+
+// The walk from a place and a state on, change by change only where a warp may open.
+fn walk_on(
+    tempo_beats: &[f32],
+    tempo_values: &[f32],
+    stop_beats: &[f32],
+    stop_values: &[f32],
+    out_tempo_beats: &mut [f64],
+    out_tempo_values: &mut [f64],
+    out_stop_beats: &mut [f64],
+    out_stop_values: &mut [f64],
+    out_warp_beats: &mut [f64],
+    out_warp_lengths: &mut [f64],
+    first: Places,
+    opening: State,
+    so_far: Counts,
+) -> Counts
+    requires { ⌜ Chart (now «tempo_beats») (now «tempo_values») (now «stop_beats») (now «stop_values») ⌝ }
+    requires { ⌜ Reached (length (now «tempo_beats»)) (length (now «stop_beats»)) first ⌝ }
+    requires { ⌜ Within first opening «so_far» ⌝ }
+    requires { ⌜ Room (most (length (now «tempo_beats»)) (length (now «stop_beats»))) (columns (now «out_tempo_beats») (now «out_tempo_values») (now «out_stop_beats») (now «out_stop_values») (now «out_warp_beats») (now «out_warp_lengths»)) ⌝ }
+    ensures { λ r. ⌜ r ≡ counted «so_far» (walk (left (entries (now («tempo_beats» .entry)) (now («tempo_values» .entry))) (entries (now («stop_beats» .entry)) (now («stop_values» .entry))) first) opening) ⌝ }
+    ensures { λ r. ⌜ columns (now («out_tempo_beats» .exit)) (now («out_tempo_values» .exit)) (now («out_stop_beats» .exit)) (now («out_stop_values» .exit)) (now («out_warp_beats» .exit)) (now («out_warp_lengths» .exit)) ≡ written «so_far» (walk (left (entries (now («tempo_beats» .entry)) (now («tempo_values» .entry))) (entries (now («stop_beats» .entry)) (now («stop_values» .entry))) first) opening) (columns (now («out_tempo_beats» .entry)) (now («out_tempo_values» .entry)) (now («out_stop_beats» .entry)) (now («out_stop_values» .entry)) (now («out_warp_beats» .entry)) (now («out_warp_lengths» .entry))) ⌝ }
+{
+    if no_warp(tempo_values, stop_values, first, opening) {
+        let tempos = lay_on_rows(
+            tempo_beats,
+            tempo_values,
+            first.tempo,
+            out_tempo_beats,
+            out_tempo_values,
+            so_far.tempos,
+        );
+        let stops = lay_on_rows(
+            stop_beats,
+            stop_values,
+            first.stop,
+            out_stop_beats,
+            out_stop_values,
+            so_far.stops,
+        );
+        return Counts {
+            tempos,
+            stops,
+            warps: so_far.warps,
+        };
+    }
+    run(
+        tempo_beats,
+        tempo_values,
+        stop_beats,
+        stop_values,
+        out_tempo_beats,
+        out_tempo_values,
+        out_stop_beats,
+        out_stop_values,
+        out_warp_beats,
+        out_warp_lengths,
+        first,
+        opening,
+        so_far,
+    )
+}
+
 // ---- the opening
 
 // The tempo that opens the chart, and the place of the next one.
@@ -384,7 +528,7 @@ fn walk_chart(
         stop: early.used,
     };
     let state = opening.state;
-    let counts = run(
+    let counts = walk_on(
         tempo_beats,
         tempo_values,
         stop_beats,

@@ -14,14 +14,11 @@ use Rattle.process_ssc.proofs.lay_stayed.Statement.{statement}
 use Rattle.process_ssc.proofs.lay_stayed.Tie as tie
 
 -- each stays
-many : (c : tie.Then1) → length (stayed (c .before .before .before .before .before .before .args .beats .now) (c .before .before .before .before .before .before .args .values .now)) ≡ length (c .before .before .before .before .before .before .args .beats .now)
-many c = c .before .all-stay .ensures (c .if1 .taken)
-
-all-stay-requires : tie.Need-all-stay-requires
-all-stay-requires c κs = search needs
+many : (c : tie.Then1) → length (stayed (c .before .before .before .before .before .args .beats .now) (c .before .before .before .before .before .args .values .now)) ≡ length (c .before .before .before .before .before .args .beats .now)
+many c = c .before .before .before .before .before .pre .1 .1 (c .if1 .taken) .stay
 
 lay-all-requires : tie.Need-lay-all-requires
-lay-all-requires c κs = (c .before .before .before .before .before .before .before .before .pre .0, omega (arith, many (c .before .before), c .before .before .before .before .before .before .before .before .pre .1))
+lay-all-requires c κs = (c .before .before .before .before .before .before .before .pre .0, omega (arith, many (c .before .before), c .before .before .before .before .before .before .before .pre .1 .0))
 
 same-length : tie.Need-same-length
 same-length c = search needs
@@ -31,9 +28,9 @@ same-length-2 c = search needs
 
 returns : tie.Need-returns
 returns c =
-    let given = c .before .before .before .before .before .before .before .before .before .before .before .before .before .args in
-    let all = all-changed (λ (x : Float). quantized x) (λ (v : Float). v) staysSsc (given .beats .now) (given .values .now) (c .before .before .before .before .before .before .before .before .before .before .before .before .before .pre .0) (many (c .before .before .before .before .before .before .before)) in
-    (sym (many (c .before .before .before .before .before .before .before)), (c .before .before .before .before .lay-all .ensures .0 ∙ ap (λ (l : List Float). laid l (given .out-beats .now)) (sym (all .0)), c .before .before .before .before .lay-all .ensures .1 ∙ ap (λ (l : List Float). laid l (given .out-values .now)) (sym (all .1 ∙ map-id (c .before .before .before .before .before .before .before .before .before .before .before .before .before .args .values .now)))))
+    let given = c .before .before .before .before .before .before .before .before .before .before .before .before .args in
+    let all = all-changed (λ (x : Float). quantized x) (λ (v : Float). v) staysSsc (given .beats .now) (given .values .now) (c .before .before .before .before .before .before .before .before .before .before .before .before .pre .0) (many (c .before .before .before .before .before .before .before)) in
+    (sym (many (c .before .before .before .before .before .before .before)), (c .before .before .before .before .lay-all .ensures .0 ∙ ap (λ (l : List Float). laid l (given .out-beats .now)) (sym (all .0)), c .before .before .before .before .lay-all .ensures .1 ∙ ap (λ (l : List Float). laid l (given .out-values .now)) (sym (all .1 ∙ map-id (c .before .before .before .before .before .before .before .before .before .before .before .before .args .values .now)))))
 
 lay-some-requires : tie.Need-lay-some-requires
 lay-some-requires c κs = search needs
@@ -51,7 +48,6 @@ pub lay-stayed-spec : {M : Type 1} → statement M
 lay-stayed-spec =
     tie.close
     (tie.spec
-    all-stay-requires
     lay-all-requires
     same-length
     same-length-2

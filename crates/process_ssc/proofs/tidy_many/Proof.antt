@@ -11,7 +11,7 @@ slice-aggregate-tidy-stayed-2 : tie.Need-slice-aggregate-tidy-stayed-2
 slice-aggregate-tidy-stayed-2 c = search needs
 
 tidy-stayed-requires : tie.Need-tidy-stayed-requires
-tidy-stayed-requires c κs = (c .before .before .before .before .before .before .before .before .pre, list-taken (c .before .before .before .before .before .before .before .before .pre) .few)
+tidy-stayed-requires c κs = ((c .before .before .before .before .before .before .before .before .pre .0, list-taken (c .before .before .before .before .before .before .before .before .pre .0) .few), c .before .before .before .before .before .before .before .before .pre .1)
 
 same-length : tie.Need-same-length
 same-length c = search needs

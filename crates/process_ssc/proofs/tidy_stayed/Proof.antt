@@ -19,10 +19,10 @@ use Rattle.process_ssc.proofs.tidy_stayed.Statement.{statement}
 use Rattle.process_ssc.proofs.tidy_stayed.Tie as tie
 
 even : (s : tie.Start) → length (s .args .beats .now) ≡ length (s .args .values .now)
-even s = list-taken (s .pre .0) .even
+even s = list-taken (s .pre .0 .0) .even
 
 fit : (s : tie.Start) → length (stayed (s .args .beats .now) (s .args .values .now)) ≤ min (length (s .args .work-beats .now)) (length (s .args .work-values .now))
-fit s = omega (arith, few-kept staysSsc onRow (entries (s .args .beats .now) (s .args .values .now)), length-entries (s .args .beats .now) (s .args .values .now) (even s), s .pre .1)
+fit s = omega (arith, few-kept staysSsc onRow (entries (s .args .beats .now) (s .args .values .now)), length-entries (s .args .beats .now) (s .args .values .now) (even s), s .pre .0 .1)
 
 -- what stands in the work columns
 room-beats : (c : tie.After-lay-stayed) → c .lay-stayed .result ≤ length (c .lay-stayed .last .1 .1 .0)
@@ -44,7 +44,7 @@ values-read : (c : tie.After-lay-stayed) → take (c .lay-stayed .result) (c .la
 values-read c = ap (take (c .lay-stayed .result)) (c .lay-stayed .ensures .1 .1) ∙ front-read (map second (stayed (c .before .before .before .before .before .before .before .before .before .args .beats .now) (c .before .before .before .before .before .before .before .before .before .args .values .now))) _ (c .lay-stayed .result) (c .lay-stayed .ensures .0 ∙ sym (length-map (stayed (c .before .before .before .before .before .before .before .before .before .args .beats .now) (c .before .before .before .before .before .before .before .before .before .args .values .now)) second))
 
 lay-stayed-requires : tie.Need-lay-stayed-requires
-lay-stayed-requires c κs = (even (c .before .before .before .before .before .before .before .before), fit (c .before .before .before .before .before .before .before .before))
+lay-stayed-requires c κs = (even (c .before .before .before .before .before .before .before .before), (fit (c .before .before .before .before .before .before .before .before), c .before .before .before .before .before .before .before .before .pre .1))
 
 slice-reshare-prefix-tidy-bpms : tie.Need-slice-reshare-prefix-tidy-bpms
 slice-reshare-prefix-tidy-bpms c = room-beats (c .before .before .before .before)
@@ -74,7 +74,7 @@ same-length-4 : tie.Need-same-length-4
 same-length-4 c = search needs
 
 returns : tie.Need-returns
-returns c = rw (beats-read (c .before .before .before .before .before .before .before .before .before .before .before .before .before), values-read (c .before .before .before .before .before .before .before .before .before .before .before .before .before), tempos-taken (c .before .before .before .before .before .before .before .before .before .before .before .before .before .before .before .before .before .before .before .before .before .before .args .beats .now) (c .before .before .before .before .before .before .before .before .before .before .before .before .before .before .before .before .before .before .before .before .before .before .args .values .now) (c .before .before .before .before .before .before .before .before .before .before .before .before .before .before .before .before .before .before .before .before .before .before .pre .0)) at (c .before .before .before .before .tidy-bpms .ensures)
+returns c = rw (beats-read (c .before .before .before .before .before .before .before .before .before .before .before .before .before), values-read (c .before .before .before .before .before .before .before .before .before .before .before .before .before), tempos-taken (c .before .before .before .before .before .before .before .before .before .before .before .before .before .before .before .before .before .before .before .before .before .before .args .beats .now) (c .before .before .before .before .before .before .before .before .before .before .before .before .before .before .before .before .before .before .before .before .before .before .args .values .now) (c .before .before .before .before .before .before .before .before .before .before .before .before .before .before .before .before .before .before .before .before .before .before .pre .0 .0)) at (c .before .before .before .before .tidy-bpms .ensures)
 
 pub tidy-stayed-spec : {M : Type 1} → statement M
 tidy-stayed-spec =

@@ -1,4 +1,4 @@
--- `process_ssc::process_bpms_and_stops_ssc` refuses by the tests, for the stops' room and for the tempos', and else lays both results. Assumes nothing.
+-- `process_ssc::process_known` refuses by the tests, for the stops' room and for the tempos', and else lays both results. Assumes nothing.
 use Prim.Native.Nat.{ℕ, _≤_, _<_}
 use mathlib.Core.Path.{_≡_, refl, sym, ap, _∙_}
 use mathlib.Core.List.{List}
@@ -12,8 +12,8 @@ use Rattle.raw_lists.proofs.BothTaken.{BothTaken, both-taken}
 use Rattle.process_ssc.specs.Ssc.{stayed}
 use Rattle.process_ssc.proofs.Outcomes.{by-tests, for-stops, for-tempos, taken}
 use borrow.Author.Needs.{needs}
-use Rattle.process_ssc.proofs.process_bpms_and_stops_ssc.Statement.{statement}
-use Rattle.process_ssc.proofs.process_bpms_and_stops_ssc.Tie as tie
+use Rattle.process_ssc.proofs.process_known.Statement.{statement}
+use Rattle.process_ssc.proofs.process_known.Tie as tie
 
 passed : (c : tie.Else1) → rawNumbers (c .before .before .before .before .before .before .before .before .before .before .args .tempo-beats .now) (c .before .before .before .before .before .before .before .before .before .before .args .tempo-values .now) (c .before .before .before .before .before .before .before .before .before .before .args .stop-beats .now) (c .before .before .before .before .before .before .before .before .before .before .args .stop-values .now) ≡ 0
 passed c = sym (c .before .number-of .ensures) ∙ c .if1 .left
@@ -48,7 +48,7 @@ returns-2 c =
     rw (c .refused2 .ensures) (for-stops (passed (c .before .before .before .before)) short)
 
 lay-tempos-requires : tie.Need-lay-tempos-requires
-lay-tempos-requires c κs = both (c .before .before .before .before .before) .tempos
+lay-tempos-requires c κs = (both (c .before .before .before .before .before) .tempos, c .before .before .before .before .before .before .before .before .before .before .before .before .before .before .before .pre .0)
 
 refused-requires-3 : tie.Need-refused-requires-3
 refused-requires-3 c κs = search needs
@@ -63,7 +63,7 @@ returns-3 : tie.Need-returns-3
 returns-3 c = rw (c .refused3 .ensures) (for-tempos (passed (c .before .before .before .before .before .before .before .before .before .before .before .before .before)) (fit (c .before .before .before .before .before .before .before .before .before .before)) (c .before .before .before .before .before .before .before .lay-tempos .ensures) (c .before .if3 .taken))
 
 lay-stayed-requires : tie.Need-lay-stayed-requires
-lay-stayed-requires c κs = (list-taken (both (c .before .before .before .before .before .before .before .before .before .before .before .before .before .before) .stops) .even, fit (c .before .before .before .before .before .before .before .before .before .before .before))
+lay-stayed-requires c κs = (list-taken (both (c .before .before .before .before .before .before .before .before .before .before .before .before .before .before) .stops) .even, (fit (c .before .before .before .before .before .before .before .before .before .before .before), c .before .before .before .before .before .before .before .before .before .before .before .before .before .before .before .before .before .before .before .before .before .before .before .before .pre .1))
 
 same-length-3 : tie.Need-same-length-3
 same-length-3 c = search needs
@@ -81,8 +81,8 @@ returns-4 : tie.Need-returns-4
 unfolding ofBits
 returns-4 c = taken (passed (c .before .before .before .before .before .before .before .before .before .before .before .before .before .before .before .before .before .before .before)) (fit (c .before .before .before .before .before .before .before .before .before .before .before .before .before .before .before .before)) (c .before .before .before .before .before .before .before .before .before .before .before .before .before .lay-tempos .ensures) (c .before .before .before .before .lay-stayed .result) (c .before .before .before .before .before .before .before .if3 .left) (c .before .before .before .before .lay-stayed .ensures .0) (c .before .before .before .before .lay-stayed .ensures .1 .0) (c .before .before .before .before .lay-stayed .ensures .1 .1)
 
-pub process-bpms-and-stops-ssc-spec : {M : Type 1} → statement M
-process-bpms-and-stops-ssc-spec =
+pub process-known-spec : {M : Type 1} → statement M
+process-known-spec =
     tie.close
     (tie.spec
     number-of-requires
