@@ -12,3 +12,4 @@ pub mod BeforeAnyTempo
 pub mod StaysWithin
 pub mod TimeOfTheEnd
 pub mod QuietRows
+pub mod HeadsAhead

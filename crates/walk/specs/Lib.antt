@@ -2,3 +2,4 @@ pub mod Events
 pub mod Passing
 pub mod Walk
 pub mod Quiet
+pub mod Heads
