@@ -23,7 +23,7 @@ use Rattle.walk.specs.declared.Next.{Next}
 use Rattle.walk.specs.declared.Heads.{Heads}
 use Rattle.walk.specs.declared.Event.{Event}
 use Rattle.walk.specs.declared.Event.the-variants.{WarpEnd, Tempo, Delay, Asked, Stop, Warp, NotFound}
-use Rattle.walk.proofs.RowOrder.{lt-le, le-trans, lt-not, lt-not-self}
+use Rattle.walk.proofs.RowOrder.{le-trans, lt-not, lt-not-self}
 
 -- ---- no candidate is found behind the greatest i32, so that one there changes nothing
 sooner-low : (n : Next) (at : ℤ) (k : Event) → ltZ farthest (n .row) ≡ false → ltZ farthest (sooner n at k .row) ≡ false
@@ -81,6 +81,10 @@ module _ (h : Heads) where
   unfolding sooner
   stays at k e = rw (lt-not (h .tempo) at e)
 
+  before-asked : (r : ℤ) → ltZ r (h .tempo) ≡ false → sooner (record { row = h .tempo; kind = Tempo }) r Asked ≡ record { row = h .tempo; kind = Tempo }
+  unfolding sooner
+  before-asked r e = rw e
+
   behind-end : ltZ (h .tempo) farthest ≡ true → ltZ (h .tempo) (h .end) ≡ true → ltZ (h .tempo) (sooner nothingYet (h .end) WarpEnd .row) ≡ true
   unfolding sooner
   behind-end e f = go (ltZ (h .end) farthest)
@@ -89,13 +93,14 @@ module _ (h : Heads) where
       go true = f
       go false = e
 
-  pub tempo-next : (r : ℤ) → ltZ farthest r ≡ false → ltZ (h .tempo) r ≡ true → ltZ (h .tempo) (h .stop) ≡ true → ltZ (h .tempo) (h .delay) ≡ true → ltZ (h .tempo) (h .warp) ≡ true → ltZ (h .tempo) (h .end) ≡ true
+  -- the asked beat may be on its row
+  pub tempo-next : (r : ℤ) → ltZ (h .tempo) farthest ≡ true → ltZ r (h .tempo) ≡ false → ltZ (h .tempo) (h .stop) ≡ true → ltZ (h .tempo) (h .delay) ≡ true → ltZ (h .tempo) (h .warp) ≡ true → ltZ (h .tempo) (h .end) ≡ true
       → nextOf h r ≡ record { row = h .tempo; kind = Tempo }
   unfolding nextOf
-  tempo-next r low asked stop delay warp end =
-      ap (λ (n : Next). sooner (sooner (sooner (sooner n (h .delay) Delay) r Asked) (h .stop) Stop) (h .warp) Warp) (found _ (behind-end (lt-le (h .tempo) r farthest asked low) end))
+  tempo-next r far asked stop delay warp end =
+      ap (λ (n : Next). sooner (sooner (sooner (sooner n (h .delay) Delay) r Asked) (h .stop) Stop) (h .warp) Warp) (found _ (behind-end far end))
       ∙ ap (λ (n : Next). sooner (sooner (sooner n r Asked) (h .stop) Stop) (h .warp) Warp) (stays (h .delay) Delay delay)
-      ∙ ap (λ (n : Next). sooner (sooner n (h .stop) Stop) (h .warp) Warp) (stays r Asked asked)
+      ∙ ap (λ (n : Next). sooner (sooner n (h .stop) Stop) (h .warp) Warp) (before-asked r asked)
       ∙ ap (λ (n : Next). sooner n (h .warp) Warp) (stays (h .stop) Stop stop)
       ∙ stays (h .warp) Warp warp
 

@@ -13,3 +13,4 @@ pub mod StaysWithin
 pub mod TimeOfTheEnd
 pub mod QuietRows
 pub mod HeadsAhead
+pub mod OneTempo

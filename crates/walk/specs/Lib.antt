@@ -3,3 +3,4 @@ pub mod Passing
 pub mod Walk
 pub mod Quiet
 pub mod Heads
+pub mod Soon

@@ -8,8 +8,9 @@ ghost use lib.Ieee.{nan, binary64, add};
 ghost use Rattle.rows.specs.Rows.{beatOf};
 ghost use Rattle.walk.specs.Events.{timing, sooner};
 ghost use Rattle.walk.specs.Heads.{headsOf, headsAfter, nextOf};
-ghost use Rattle.walk.specs.Passing.{tempoAt, earlyTempo, inForce, timeTo, larger, afterWarpEnd, afterTempo, afterDelay, afterStop, afterWarp, CanMove, passed as Passing·passed, firstOr, lastUpTo, sixty};
-ghost use Rattle.walk.specs.Quiet.{rowAt, endRow, isQuiet};
+ghost use Rattle.walk.specs.Passing.{noTime, tempoAt, earlyTempo, inForce, timeTo, larger, afterWarpEnd, afterTempo, afterDelay, afterStop, afterWarp, CanMove, passed as Passing·passed, firstOr, lastUpTo, sixty};
+ghost use Rattle.walk.specs.Quiet.{rowAt, endRow, onlyTempos};
+ghost use Rattle.walk.specs.Soon.{tempoPassed, soonOf};
 ghost use Rattle.walk.specs.declared.Event.the-variants.{Tempo};
 ghost use Rattle.walk.specs.Walk.{isEvent, isNothing, timeAt, walk};
 
@@ -412,6 +413,38 @@ fn pass_event(
     }
 }
 
+// The state after the tempo that is next, on its row, where one was passed before it; the state as it is where none is left.
+pub fn pass_next_tempo(
+    state: State,
+    row: i32,
+    tempo_beats: &[f32],
+    tempo_values: &[f32],
+    stop_values: &[f32],
+    delay_values: &[f32],
+    warp_beats: &[f32],
+    warp_lengths: &[f32],
+) -> State
+    ensures { λ r. ⌜ r ≡ tempoPassed (now («tempo_beats» .entry)) (now («tempo_values» .entry)) (now («stop_values» .entry)) (now («delay_values» .entry)) (now («warp_beats» .entry)) (now («warp_lengths» .entry)) state row ⌝ }
+{
+    if state.tempos < tempo_beats.len() {
+        let next = Next {
+            row,
+            kind: Event::Tempo,
+        };
+        return pass_event(
+            state,
+            next,
+            0.0,
+            tempo_values,
+            stop_values,
+            delay_values,
+            warp_beats,
+            warp_lengths,
+        );
+    }
+    state
+}
+
 // ---- the walk
 
 // The state after the last event passed, how many were passed, and the time of the asked beat.
@@ -461,27 +494,23 @@ fn time_at(state: State, next: Next, early: f64, tempo_values: &[f32]) -> f64
     state.time + time_to(state, early, tempo_values, next.row)
 }
 
-// ---- rows by which no event is due
+// ---- walks that pass nothing, or one tempo
 
-// Whether no event is due by the row.
-pub fn is_quiet(
+// Whether by the row no event but a tempo is due.
+pub fn is_only_tempos(
     state: State,
     asked: i32,
-    tempo_beats: &[f32],
     stop_beats: &[f32],
     delay_beats: &[f32],
     warp_beats: &[f32],
 ) -> bool
-    ensures { λ r. ⌜ r ≡ isQuiet (now («tempo_beats» .entry)) (now («stop_beats» .entry)) (now («delay_beats» .entry)) (now («warp_beats» .entry)) state asked ⌝ }
+    ensures { λ r. ⌜ r ≡ onlyTempos (now («stop_beats» .entry)) (now («delay_beats» .entry)) (now («warp_beats» .entry)) state asked ⌝ }
 {
-    if asked < row_at(tempo_beats, state.tempos) {
-        if asked < row_at(stop_beats, state.stops) {
-            if asked < row_at(delay_beats, state.delays) {
-                if asked < row_at(warp_beats, state.warps) {
-                    if asked < end_row(state.warping, state.end) {
-                        return asked < 2147483647;
-                    }
-                    return false;
+    if asked < row_at(stop_beats, state.stops) {
+        if asked < row_at(delay_beats, state.delays) {
+            if asked < row_at(warp_beats, state.warps) {
+                if asked < end_row(state.warping, state.end) {
+                    return asked < 2147483647;
                 }
                 return false;
             }
@@ -492,12 +521,56 @@ pub fn is_quiet(
     false
 }
 
-// The time of a row by which no event is due.
-pub fn quiet_time(state: State, asked: i32, tempo_beats: &[f32], tempo_values: &[f32]) -> f64
-    ensures { λ r. ⌜ r ≡ add binary64 (state .time) (timeTo (earlyTempo (now («tempo_beats» .entry)) (now («tempo_values» .entry)) state) (now («tempo_values» .entry)) state asked) ⌝ }
+// A walk up to its first tempo and past it: the state, how many were passed, and whether by the row no other is due.
+pub struct Soon {
+    pub state: State,
+    pub passed: usize,
+    pub whole: bool,
+}
+
+pub fn walk_soon(
+    state: State,
+    asked: i32,
+    tempo_beats: &[f32],
+    tempo_values: &[f32],
+    stop_values: &[f32],
+    delay_values: &[f32],
+    warp_beats: &[f32],
+    warp_lengths: &[f32],
+) -> Soon
+    ensures { λ r. ⌜ r ≡ soonOf (now («tempo_beats» .entry)) (now («tempo_values» .entry)) (now («stop_values» .entry)) (now («delay_values» .entry)) (now («warp_beats» .entry)) (now («warp_lengths» .entry)) state asked ⌝ }
 {
-    let early = early_tempo(state, tempo_beats, tempo_values);
-    state.time + time_to(state, early, tempo_values, asked)
+    let first = row_at(tempo_beats, state.tempos);
+    if asked < first {
+        return Soon {
+            state,
+            passed: 0,
+            whole: true,
+        };
+    }
+    let moved = pass_next_tempo(
+        state,
+        first,
+        tempo_beats,
+        tempo_values,
+        stop_values,
+        delay_values,
+        warp_beats,
+        warp_lengths,
+    );
+    let second = row_at(tempo_beats, moved.tempos);
+    Soon {
+        state: moved,
+        passed: 1,
+        whole: asked < second,
+    }
+}
+
+// The time of a row by which no event is due, where a tempo was passed.
+pub fn quiet_time(state: State, asked: i32, tempo_values: &[f32]) -> f64
+    ensures { λ r. ⌜ r ≡ add binary64 (state .time) (timeTo noTime (now («tempo_values» .entry)) state asked) ⌝ }
+{
+    state.time + time_to(state, 0.0, tempo_values, asked)
 }
 
 // ---- the whole walk

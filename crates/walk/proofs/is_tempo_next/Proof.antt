@@ -1,9 +1,12 @@
 -- `walk::is_tempo_next` says yes only where the tempo's row is before all others. Assumes nothing.
 use mathlib.Core.Bool.{true}
+use mathlib.Core.Path.{_≡_}
+use lib.Signed.{ltZ}
 use mir.Syntax.{w32}
 use mir.Val.{SFits}
 use Rattle.walk.proofs.BackFromBits.{tested}
-use Rattle.walk.proofs.RowOrder.{no}
+use Rattle.walk.specs.Quiet.{farthest}
+use Rattle.walk.proofs.RowOrder.{no, lt-le, lt-not}
 use Rattle.walk.proofs.HeadsAhead.{not-behind, tempo-next}
 use Rattle.walk.proofs.is_tempo_next.Statement.{statement}
 use Rattle.walk.proofs.is_tempo_next.Tie as tie
@@ -15,9 +18,9 @@ returns c =
     let asked = s .args .asked in
     let g = c .struct-told5 .given in
     let f : SFits w32 (h .tempo) = record { sfits = g .1 .0 .1 } in
+    let before : ltZ (h .tempo) asked ≡ true = tested (h .tempo) asked f (s .fits .asked) true (c .before .before .before .before .before .before .before .before .before .before .before .if1 .taken) in
     λ e.
-    tempo-next h asked (not-behind asked (s .fits .asked))
-    (tested (h .tempo) asked f (s .fits .asked) true (c .before .before .before .before .before .before .before .before .before .before .before .if1 .taken))
+    tempo-next h asked (lt-le (h .tempo) asked farthest before (not-behind asked (s .fits .asked))) (lt-not (h .tempo) asked before)
     (tested (h .tempo) (h .stop) f (record { sfits = g .1 .1 .1 .0 .1 }) true (c .before .before .before .before .before .before .before .before .if2 .taken))
     (tested (h .tempo) (h .delay) f (record { sfits = g .1 .1 .0 .1 }) true (c .before .before .before .before .before .if3 .taken))
     (tested (h .tempo) (h .warp) f (record { sfits = g .1 .1 .1 .1 .0 .1 }) true (c .before .before .if4 .taken))
