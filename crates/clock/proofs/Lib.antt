@@ -1,2 +1,2 @@
 pub mod FilledTempos
-pub mod QuietReply
+pub mod SoonReply

@@ -1,19 +1,19 @@
 // The clock: at what time is this beat? A cursor goes along a timing and is handed back with each answer.
+use walk::Soon;
 use walk::State;
 use walk::Walked;
 ghost use mathlib.Core.Path.{_≡_};
-ghost use Prim.Native.Nat.{_+_, _<_, _^_};
+ghost use Prim.Native.Nat.{_+_, _<_, _≤_, _^_};
 ghost use lib.ListN.{length};
 ghost use lib.Dec.{eqb};
 ghost use Rattle.picks.specs.Pick.{pick};
 ghost use Rattle.timing_tests.specs.CursorNumbers.{cursorNumber};
-ghost use lib.Ieee.{binary64, add};
 ghost use lib.Signed.{ltZ};
 ghost use mathlib.Core.Bool.{true, false};
 ghost use Rattle.rows.specs.Rows.{row};
-ghost use Rattle.walk.specs.Events.{timing, nextEvent};
-ghost use Rattle.walk.specs.Passing.{earlyTempo, timeTo};
-ghost use Rattle.walk.specs.declared.Event.the-variants.{Asked};
+ghost use Rattle.walk.specs.Events.{timing};
+ghost use Rattle.walk.specs.Quiet.{onlyTempos};
+ghost use Rattle.walk.specs.Soon.{walkedSoon};
 ghost use Rattle.walk.specs.Walk.{walk};
 ghost use Rattle.clock.specs.Question.{freshState, freshCursor, made, filled, beginning, answered, refusedWith, reply, asking, playerQuestion, question};
 
@@ -91,6 +91,21 @@ fn answered(walked: Walked, row: i32, global: f64) -> Answer
             asked: row,
         },
     }
+}
+
+// The answer that a walk comes to which is soon at its row.
+fn answered_soon(soon: Soon, row: i32, tempo_values: &[f32], global: f64) -> Answer
+    requires { ⌜ soon .passed ≤ 1 ⌝ }
+    ensures { λ r. ⌜ r ≡ answered global row (walkedSoon (now («tempo_values» .entry)) row soon) ⌝ }
+{
+    let state = soon.state;
+    let time = walk::quiet_time(state, row, tempo_values);
+    let walked = Walked {
+        state: state,
+        passed: soon.passed,
+        time: time,
+    };
+    answered(walked, row, global)
 }
 
 // The tempos of a timing; where it has none, the one of 60 counts.
@@ -210,8 +225,8 @@ impl Cursor {
         answered(walked, row, global)
     }
 
-    // True only where the walk to a row goes on from here, over the tempos as they are, and passes no event.
-    fn is_quiet(
+    // True only where the walk to a row goes on from here, past a tempo and over the tempos as they are, and nothing but tempos is due.
+    fn is_near(
         self,
         row: i32,
         tempo_beats: &[f32],
@@ -219,7 +234,7 @@ impl Cursor {
         delay_beats: &[f32],
         warp_beats: &[f32],
     ) -> bool
-        ensures { λ r. ⌜ (r ≡ true → (ltZ row (self .asked) ≡ false) × (eqb (length (now («tempo_beats» .entry))) 0 ≡ false) × (nextEvent (now («tempo_beats» .entry)) (now («stop_beats» .entry)) (now («delay_beats» .entry)) (now («warp_beats» .entry)) (self .state) row ≡ record { row = row; kind = Asked })) ⌝ }
+        ensures { λ r. ⌜ (r ≡ true → (ltZ row (self .asked) ≡ false) × (eqb (length (now («tempo_beats» .entry))) 0 ≡ false) × (eqb (self .state .tempos) 0 ≡ false) × (onlyTempos (now («stop_beats» .entry)) (now («delay_beats» .entry)) (now («warp_beats» .entry)) (self .state) row ≡ true)) ⌝ }
     {
         if row < self.asked {
             return false;
@@ -228,27 +243,46 @@ impl Cursor {
             return false;
         }
         let state = self.state;
-        walk::is_quiet(state, row, tempo_beats, stop_beats, delay_beats, warp_beats)
+        let place = state.tempos;
+        if place == 0 {
+            return false;
+        }
+        walk::is_only_tempos(state, row, stop_beats, delay_beats, warp_beats)
     }
 
-    // The answer where no event is passed.
-    fn reply_quietly(
+    // The walk to a row, whole only where it goes on from here and passes no event or one tempo.
+    fn soon(
         self,
         row: i32,
         tempo_beats: &[f32],
         tempo_values: &[f32],
-        global: f64,
-    ) -> Answer
-        ensures { λ r. ⌜ r ≡ answered global row (record { state = self .state; passed = 0; time = add binary64 (self .state .time) (timeTo (earlyTempo (now («tempo_beats» .entry)) (now («tempo_values» .entry)) (self .state)) (now («tempo_values» .entry)) (self .state) row) }) ⌝ }
+        stop_beats: &[f32],
+        stop_values: &[f32],
+        delay_beats: &[f32],
+        delay_values: &[f32],
+        warp_beats: &[f32],
+        warp_lengths: &[f32],
+    ) -> Soon
+        ensures { λ r. ⌜ (r .whole ≡ true → (r .passed ≤ 1) × (ltZ row (self .asked) ≡ false) × (eqb (length (now («tempo_beats» .entry))) 0 ≡ false) × (walk (timing (now («tempo_beats» .entry)) (now («tempo_values» .entry)) (now («stop_beats» .entry)) (now («stop_values» .entry)) (now («delay_beats» .entry)) (now («delay_values» .entry)) (now («warp_beats» .entry)) (now («warp_lengths» .entry))) row (self .state) ≡ walkedSoon (now («tempo_values» .entry)) row r)) ⌝ }
     {
         let state = self.state;
-        let time = walk::quiet_time(state, row, tempo_beats, tempo_values);
-        let walked = Walked {
-            state: state,
+        if self.is_near(row, tempo_beats, stop_beats, delay_beats, warp_beats) {
+            return walk::walk_soon(
+                state,
+                row,
+                tempo_beats,
+                tempo_values,
+                stop_values,
+                delay_values,
+                warp_beats,
+                warp_lengths,
+            );
+        }
+        Soon {
+            state,
             passed: 0,
-            time: time,
-        };
-        answered(walked, row, global)
+            whole: false,
+        }
     }
 
     // A question of a run, whose timing and cursor were tested where it began: only the beat is tested. It walks by itself, not by `reply`: the walk, which is long,
@@ -335,8 +369,19 @@ impl Cursor {
         let number = limits::lower_of(asked, lent);
         if number == 0 {
             let row = rows::beat_to_note_row(beat);
-            if self.is_quiet(row, tempo_beats, stop_beats, delay_beats, warp_beats) {
-                return self.reply_quietly(row, tempo_beats, tempo_values, global);
+            let soon = self.soon(
+                row,
+                tempo_beats,
+                tempo_values,
+                stop_beats,
+                stop_values,
+                delay_beats,
+                delay_values,
+                warp_beats,
+                warp_lengths,
+            );
+            if soon.whole {
+                return answered_soon(soon, row, tempo_values, global);
             }
             return self.reply(
                 tempo_beats,

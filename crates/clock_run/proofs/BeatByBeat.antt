@@ -6,20 +6,19 @@ use native.Mathlib.Numerals.{add-one}
 use native.Mathlib.Omega.{arith}
 use lib.ListN.{length, getD, drop, set, drop-of-length-le}
 use lib.Seq.{drop-cons}
-use mathlib.Core.Bool.{true}
 use lib.IntN.{ℤ}
 use lib.Ieee.{Float, nan, binary64, sub}
 use Rattle.rows.specs.Rows.{row}
 use Rattle.order.proofs.LaidOverFront.{Laying, laying-none, laying-more, laying-all}
 use Rattle.walk.specs.Events.{Timing}
+use Rattle.walk.specs.declared.State.{State}
 use Rattle.clock.specs.Question.{asking}
 use Rattle.clock.specs.declared.Cursor.{Cursor}
 use Rattle.clock.specs.declared.Answer.{Answer}
 use Rattle.clock_run.specs.Run.{answers, lastCursor, numberOf, timeOf, countOf}
 use Rattle.clock_run.specs.Asked.{AllAsked}
-use Rattle.clock_run.specs.Ahead.{isQuiet, quietTime}
-use Rattle.clock_run.specs.declared.Ahead.{Ahead}
-use Rattle.clock_run.proofs.QuietRows.{Sees, quiet-answer}
+use Rattle.clock_run.specs.Ahead.{quietTime}
+use Rattle.clock_run.proofs.QuietRows.{quietly}
 
 module _ (t : Timing) (offset global : Float) where
   -- with the next beat the answers have one less to come
@@ -70,14 +69,14 @@ module _ (t : Timing) (offset global : Float) where
             ofCounts = laying-more _ _ _ _ i (r .ofCounts) (a .count) _ (ap (map countOf) more) (omega (arith, r .ofCounts .size));
           }
 
-      -- a beat before the next event
-      pub quiet-turn : (ahead : Ahead) → Sees t (c .state) ahead → (r : ℤ) → r ≡ row binary64 (getD beats i nan) → isQuiet ahead (c .asked) (getD beats i nan) r ≡ true
-          → (time : Float) → time ≡ sub binary64 (quietTime (c .state) (ahead .rate) r) global
+      -- a beat that is answered without a walk, so many events being passed
+      pub quiet-turn : (passed : ℕ) (s : State) (rate : Float) → quietly t offset global c (getD beats i nan) passed s rate ≡ asking t c offset global (getD beats i nan)
+          → (r : ℤ) → r ≡ row binary64 (getD beats i nan) → (time : Float) → time ≡ sub binary64 (quietTime s rate r) global
           → i < length beats → length beats ≤ length numbers₀ → length beats ≤ length times₀ → length beats ≤ length counts₀
-          → Running c₀ beats numbers₀ times₀ counts₀ (record { state = c .state; asked = r }) (set numbers i 0) (set times i time) (set counts i 1) (i + 1)
-      quiet-turn ahead sees r isRow quiet time isTime h inNumbers inTimes inCounts =
-          turned (record { number = 0; time = time; count = 1; cursor = record { state = c .state; asked = r } })
-          (rw (isTime, isRow) (quiet-answer t offset global c (getD beats i nan) ahead sees (rw isRow at quiet)))
+          → Running c₀ beats numbers₀ times₀ counts₀ (record { state = s; asked = r }) (set numbers i 0) (set times i time) (set counts i (passed + 1)) (i + 1)
+      quiet-turn passed s rate is r isRow time isTime h inNumbers inTimes inCounts =
+          turned (record { number = 0; time = time; count = passed + 1; cursor = record { state = s; asked = r } })
+          (rw (isTime, isRow) is)
           h inNumbers inTimes inCounts
 
       pub ended : length beats ≤ i → AllAsked t offset global c₀ beats c numbers₀ numbers times₀ times counts₀ counts

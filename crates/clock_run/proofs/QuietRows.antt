@@ -1,27 +1,31 @@
--- Before the row that was looked ahead for, no event is due: the walk passes none. Assumes nothing.
-use Prim.Native.Nat.{_+_, _-_}
+-- Before the row that was looked ahead for, no event is due, and past one tempo none before the next row: the answer follows without a walk. Assumes nothing.
+use Prim.Native.Nat.{ℕ, _+_, _-_}
 use mathlib.Core.Bool.{Bool, true, false}
 use mathlib.Core.Path.{_≡_, refl, sym, ap, _∙_}
+use mathlib.Core.List.{List}
 use lib.Dec.{ltb, eqb}
 use lib.IntN.{ℤ}
 use lib.Signed.{ltZ}
 use lib.ListN.{length, getD}
-use lib.Ieee.{Float, nan, binary64, sub, div}
+use lib.Ieee.{Float, nan, binary64, add, sub, div}
 use Rattle.picks.specs.Pick.{pick}
 use Rattle.rows.specs.Rows.{row}
-use Rattle.walk.specs.Events.{Timing, next}
-use Rattle.walk.specs.Passing.{sixty, inForce, timeTo}
+use Rattle.walk.specs.Events.{Timing}
+use Rattle.walk.specs.Passing.{noTime, sixty, inForce, timeTo, passed, afterTempo}
 use Rattle.walk.specs.Walk.{walk}
 use Rattle.walk.specs.Quiet.{farthest, rowAt, endRow}
+use Rattle.walk.specs.Soon.{tempoPassed}
 use Rattle.walk.specs.declared.State.{State}
 use Rattle.walk.specs.declared.Walked.{Walked}
-use Rattle.walk.specs.declared.Event.the-variants.{Asked}
-use Rattle.walk.proofs.QuietRows.{none-before, quiet-end}
+use Rattle.walk.specs.declared.Event.the-variants.{Tempo}
+use Rattle.walk.proofs.OneTempo.{Others, past, none-soon, one-soon}
 use Rattle.timing_tests.specs.TimingNumbers.{beatNumber}
 use Rattle.clock.specs.Question.{filled, beginning, reply, asking}
 use Rattle.clock.specs.declared.Cursor.{Cursor}
-use Rattle.clock_run.specs.Ahead.{least, quietUntil, blind, lookAhead, isQuiet, quietTime}
+use Rattle.clock.specs.declared.Answer.{Answer}
+use Rattle.clock_run.specs.Ahead.{least, restUntil, blind, lookOn, lookAhead, isBefore, quietTime, reachedAt, pastTempo}
 use Rattle.clock_run.specs.declared.Ahead.{Ahead}
+use Rattle.clock_run.specs.declared.Past.{Past}
 use Rattle.walk.proofs.RowOrder.{no, lt-le, lt-not}
 
 module _ (r : ℤ) where
@@ -41,21 +45,25 @@ module _ (r : ℤ) where
       go true e h = lt-le r a b h (lt-not a b e)
       go false e h = h
 
-  next-asked : (t : Timing) (s : State) → ltZ r (quietUntil (t .tempoBeats) (t .stopBeats) (t .delayBeats) (t .warpBeats) s) ≡ true → next t r s ≡ record { row = r; kind = Asked }
-  unfolding quietUntil
-  next-asked t s h =
+  -- before the next event that is no tempo, nothing else is due
+  others : (t : Timing) (s : State) → ltZ r (restUntil (t .stopBeats) (t .delayBeats) (t .warpBeats) s) ≡ true → Others t r s
+  unfolding restUntil
+  others t s h =
       let h1 = below-right farthest _ h in
       let h2 = below-right (endRow (s .warping) (s .end)) _ h1 in
-      let h3 = below-right (rowAt (t .tempoBeats) (s .tempos)) _ h2 in
-      let h4 = below-right (rowAt (t .delayBeats) (s .delays)) _ h3 in
-      none-before r (t .tempoBeats) (t .stopBeats) (t .delayBeats) (t .warpBeats) s (below-left farthest _ h) (below-left (endRow (s .warping) (s .end)) _ h1) (below-left (rowAt (t .tempoBeats) (s .tempos)) _ h2) (below-left (rowAt (t .delayBeats) (s .delays)) _ h3) (below-left (rowAt (t .stopBeats) (s .stops)) (rowAt (t .warpBeats) (s .warps)) h4) (below-right (rowAt (t .stopBeats) (s .stops)) (rowAt (t .warpBeats) (s .warps)) h4)
+      let h3 = below-right (rowAt (t .delayBeats) (s .delays)) _ h2 in
+      record {
+        ofAll = below-left farthest _ h;
+        ofEnd = below-left (endRow (s .warping) (s .end)) _ h1;
+        ofDelay = below-left (rowAt (t .delayBeats) (s .delays)) _ h2;
+        ofStop = below-left (rowAt (t .stopBeats) (s .stops)) (rowAt (t .warpBeats) (s .warps)) h3;
+        ofWarp = below-right (rowAt (t .stopBeats) (s .stops)) (rowAt (t .warpBeats) (s .warps)) h3;
+      }
 
-  quiet-walk : (t : Timing) (s : State) → eqb (s .tempos) 0 ≡ false → ltZ r (quietUntil (t .tempoBeats) (t .stopBeats) (t .delayBeats) (t .warpBeats) s) ≡ true
-      → walk t r s ≡ record { state = s; passed = 0; time = quietTime s (div binary64 (getD (t .tempoValues) (s .tempos - 1) nan) sixty) r }
+  -- a tempo's time by the rate that was looked for
+  by-rate : (values : List Float) (s : State) → eqb (s .tempos) 0 ≡ false → add binary64 (s .time) (timeTo noTime values s r) ≡ quietTime s (div binary64 (getD values (s .tempos - 1) nan) sixty) r
   unfolding timeTo inForce quietTime
-  quiet-walk t s e h =
-      let asked = next-asked t s h in
-      quiet-end t r s asked ∙ rw e
+  by-rate values s e = rw e
 
 -- ---- the answer without a walk
 
@@ -66,30 +74,163 @@ all-four true true true d h = no h
 all-four true false c d h = no h
 all-four false b c d h = no h
 
-seen : (a b c : Bool) (x : Ahead) → pick a blind (pick b blind (pick c x blind)) .known ≡ true → (a ≡ false) × (b ≡ false) × (pick a blind (pick b blind (pick c x blind)) ≡ x)
-seen false false true x h = (refl, refl, refl)
-seen false false false x h = no h
-seen false true c x h = no h
-seen true b c x h = no h
+-- what is known of a beat that is before a row
+module _ (known : Bool) (until last : ℤ) (beat : Float) (r : ℤ) where
+  before-is : isBefore known until last beat r ≡ true → (eqb (beatNumber beat) 0 ≡ true) × (known ≡ true) × (ltZ r last ≡ false) × (ltZ r until ≡ true)
+  unfolding isBefore
+  before-is h = all-four (eqb (beatNumber beat) 0) known (ltZ r last) (ltZ r until) h
+
+  -- and of one that is not, though it is asked in order
+  not-before : isBefore known until last beat r ≡ false → eqb (beatNumber beat) 0 ≡ true → known ≡ true → ltZ r last ≡ false → ltZ r until ≡ false
+  unfolding isBefore
+  not-before h number k later = rw (number, k, later) at h
+
+abbrev sight : (tempoBeats tempoValues : List Float) → State → ℤ → Ahead
+sight tempoBeats tempoValues s rest = record {
+  known = true;
+  row = least (rowAt tempoBeats (s .tempos)) rest;
+  rest = rest;
+  rate = div binary64 (getD tempoValues (s .tempos - 1) nan) sixty;
+}
+
+-- what is known is what was looked for, past a tempo
+on-sight : (tempoBeats tempoValues : List Float) (s : State) (rest : ℤ) → lookOn tempoBeats tempoValues s rest .known ≡ true
+    → (eqb (s .tempos) 0 ≡ false) × (lookOn tempoBeats tempoValues s rest ≡ sight tempoBeats tempoValues s rest)
+unfolding lookOn
+on-sight tempoBeats tempoValues s rest h = go (eqb (s .tempos) 0) (ltb (s .tempos - 1) (length tempoValues)) h
+  where
+    go : (a b : Bool) → pick a blind (pick b (sight tempoBeats tempoValues s rest) blind) .known ≡ true
+        → (a ≡ false) × (pick a blind (pick b (sight tempoBeats tempoValues s rest) blind) ≡ sight tempoBeats tempoValues s rest)
+    go false true h = (refl, refl)
+    go false false h = no h
+    go true b h = no h
+
+abbrev restOf : Timing → State → ℤ
+restOf t s = restUntil (t .stopBeats) (t .delayBeats) (t .warpBeats) s
+
+seen : (t : Timing) (s : State) → lookAhead t s .known ≡ true
+    → (eqb (length (t .tempoBeats)) 0 ≡ false) × (lookAhead t s ≡ lookOn (t .tempoBeats) (t .tempoValues) s (restOf t s))
+unfolding lookAhead
+seen t s h = go (eqb (length (t .tempoBeats)) 0) h
+  where
+    go : (a : Bool) → pick a blind (lookOn (t .tempoBeats) (t .tempoValues) s (restOf t s)) .known ≡ true
+        → (a ≡ false) × (pick a blind (lookOn (t .tempoBeats) (t .tempoValues) s (restOf t s)) ≡ lookOn (t .tempoBeats) (t .tempoValues) s (restOf t s))
+    go false h = (refl, refl)
+    go true h = no h
 
 -- what is known ahead of a state is what there is to see
 abbrev pub Sees : Timing → State → Ahead → Type 0
 Sees t s ahead = ahead .known ≡ true → ahead ≡ lookAhead t s
 
-module _ (t : Timing) (offset global : Float) (c : Cursor) (beat : Float) where
-  quiet-reply : eqb (beatNumber beat) 0 ≡ true → eqb (length (t .tempoBeats)) 0 ≡ false → ltZ (row binary64 beat) (c .asked) ≡ false → (w : Walked) → walk t (row binary64 beat) (c .state) ≡ w
-      → asking t c offset global beat ≡ record { number = 0; time = sub binary64 (w .time) global; count = w .passed + 1; cursor = record { state = w .state; asked = row binary64 beat } }
-  unfolding asking reply filled beginning
-  quiet-reply number some later w e = rw (number, some, later, e)
+-- then there are tempos, one is passed, and its parts are these
+record Seen (t : Timing) (s : State) (ahead : Ahead) : Type 0 where
+  some : eqb (length (t .tempoBeats)) 0 ≡ false
+  passed-one : eqb (s .tempos) 0 ≡ false
+  whole : ahead ≡ sight (t .tempoBeats) (t .tempoValues) s (restOf t s)
 
-  pub quiet-answer : (ahead : Ahead) → Sees t (c .state) ahead → isQuiet ahead (c .asked) beat (row binary64 beat) ≡ true
-      → record { number = 0; time = sub binary64 (quietTime (c .state) (ahead .rate) (row binary64 beat)) global; count = 1; cursor = record { state = c .state; asked = row binary64 beat } } ≡ asking t c offset global beat
-  unfolding isQuiet lookAhead
+all-seen : (t : Timing) (s : State) (ahead : Ahead) → Sees t s ahead → ahead .known ≡ true → Seen t s ahead
+all-seen t s ahead sees known =
+    let e = sees known in
+    let some = seen t s (ap (λ (a : Ahead). a .known) (sym e) ∙ known) in
+    let on = e ∙ some .1 in
+    let one = on-sight (t .tempoBeats) (t .tempoValues) s (restOf t s) (ap (λ (a : Ahead). a .known) (sym on) ∙ known) in
+    record { some = some .0; passed-one = one .0; whole = on ∙ one .1 }
+
+module _ (t : Timing) (offset global : Float) (c : Cursor) (beat : Float) where
+  abbrev answer-of : Walked → Answer
+  answer-of w = record { number = 0; time = sub binary64 (w .time) global; count = w .passed + 1; cursor = record { state = w .state; asked = row binary64 beat } }
+
+  by-walk : eqb (beatNumber beat) 0 ≡ true → eqb (length (t .tempoBeats)) 0 ≡ false → ltZ (row binary64 beat) (c .asked) ≡ false → (w : Walked) → walk t (row binary64 beat) (c .state) ≡ w
+      → asking t c offset global beat ≡ answer-of w
+  unfolding asking reply filled beginning
+  by-walk number some later w e = rw (number, some, later, e)
+
+  -- the answer that a state gives without a walk, so many events being passed
+  abbrev pub quietly : ℕ → State → Float → Answer
+  quietly passed s rate = record { number = 0; time = sub binary64 (quietTime s rate (row binary64 beat)) global; count = passed + 1; cursor = record { state = s; asked = row binary64 beat } }
+
+  pub quiet-answer : (ahead : Ahead) → Sees t (c .state) ahead → isBefore (ahead .known) (ahead .row) (c .asked) beat (row binary64 beat) ≡ true
+      → quietly 0 (c .state) (ahead .rate) ≡ asking t c offset global beat
   quiet-answer ahead sees h =
-      let four = all-four (eqb (beatNumber beat) 0) (ahead .known) (ltZ (row binary64 beat) (c .asked)) (ltZ (row binary64 beat) (ahead .row)) h in
-      let e = sees (four .1) in
-      let sight = seen (eqb (length (t .tempoBeats)) 0) (eqb (c .state .tempos) 0) (ltb (c .state .tempos - 1) (length (t .tempoValues))) _ (ap (λ (a : Ahead). a .known) (sym e) ∙ four .1) in
-      let whole = e ∙ sight .2 in
-      let before : ltZ (row binary64 beat) (quietUntil (t .tempoBeats) (t .stopBeats) (t .delayBeats) (t .warpBeats) (c .state)) ≡ true = ap (λ (a : Ahead). ltZ (row binary64 beat) (a .row)) (sym whole) ∙ four .3 in
-      ap (λ (a : Ahead). record { number = 0; time = sub binary64 (quietTime (c .state) (a .rate) (row binary64 beat)) global; count = 1; cursor = record { state = c .state; asked = row binary64 beat } }) whole
-      ∙ sym (quiet-reply (four .0) (sight .0) (four .2) _ (quiet-walk (row binary64 beat) t (c .state) (sight .1) before))
+      let r = row binary64 beat in
+      let asked = before-is (ahead .known) (ahead .row) (c .asked) beat r h in
+      let sight = all-seen t (c .state) ahead sees (asked .1) in
+      let before : ltZ r (least (rowAt (t .tempoBeats) (c .state .tempos)) (restOf t (c .state))) ≡ true = ap (λ (a : Ahead). ltZ r (a .row)) (sym (sight .whole)) ∙ asked .3 in
+      let o = others r t (c .state) (below-right r (rowAt (t .tempoBeats) (c .state .tempos)) (restOf t (c .state)) before) in
+      let walked = none-soon t r (c .state) (sight .passed-one) o (below-left r (rowAt (t .tempoBeats) (c .state .tempos)) (restOf t (c .state)) before) in
+      ap (λ (a : Ahead). quietly 0 (c .state) (a .rate)) (sight .whole)
+      ∙ ap (λ (x : Float). answer-of (record { state = c .state; passed = 0; time = x })) (sym (by-rate r (t .tempoValues) (c .state) (sight .passed-one)))
+      ∙ sym (by-walk (asked .0) (sight .some) (asked .2) _ walked)
+
+-- ---- past one tempo
+
+rest-stays : (t : Timing) (s : State) (at : ℤ) → restOf t (past t s at) ≡ restOf t s
+unfolding restUntil tempoPassed passed afterTempo
+rest-stays t s at = go (ltb (s .tempos) (length (t .tempoBeats)))
+  where
+    go : (b : Bool) → restOf t (pick b (passed noTime (t .tempoValues) (t .stopValues) (t .delayValues) (t .warpBeats) (t .warpLengths) s (record { row = at; kind = Tempo })) s) ≡ restOf t s
+    go true = refl
+    go false = refl
+
+-- where a row is before the rest and not before what is next, a tempo is next
+is-tempo : (r tempo rest : ℤ) → ltZ r rest ≡ true → ltZ r (least tempo rest) ≡ false → least tempo rest ≡ tempo
+unfolding least
+is-tempo r tempo rest before behind = go (ltZ tempo rest) refl behind
+  where
+    go : (b : Bool) → ltZ tempo rest ≡ b → ltZ r (pick b tempo rest) ≡ false → pick b tempo rest ≡ tempo
+    go true e h = refl
+    go false e h = no (sym h ∙ before)
+
+look-some : (t : Timing) (s : State) → eqb (length (t .tempoBeats)) 0 ≡ false → lookAhead t s ≡ lookOn (t .tempoBeats) (t .tempoValues) s (restOf t s)
+unfolding lookAhead
+look-some t s e = rw e
+
+module _ (t : Timing) (offset global : Float) (c : Cursor) (beat : Float) (ahead : Ahead) (sees : Sees t (c .state) ahead)
+    (behind : isBefore (ahead .known) (ahead .row) (c .asked) beat (row binary64 beat) ≡ false) where
+  abbrev moved : State
+  moved = past t (c .state) (ahead .row)
+
+  abbrev on : Ahead
+  on = lookOn (t .tempoBeats) (t .tempoValues) moved (ahead .rest)
+
+  at-tempo : isBefore (ahead .known) (ahead .rest) (c .asked) beat (row binary64 beat) ≡ true → isBefore (on .known) (on .row) (c .asked) beat (row binary64 beat) ≡ true
+      → (quietly t offset global c beat 1 moved (on .rate) ≡ asking t c offset global beat) × Sees t moved on
+  at-tempo h reached =
+      let r = row binary64 beat in
+      let s = c .state in
+      let tempo = rowAt (t .tempoBeats) (s .tempos) in
+      let asked = before-is (ahead .known) (ahead .rest) (c .asked) beat r h in
+      let sight = all-seen t s ahead sees (asked .1) in
+      let isRest : ahead .rest ≡ restOf t s = ap (λ (a : Ahead). a .rest) (sight .whole) in
+      let isRow : ahead .row ≡ least tempo (restOf t s) = ap (λ (a : Ahead). a .row) (sight .whole) in
+      let before : ltZ r (restOf t s) ≡ true = ap (λ (z : ℤ). ltZ r z) (sym isRest) ∙ asked .3 in
+      let notRow : ltZ r (ahead .row) ≡ false = not-before (ahead .known) (ahead .row) (c .asked) beat r behind (asked .0) (asked .1) (asked .2) in
+      let isTempo : ahead .row ≡ tempo = isRow ∙ is-tempo r tempo (restOf t s) before (ap (λ (z : ℤ). ltZ r z) (sym isRow) ∙ notRow) in
+      let isMoved : moved ≡ past t s tempo = ap (λ (z : ℤ). past t s z) isTempo in
+      let asked-on = before-is (on .known) (on .row) (c .asked) beat r reached in
+      let on-is = on-sight (t .tempoBeats) (t .tempoValues) moved (ahead .rest) (asked-on .1) in
+      let later : ltZ r (rowAt (t .tempoBeats) (moved .tempos)) ≡ true =
+      below-left r (rowAt (t .tempoBeats) (moved .tempos)) (ahead .rest) (ap (λ (a : Ahead). ltZ r (a .row)) (sym (on-is .1)) ∙ asked-on .3) in
+      let walked : walk t r s ≡ record { state = moved; passed = 1; time = add binary64 (moved .time) (timeTo noTime (t .tempoValues) moved r) } =
+      one-soon t r s (others r t s before) (ap (λ (z : ℤ). ltZ r z) (sym isTempo) ∙ notRow) (sight .passed-one) (ap (λ (x : State). ltZ r (rowAt (t .tempoBeats) (x .tempos))) (sym isMoved) ∙ later)
+      ∙ ap (λ (x : State). record { state = x; passed = 1; time = add binary64 (x .time) (timeTo noTime (t .tempoValues) x r) }) (sym isMoved) in (
+        ap (λ (a : Ahead). quietly t offset global c beat 1 moved (a .rate)) (on-is .1)
+            ∙ ap (λ (x : Float). answer-of t offset global c beat (record { state = moved; passed = 1; time = x })) (sym (by-rate r (t .tempoValues) moved (on-is .0)))
+            ∙ sym (by-walk t offset global c beat (asked .0) (sight .some) (asked .2) _ walked),
+        λ k. ap (λ (z : ℤ). lookOn (t .tempoBeats) (t .tempoValues) moved z) (isRest ∙ sym (rest-stays t s (ahead .row))) ∙ sym (look-some t moved (sight .some)),
+      )
+
+  abbrev pub passing : Past
+  passing = pastTempo (t .tempoBeats) (t .tempoValues) (t .stopValues) (t .delayValues) (t .warpBeats) (t .warpLengths) ahead c beat (row binary64 beat)
+
+  pub past-answer : passing .reached ≡ true → (quietly t offset global c beat 1 (passing .state) (passing .ahead .rate) ≡ asking t c offset global beat) × Sees t (passing .state) (passing .ahead)
+  unfolding pastTempo
+  past-answer h = go (isBefore (ahead .known) (ahead .rest) (c .asked) beat (row binary64 beat)) refl h
+    where
+      picked : Bool → Past
+      picked b = pick b (reachedAt (t .tempoBeats) (t .tempoValues) (ahead .rest) (c .asked) beat (row binary64 beat) moved) (record { reached = false; state = c .state; ahead = ahead })
+
+      go : (b : Bool) → isBefore (ahead .known) (ahead .rest) (c .asked) beat (row binary64 beat) ≡ b → picked b .reached ≡ true
+          → (quietly t offset global c beat 1 (picked b .state) (picked b .ahead .rate) ≡ asking t c offset global beat) × Sees t (picked b .state) (picked b .ahead)
+      go true e h = at-tempo e h
+      go false e h = no h

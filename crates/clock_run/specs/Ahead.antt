@@ -12,39 +12,60 @@ use Rattle.rows.specs.Rows.{beatOf}
 use Rattle.walk.specs.Events.{Timing}
 use Rattle.walk.specs.Quiet.{farthest, rowAt, endRow}
 use Rattle.walk.specs.Passing.{noTime, sixty}
+use Rattle.walk.specs.Soon.{tempoPassed}
 use Rattle.walk.specs.declared.State.{State}
 use Rattle.timing_tests.specs.TimingNumbers.{beatNumber}
+use Rattle.clock.specs.declared.Cursor.{Cursor}
 use Rattle.clock_run.specs.declared.Ahead.{Ahead}
+use Rattle.clock_run.specs.declared.Past.{Past}
 
 unfoldable pub least : ℤ → ℤ → ℤ
 least a b = pick (ltZ a b) a b
 
--- the row of the next event
-unfoldable pub quietUntil : (tempoBeats stopBeats delayBeats warpBeats : List Float) → State → ℤ
-quietUntil tempoBeats stopBeats delayBeats warpBeats s =
+-- the row of the next event that is no tempo
+unfoldable pub restUntil : (stopBeats delayBeats warpBeats : List Float) → State → ℤ
+restUntil stopBeats delayBeats warpBeats s =
     least farthest
-    (least (endRow (s .warping) (s .end))
-    (least (rowAt tempoBeats (s .tempos)) (least (rowAt delayBeats (s .delays)) (least (rowAt stopBeats (s .stops)) (rowAt warpBeats (s .warps))))))
+    (least (endRow (s .warping) (s .end)) (least (rowAt delayBeats (s .delays)) (least (rowAt stopBeats (s .stops)) (rowAt warpBeats (s .warps)))))
 
 abbrev pub blind : Ahead
-blind = record { known = false; row = pos 0; rate = noTime }
+blind = record { known = false; row = pos 0; rest = pos 0; rate = noTime }
 
--- before any tempo is passed it looks for nothing
-unfoldable pub lookAhead : Timing → State → Ahead
-lookAhead t s =
-    pick (eqb (length (t .tempoBeats)) 0) blind
-    (pick (eqb (s .tempos) 0) blind
-    (pick (ltb (s .tempos - 1) (length (t .tempoValues)))
+-- what is ahead of a state, with a row before which only tempos are; before any tempo is passed it looks for nothing
+unfoldable pub lookOn : (tempoBeats tempoValues : List Float) → State → ℤ → Ahead
+lookOn tempoBeats tempoValues s rest =
+    pick (eqb (s .tempos) 0) blind
+    (pick (ltb (s .tempos - 1) (length tempoValues))
     (record {
       known = true;
-      row = quietUntil (t .tempoBeats) (t .stopBeats) (t .delayBeats) (t .warpBeats) s;
-      rate = div binary64 (getD (t .tempoValues) (s .tempos - 1) nan) sixty;
+      row = least (rowAt tempoBeats (s .tempos)) rest;
+      rest = rest;
+      rate = div binary64 (getD tempoValues (s .tempos - 1) nan) sixty;
     })
-    blind))
+    blind)
 
--- a beat that is taken, at or behind the one asked last, and before the next event
-unfoldable pub isQuiet : Ahead → ℤ → Float → ℤ → Bool
-isQuiet ahead last beat asked = pick (eqb (beatNumber beat) 0) (pick (ahead .known) (pick (ltZ asked last) false (ltZ asked (ahead .row))) false) false
+unfoldable pub lookAhead : Timing → State → Ahead
+lookAhead t s =
+    pick (eqb (length (t .tempoBeats)) 0) blind (lookOn (t .tempoBeats) (t .tempoValues) s (restUntil (t .stopBeats) (t .delayBeats) (t .warpBeats) s))
+
+-- a beat that is taken, at or behind the one asked last, and before a row that is known
+unfoldable pub isBefore : Bool → ℤ → ℤ → Float → ℤ → Bool
+isBefore known until last beat asked = pick (eqb (beatNumber beat) 0) (pick known (pick (ltZ asked last) false (ltZ asked until)) false) false
 
 unfoldable pub quietTime : State → Float → ℤ → Float
 quietTime s rate asked = add binary64 (s .time) (pick (s .warping) noTime (div binary64 (beatOf binary64 (asked -ℤ s .row)) rate))
+
+-- a state past a tempo, and whether a beat is answered there: whether it is before what is ahead of that state
+abbrev pub reachedAt : (tempoBeats tempoValues : List Float) → ℤ → ℤ → Float → ℤ → State → Past
+reachedAt tempoBeats tempoValues rest last beat asked s = record {
+  reached = isBefore (lookOn tempoBeats tempoValues s rest .known) (lookOn tempoBeats tempoValues s rest .row) last beat asked;
+  state = s;
+  ahead = lookOn tempoBeats tempoValues s rest;
+}
+
+-- the next tempo passed, where by the beat only tempos are due
+unfoldable pub pastTempo : (tempoBeats tempoValues stopValues delayValues warpBeats warpLengths : List Float) → Ahead → Cursor → Float → ℤ → Past
+pastTempo tempoBeats tempoValues stopValues delayValues warpBeats warpLengths ahead c beat asked =
+    pick (isBefore (ahead .known) (ahead .rest) (c .asked) beat asked)
+    (reachedAt tempoBeats tempoValues (ahead .rest) (c .asked) beat asked (tempoPassed tempoBeats tempoValues stopValues delayValues warpBeats warpLengths (c .state) (ahead .row)))
+    (record { reached = false; state = c .state; ahead = ahead })

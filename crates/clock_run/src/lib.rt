@@ -7,7 +7,7 @@ ghost use lib.ListN.{length};
 ghost use Rattle.walk.specs.Events.{timing};
 ghost use Rattle.clock_run.specs.Run.{roomNumber, RunLaid};
 ghost use Rattle.clock_run.specs.Asked.{AllAsked};
-ghost use Rattle.clock_run.specs.Ahead.{least, quietUntil, lookAhead, isQuiet, quietTime};
+ghost use Rattle.clock_run.specs.Ahead.{least, restUntil, lookOn, lookAhead, isBefore, quietTime, pastTempo};
 
 // The run's number, and the cursor after its last beat; after a refusal the cursor that was lent.
 #[repr(C)]
@@ -29,10 +29,12 @@ fn room_number(beats: usize, numbers: usize, times: usize, counts: usize) -> u32
 
 // ---- looking ahead
 
-// The row of the next event and beats a second, so that a beat before that row is answered without a walk; not known before any tempo is passed.
+// The row of the next event, that of the next one which is no tempo, and beats a second, so that a beat before the first is answered without a walk, and
+// one before the second past a tempo; not known before any tempo is passed.
 struct Ahead {
     known: bool,
     row: i32,
+    rest: i32,
     rate: f64,
 }
 
@@ -45,25 +47,50 @@ fn least_of(one: i32, other: i32) -> i32
     other
 }
 
-fn quiet_until(
-    state: State,
-    tempo_beats: &[f32],
-    stop_beats: &[f32],
-    delay_beats: &[f32],
-    warp_beats: &[f32],
-) -> i32
-    ensures { λ r. ⌜ r ≡ quietUntil (now («tempo_beats» .entry)) (now («stop_beats» .entry)) (now («delay_beats» .entry)) (now («warp_beats» .entry)) state ⌝ }
+fn rest_until(state: State, stop_beats: &[f32], delay_beats: &[f32], warp_beats: &[f32]) -> i32
+    ensures { λ r. ⌜ r ≡ restUntil (now («stop_beats» .entry)) (now («delay_beats» .entry)) (now («warp_beats» .entry)) state ⌝ }
 {
     let stop = walk::row_at(stop_beats, state.stops);
     let warp = walk::row_at(warp_beats, state.warps);
     let later = least_of(stop, warp);
     let delay = walk::row_at(delay_beats, state.delays);
     let behind = least_of(delay, later);
-    let tempo = walk::row_at(tempo_beats, state.tempos);
-    let listed = least_of(tempo, behind);
     let end = walk::end_row(state.warping, state.end);
-    let next = least_of(end, listed);
+    let next = least_of(end, behind);
     least_of(2147483647, next)
+}
+
+// What is ahead of a state, the row of the next event that is no tempo being known.
+fn look_on(state: State, rest: i32, tempo_beats: &[f32], tempo_values: &[f32]) -> Ahead
+    ensures { λ r. ⌜ r ≡ lookOn (now («tempo_beats» .entry)) (now («tempo_values» .entry)) state rest ⌝ }
+{
+    let tempos = state.tempos;
+    if tempos == 0 {
+        return Ahead {
+            known: false,
+            row: 0,
+            rest: 0,
+            rate: 0.0,
+        };
+    }
+    let place = tempos - 1;
+    if place < tempo_values.len() {
+        let rate = std::num::f32_to_f64_with_nan(tempo_values[place]) / 60.0;
+        let tempo = walk::row_at(tempo_beats, tempos);
+        let row = least_of(tempo, rest);
+        return Ahead {
+            known: true,
+            row: row,
+            rest: rest,
+            rate: rate,
+        };
+    }
+    Ahead {
+        known: false,
+        row: 0,
+        rest: 0,
+        rate: 0.0,
+    }
 }
 
 fn look_ahead(
@@ -79,48 +106,28 @@ fn look_ahead(
 ) -> Ahead
     ensures { λ r. ⌜ r ≡ lookAhead (timing (now («tempo_beats» .entry)) (now («tempo_values» .entry)) (now («stop_beats» .entry)) (now («stop_values» .entry)) (now («delay_beats» .entry)) (now («delay_values» .entry)) (now («warp_beats» .entry)) (now («warp_lengths» .entry))) state ⌝ }
 {
-    let tempos = state.tempos;
     if tempo_beats.len() == 0 {
         return Ahead {
             known: false,
             row: 0,
+            rest: 0,
             rate: 0.0,
         };
     }
-    if tempos == 0 {
-        return Ahead {
-            known: false,
-            row: 0,
-            rate: 0.0,
-        };
-    }
-    let place = tempos - 1;
-    if place < tempo_values.len() {
-        let rate = std::num::f32_to_f64_with_nan(tempo_values[place]) / 60.0;
-        let row = quiet_until(state, tempo_beats, stop_beats, delay_beats, warp_beats);
-        return Ahead {
-            known: true,
-            row: row,
-            rate: rate,
-        };
-    }
-    Ahead {
-        known: false,
-        row: 0,
-        rate: 0.0,
-    }
+    let rest = rest_until(state, stop_beats, delay_beats, warp_beats);
+    look_on(state, rest, tempo_beats, tempo_values)
 }
 
-// Whether a beat can be answered without a walk.
-fn is_quiet(ahead: Ahead, last: i32, beat: f64, row: i32) -> bool
-    ensures { λ r. ⌜ r ≡ isQuiet ahead last beat row ⌝ }
+// Whether a beat is taken, at or behind the row asked last, and before a row that is known.
+fn is_before(known: bool, until: i32, last: i32, beat: f64, row: i32) -> bool
+    ensures { λ r. ⌜ r ≡ isBefore known until last beat row ⌝ }
 {
     if timing_tests::beat_number(beat) == 0 {
-        if ahead.known {
+        if known {
             if row < last {
                 return false;
             }
-            return row < ahead.row;
+            return row < until;
         }
         return false;
     }
@@ -138,9 +145,58 @@ fn quiet_time(state: State, rate: f64, row: i32) -> f64
     state.time + beats / rate
 }
 
+// The state past the next tempo, what is ahead of it, and whether a beat is answered there.
+struct Past {
+    reached: bool,
+    state: State,
+    ahead: Ahead,
+}
+
+fn past_tempo(
+    ahead: Ahead,
+    at: Cursor,
+    beat: f64,
+    row: i32,
+    tempo_beats: &[f32],
+    tempo_values: &[f32],
+    stop_values: &[f32],
+    delay_values: &[f32],
+    warp_beats: &[f32],
+    warp_lengths: &[f32],
+) -> Past
+    ensures { λ r. ⌜ r ≡ pastTempo (now («tempo_beats» .entry)) (now («tempo_values» .entry)) (now («stop_values» .entry)) (now («delay_values» .entry)) (now («warp_beats» .entry)) (now («warp_lengths» .entry)) ahead at beat row ⌝ }
+{
+    let state = at.state;
+    if is_before(ahead.known, ahead.rest, at.asked, beat, row) {
+        let moved = walk::pass_next_tempo(
+            state,
+            ahead.row,
+            tempo_beats,
+            tempo_values,
+            stop_values,
+            delay_values,
+            warp_beats,
+            warp_lengths,
+        );
+        let on = look_on(moved, ahead.rest, tempo_beats, tempo_values);
+        let reached = is_before(on.known, on.row, at.asked, beat, row);
+        return Past {
+            reached: reached,
+            state: moved,
+            ahead: on,
+        };
+    }
+    Past {
+        reached: false,
+        state: state,
+        ahead: ahead,
+    }
+}
+
 // ---- the run
 
-// Asks every beat, and answers the cursor after the last. A beat before the next event passes none, so that its count is 1, and needs no walk.
+// Asks every beat, and answers the cursor after the last. A beat before the next event passes none, so that its count is 1, and needs no walk; nor does one that
+// passes a tempo and is before what is ahead of that.
 fn ask_each(
     cursor: Cursor,
     tempo_beats: &[f32],
@@ -165,19 +221,47 @@ fn ask_each(
     let mut ahead = Ahead {
         known: false,
         row: 0,
+        rest: 0,
         rate: 0.0,
     };
     let mut i = 0;
     while i < beats.len() {
         let beat = beats[i];
         let row = rows::beat_to_note_row(beat);
-        if is_quiet(ahead, at.asked, beat, row) {
+        if is_before(ahead.known, ahead.row, at.asked, beat, row) {
             let state = at.state;
             let time = quiet_time(state, ahead.rate, row) - global;
             numbers[i] = limits::TAKEN;
             times[i] = time;
             counts[i] = 1;
             at.asked = row;
+            i += 1;
+            continue;
+        }
+        let past = past_tempo(
+            ahead,
+            at,
+            beat,
+            row,
+            tempo_beats,
+            tempo_values,
+            stop_values,
+            delay_values,
+            warp_beats,
+            warp_lengths,
+        );
+        if past.reached {
+            let state = past.state;
+            let on = past.ahead;
+            let time = quiet_time(state, on.rate, row) - global;
+            numbers[i] = limits::TAKEN;
+            times[i] = time;
+            counts[i] = 2;
+            at = Cursor {
+                state: state,
+                asked: row,
+            };
+            ahead = on;
             i += 1;
             continue;
         }

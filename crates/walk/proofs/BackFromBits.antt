@@ -18,6 +18,10 @@ back z f = toZ-ofZ w32 z f
 pub tested : (a b : ℤ) → SFits w32 a → SFits w32 b → (t : Bool) → ltZ (toZ w32 (ofZ w32 a)) (toZ w32 (ofZ w32 b)) ≡ t → ltZ a b ≡ t
 tested a b f g t h = rw (toZ-ofZ w32 a f, toZ-ofZ w32 b g) at h
 
+-- what a test of two rows found, the second of which is said to be another
+pub test-is : (a x y : ℤ) (found : Bool) → SFits w32 a → SFits w32 x → ltZ (toZ w32 (ofZ w32 a)) (toZ w32 (ofZ w32 x)) ≡ found → x ≡ y → ltZ a y ≡ found
+test-is a x y found f g h e = rw e at (tested a x f g found h)
+
 -- ---- two rows are less than 2 ^ 33 apart
 sizes : (z : ℤ) → (mag z ≤ natAbs z) × (natAbs z ≤ mag z + 1)
 sizes (pos n) = (omega arith, omega arith)

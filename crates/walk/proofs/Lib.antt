@@ -12,3 +12,5 @@ pub mod BeforeAnyTempo
 pub mod StaysWithin
 pub mod TimeOfTheEnd
 pub mod QuietRows
+pub mod HeadsAhead
+pub mod OneTempo

@@ -12,14 +12,14 @@ use Rattle.picks.specs.Pick.{pick}
 use Rattle.rows.specs.Rows.{row}
 use Rattle.walk.specs.Events.{Timing, nothingYet, sooner, offered, endOffered, nextEvent, next}
 use Rattle.walk.specs.Passing.{earlyTempo, timeTo}
-use Rattle.walk.specs.Quiet.{farthest, rowAt, endRow, isQuiet}
+use Rattle.walk.specs.Quiet.{farthest, rowAt, endRow}
 use Rattle.walk.specs.Walk.{timeAt, walk}
 use Rattle.walk.specs.declared.State.{State}
 use Rattle.walk.specs.declared.Next.{Next}
 use Rattle.walk.specs.declared.Event.{Event}
 use Rattle.walk.specs.declared.Event.the-variants.{WarpEnd, Tempo, Delay, Asked, Stop, Warp}
 use Rattle.walk.proofs.EventByEvent.{walk-end}
-use Rattle.walk.proofs.RowOrder.{lt-not, no}
+use Rattle.walk.proofs.RowOrder.{lt-not}
 
 of-pick : (P : Next → Type 0) (b : Bool) (x y : Next) → P x → P y → P (pick b x y)
 of-pick P true x y p q = p
@@ -65,21 +65,6 @@ module _ (r : ℤ) where
       ap (λ (n : Next). offered (offered n stopBeats (s .stops) Stop) warpBeats (s .warps) Warp) (found _ delay)
       ∙ ap (λ (n : Next). offered n warpBeats (s .warps) Warp) (stays stopBeats (s .stops) Stop beforeStop)
       ∙ stays warpBeats (s .warps) Warp beforeWarp
-
-both : (b x : Bool) → pick b x false ≡ true → (b ≡ true) × (x ≡ true)
-both true x e = (refl, e)
-both false x e = no e
-
-pub quiet-asked : (tempoBeats stopBeats delayBeats warpBeats : List Float) (s : State) (r : ℤ) → isQuiet tempoBeats stopBeats delayBeats warpBeats s r ≡ true
-    → nextEvent tempoBeats stopBeats delayBeats warpBeats s r ≡ record { row = r; kind = Asked }
-unfolding isQuiet
-quiet-asked tempoBeats stopBeats delayBeats warpBeats s r quiet =
-    let tempo = both _ _ quiet in
-    let stop = both _ _ (tempo .1) in
-    let delay = both _ _ (stop .1) in
-    let warp = both _ _ (delay .1) in
-    let end = both _ _ (warp .1) in
-    none-before r tempoBeats stopBeats delayBeats warpBeats s (end .1) (end .0) (tempo .0) (delay .0) (stop .0) (warp .0)
 
 pub quiet-end : (t : Timing) (r : ℤ) (s : State) → next t r s ≡ record { row = r; kind = Asked }
     → walk t r s ≡ record { state = s; passed = 0; time = add binary64 (s .time) (timeTo (earlyTempo (t .tempoBeats) (t .tempoValues) s) (t .tempoValues) s r) }

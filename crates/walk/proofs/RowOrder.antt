@@ -19,6 +19,15 @@ lt-le (negsuc p) (pos x) (negsuc y) h k = no (sym k)
 lt-le (negsuc p) (negsuc x) (pos y) h k = refl
 lt-le (negsuc p) (negsuc x) (negsuc y) h k = lt-ltb y p (omega (arith, ltb-true x p h, ltb-false x y k))
 
+pub le-lt : (p x y : ℤ) → ltZ x p ≡ false → ltZ x y ≡ true → ltZ p y ≡ true
+le-lt (pos p) (pos x) (pos y) h k = lt-ltb p y (omega (arith, ltb-false x p h, ltb-true x y k))
+le-lt (pos p) (pos x) (negsuc y) h k = no k
+le-lt (pos p) (negsuc x) y h k = no (sym h)
+le-lt (negsuc p) (pos x) (pos y) h k = refl
+le-lt (negsuc p) (pos x) (negsuc y) h k = no k
+le-lt (negsuc p) (negsuc x) (pos y) h k = refl
+le-lt (negsuc p) (negsuc x) (negsuc y) h k = lt-ltb y p (omega (arith, ltb-false p x h, ltb-true y x k))
+
 pub le-trans : (a b c : ℤ) → ltZ b a ≡ false → ltZ c b ≡ false → ltZ c a ≡ false
 le-trans (pos a) (pos b) (pos c) h k = le-ltb c a (omega (arith, ltb-false b a h, ltb-false c b k))
 le-trans (pos a) (pos b) (negsuc c) h k = no (sym k)

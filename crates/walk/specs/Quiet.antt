@@ -1,4 +1,4 @@
--- The row of the next entry of a list and of a warp's end, and whether any event is due by a row. Definitions only.
+-- The row of the next entry of a list and of a warp's end, and whether nothing but tempos is due by a row. Definitions only.
 use Prim.Native.Nat.{ℕ}
 use mathlib.Core.Bool.{Bool, false}
 use mathlib.Core.List.{List}
@@ -21,15 +21,13 @@ rowAt beats place = pick (ltb place (length beats)) (row binary64 (getD beats pl
 unfoldable pub endRow : Bool → Float → ℤ
 endRow warping end = pick warping (row binary64 end) farthest
 
--- a row by which no event is due is before the next entry of each list, before the warp's end, and before the greatest i32
-unfoldable pub isQuiet : (tempoBeats stopBeats delayBeats warpBeats : List Float) → State → ℤ → Bool
-isQuiet tempoBeats stopBeats delayBeats warpBeats s asked =
-    pick (ltZ asked (rowAt tempoBeats (s .tempos)))
-    (pick (ltZ asked (rowAt stopBeats (s .stops)))
+-- a row by which nothing but tempos is due is before the next entry of each other list, before the warp's end, and before the greatest i32
+unfoldable pub onlyTempos : (stopBeats delayBeats warpBeats : List Float) → State → ℤ → Bool
+onlyTempos stopBeats delayBeats warpBeats s asked =
+    pick (ltZ asked (rowAt stopBeats (s .stops)))
     (pick (ltZ asked (rowAt delayBeats (s .delays)))
     (pick (ltZ asked (rowAt warpBeats (s .warps)))
     (pick (ltZ asked (endRow (s .warping) (s .end))) (ltZ asked farthest) false)
-    false)
     false)
     false)
     false

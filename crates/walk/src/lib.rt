@@ -6,10 +6,12 @@ ghost use lib.IntN.{_-ℤ_};
 ghost use lib.ListN.{length, getD};
 ghost use lib.Ieee.{nan, binary64, add};
 ghost use Rattle.rows.specs.Rows.{beatOf};
-ghost use Rattle.walk.specs.Events.{timing, sooner, offered, endOffered, nextEvent};
-ghost use Rattle.walk.specs.Passing.{tempoAt, earlyTempo, inForce, timeTo, larger, afterWarpEnd, afterTempo, afterDelay, afterStop, afterWarp, CanMove, passed as Passing·passed, firstOr, lastUpTo, sixty};
-ghost use Rattle.walk.specs.Quiet.{rowAt, endRow, isQuiet};
-ghost use Rattle.walk.specs.declared.Event.the-variants.{Asked};
+ghost use Rattle.walk.specs.Events.{timing, sooner};
+ghost use Rattle.walk.specs.Heads.{headsOf, headsAfter, nextOf};
+ghost use Rattle.walk.specs.Passing.{noTime, tempoAt, earlyTempo, inForce, timeTo, larger, afterWarpEnd, afterTempo, afterDelay, afterStop, afterWarp, CanMove, passed as Passing·passed, firstOr, lastUpTo, sixty};
+ghost use Rattle.walk.specs.Quiet.{rowAt, endRow, onlyTempos};
+ghost use Rattle.walk.specs.Soon.{tempoPassed, soonOf};
+ghost use Rattle.walk.specs.declared.Event.the-variants.{Tempo};
 ghost use Rattle.walk.specs.Walk.{isEvent, isNothing, timeAt, walk};
 
 // How far a walk has come: a place in each list, the row and the time of the last event passed, the warp's end and whether it is warping.
@@ -42,6 +44,126 @@ pub struct Next {
     pub kind: Event,
 }
 
+// ---- what is ahead
+
+// The row of an entry, and the greatest i32 behind the end of the list.
+pub fn row_at(beats: &[f32], place: usize) -> i32
+    ensures { λ r. ⌜ r ≡ rowAt (now (beats .entry)) place ⌝ }
+{
+    if place < beats.len() {
+        return rows::beat_to_note_row(std::num::f32_to_f64_with_nan(beats[place]));
+    }
+    2147483647
+}
+
+pub fn end_row(warping: bool, end: f64) -> i32
+    ensures { λ r. ⌜ r ≡ endRow warping end ⌝ }
+{
+    if warping {
+        return rows::beat_to_note_row(end);
+    }
+    2147483647
+}
+
+// The rows of what is ahead of a state: kept between the events of a walk, of which each moves one or two.
+struct Heads {
+    end: i32,
+    tempo: i32,
+    delay: i32,
+    stop: i32,
+    warp: i32,
+}
+
+fn heads_of(
+    state: State,
+    tempo_beats: &[f32],
+    stop_beats: &[f32],
+    delay_beats: &[f32],
+    warp_beats: &[f32],
+) -> Heads
+    ensures { λ r. ⌜ r ≡ headsOf (now («tempo_beats» .entry)) (now («stop_beats» .entry)) (now («delay_beats» .entry)) (now («warp_beats» .entry)) state ⌝ }
+{
+    let end = end_row(state.warping, state.end);
+    let tempo = row_at(tempo_beats, state.tempos);
+    let delay = row_at(delay_beats, state.delays);
+    let stop = row_at(stop_beats, state.stops);
+    let warp = row_at(warp_beats, state.warps);
+    Heads {
+        end,
+        tempo,
+        delay,
+        stop,
+        warp,
+    }
+}
+
+// The heads after an event of a kind, which left the state.
+fn heads_after(
+    heads: Heads,
+    next: Next,
+    state: State,
+    tempo_beats: &[f32],
+    stop_beats: &[f32],
+    delay_beats: &[f32],
+    warp_beats: &[f32],
+) -> Heads
+    ensures { λ r. ⌜ r ≡ headsAfter (now («tempo_beats» .entry)) (now («stop_beats» .entry)) (now («delay_beats» .entry)) (now («warp_beats» .entry)) heads state (next .kind) ⌝ }
+{
+    let kind = next.kind;
+    match kind {
+        Event::WarpEnd => Heads {
+            end: 2147483647,
+            tempo: heads.tempo,
+            delay: heads.delay,
+            stop: heads.stop,
+            warp: heads.warp,
+        },
+        Event::Tempo => {
+            let tempo = row_at(tempo_beats, state.tempos);
+            Heads {
+                end: heads.end,
+                tempo,
+                delay: heads.delay,
+                stop: heads.stop,
+                warp: heads.warp,
+            }
+        }
+        Event::Delay => {
+            let delay = row_at(delay_beats, state.delays);
+            Heads {
+                end: heads.end,
+                tempo: heads.tempo,
+                delay,
+                stop: heads.stop,
+                warp: heads.warp,
+            }
+        }
+        Event::Stop => {
+            let stop = row_at(stop_beats, state.stops);
+            Heads {
+                end: heads.end,
+                tempo: heads.tempo,
+                delay: heads.delay,
+                stop,
+                warp: heads.warp,
+            }
+        }
+        Event::Warp => {
+            let end = rows::beat_to_note_row(state.end);
+            let warp = row_at(warp_beats, state.warps);
+            Heads {
+                end,
+                tempo: heads.tempo,
+                delay: heads.delay,
+                stop: heads.stop,
+                warp,
+            }
+        }
+        Event::Asked => heads,
+        Event::NotFound => heads,
+    }
+}
+
 // ---- the next event
 
 // Only an earlier row takes the place of what was found so far.
@@ -55,45 +177,45 @@ fn earlier(best: Next, row: i32, kind: Event) -> Next
     best
 }
 
-fn offer(best: Next, beats: &[f32], place: usize, kind: Event) -> Next
-    ensures { λ r. ⌜ r ≡ offered best (now (beats .entry)) place kind ⌝ }
+// True only where a tempo is next, which most events of many charts are: no other head is looked at twice.
+fn is_tempo_next(heads: Heads, asked: i32) -> bool
+    ensures { λ r. ⌜ (r ≡ true → nextOf heads asked ≡ record { row = heads .tempo; kind = Tempo }) ⌝ }
 {
-    if place < beats.len() {
-        let row = rows::beat_to_note_row(std::num::f32_to_f64_with_nan(beats[place]));
-        return earlier(best, row, kind);
+    if heads.tempo < asked {
+        if heads.tempo < heads.stop {
+            if heads.tempo < heads.delay {
+                if heads.tempo < heads.warp {
+                    return heads.tempo < heads.end;
+                }
+                return false;
+            }
+            return false;
+        }
+        return false;
     }
-    best
+    false
 }
 
-fn offer_end(best: Next, warping: bool, end: f64) -> Next
-    ensures { λ r. ⌜ r ≡ endOffered best warping end ⌝ }
+// What is next: the least row, and on one row what comes first.
+fn find_next_event(heads: Heads, asked: i32) -> Next
+    ensures { λ r. ⌜ r ≡ nextOf heads asked ⌝ }
 {
-    if warping {
-        return earlier(best, rows::beat_to_note_row(end), Event::WarpEnd);
+    if is_tempo_next(heads, asked) {
+        return Next {
+            row: heads.tempo,
+            kind: Event::Tempo,
+        };
     }
-    best
-}
-
-fn find_next_event(
-    state: State,
-    tempo_beats: &[f32],
-    stop_beats: &[f32],
-    delay_beats: &[f32],
-    warp_beats: &[f32],
-    asked: i32,
-) -> Next
-    ensures { λ r. ⌜ r ≡ nextEvent (now («tempo_beats» .entry)) (now («stop_beats» .entry)) (now («delay_beats» .entry)) (now («warp_beats» .entry)) state asked ⌝ }
-{
     let nothing = Next {
         row: 2147483647,
         kind: Event::NotFound,
     };
-    let end = offer_end(nothing, state.warping, state.end);
-    let tempo = offer(end, tempo_beats, state.tempos, Event::Tempo);
-    let delay = offer(tempo, delay_beats, state.delays, Event::Delay);
+    let end = earlier(nothing, heads.end, Event::WarpEnd);
+    let tempo = earlier(end, heads.tempo, Event::Tempo);
+    let delay = earlier(tempo, heads.delay, Event::Delay);
     let marker = earlier(delay, asked, Event::Asked);
-    let stop = offer(marker, stop_beats, state.stops, Event::Stop);
-    offer(stop, warp_beats, state.warps, Event::Warp)
+    let stop = earlier(marker, heads.stop, Event::Stop);
+    earlier(stop, heads.warp, Event::Warp)
 }
 
 // ---- time
@@ -291,6 +413,38 @@ fn pass_event(
     }
 }
 
+// The state after the tempo that is next, on its row, where one was passed before it; the state as it is where none is left.
+pub fn pass_next_tempo(
+    state: State,
+    row: i32,
+    tempo_beats: &[f32],
+    tempo_values: &[f32],
+    stop_values: &[f32],
+    delay_values: &[f32],
+    warp_beats: &[f32],
+    warp_lengths: &[f32],
+) -> State
+    ensures { λ r. ⌜ r ≡ tempoPassed (now («tempo_beats» .entry)) (now («tempo_values» .entry)) (now («stop_values» .entry)) (now («delay_values» .entry)) (now («warp_beats» .entry)) (now («warp_lengths» .entry)) state row ⌝ }
+{
+    if state.tempos < tempo_beats.len() {
+        let next = Next {
+            row,
+            kind: Event::Tempo,
+        };
+        return pass_event(
+            state,
+            next,
+            0.0,
+            tempo_values,
+            stop_values,
+            delay_values,
+            warp_beats,
+            warp_lengths,
+        );
+    }
+    state
+}
+
 // ---- the walk
 
 // The state after the last event passed, how many were passed, and the time of the asked beat.
@@ -340,46 +494,23 @@ fn time_at(state: State, next: Next, early: f64, tempo_values: &[f32]) -> f64
     state.time + time_to(state, early, tempo_values, next.row)
 }
 
-// ---- rows by which no event is due
+// ---- walks that pass nothing, or one tempo
 
-// The row of an entry, and the greatest i32 behind the end of the list.
-pub fn row_at(beats: &[f32], place: usize) -> i32
-    ensures { λ r. ⌜ r ≡ rowAt (now (beats .entry)) place ⌝ }
-{
-    if place < beats.len() {
-        return rows::beat_to_note_row(std::num::f32_to_f64_with_nan(beats[place]));
-    }
-    2147483647
-}
-
-pub fn end_row(warping: bool, end: f64) -> i32
-    ensures { λ r. ⌜ r ≡ endRow warping end ⌝ }
-{
-    if warping {
-        return rows::beat_to_note_row(end);
-    }
-    2147483647
-}
-
-// Whether no event is due by the row.
-pub fn is_quiet(
+// Whether by the row no event but a tempo is due.
+pub fn is_only_tempos(
     state: State,
     asked: i32,
-    tempo_beats: &[f32],
     stop_beats: &[f32],
     delay_beats: &[f32],
     warp_beats: &[f32],
 ) -> bool
-    ensures { λ r. ⌜ r ≡ isQuiet (now («tempo_beats» .entry)) (now («stop_beats» .entry)) (now («delay_beats» .entry)) (now («warp_beats» .entry)) state asked ⌝ }
+    ensures { λ r. ⌜ r ≡ onlyTempos (now («stop_beats» .entry)) (now («delay_beats» .entry)) (now («warp_beats» .entry)) state asked ⌝ }
 {
-    if asked < row_at(tempo_beats, state.tempos) {
-        if asked < row_at(stop_beats, state.stops) {
-            if asked < row_at(delay_beats, state.delays) {
-                if asked < row_at(warp_beats, state.warps) {
-                    if asked < end_row(state.warping, state.end) {
-                        return asked < 2147483647;
-                    }
-                    return false;
+    if asked < row_at(stop_beats, state.stops) {
+        if asked < row_at(delay_beats, state.delays) {
+            if asked < row_at(warp_beats, state.warps) {
+                if asked < end_row(state.warping, state.end) {
+                    return asked < 2147483647;
                 }
                 return false;
             }
@@ -390,12 +521,56 @@ pub fn is_quiet(
     false
 }
 
-// The time of a row by which no event is due.
-pub fn quiet_time(state: State, asked: i32, tempo_beats: &[f32], tempo_values: &[f32]) -> f64
-    ensures { λ r. ⌜ r ≡ add binary64 (state .time) (timeTo (earlyTempo (now («tempo_beats» .entry)) (now («tempo_values» .entry)) state) (now («tempo_values» .entry)) state asked) ⌝ }
+// A walk up to its first tempo and past it: the state, how many were passed, and whether by the row no other is due.
+pub struct Soon {
+    pub state: State,
+    pub passed: usize,
+    pub whole: bool,
+}
+
+pub fn walk_soon(
+    state: State,
+    asked: i32,
+    tempo_beats: &[f32],
+    tempo_values: &[f32],
+    stop_values: &[f32],
+    delay_values: &[f32],
+    warp_beats: &[f32],
+    warp_lengths: &[f32],
+) -> Soon
+    ensures { λ r. ⌜ r ≡ soonOf (now («tempo_beats» .entry)) (now («tempo_values» .entry)) (now («stop_values» .entry)) (now («delay_values» .entry)) (now («warp_beats» .entry)) (now («warp_lengths» .entry)) state asked ⌝ }
 {
-    let early = early_tempo(state, tempo_beats, tempo_values);
-    state.time + time_to(state, early, tempo_values, asked)
+    let first = row_at(tempo_beats, state.tempos);
+    if asked < first {
+        return Soon {
+            state,
+            passed: 0,
+            whole: true,
+        };
+    }
+    let moved = pass_next_tempo(
+        state,
+        first,
+        tempo_beats,
+        tempo_values,
+        stop_values,
+        delay_values,
+        warp_beats,
+        warp_lengths,
+    );
+    let second = row_at(tempo_beats, moved.tempos);
+    Soon {
+        state: moved,
+        passed: 1,
+        whole: asked < second,
+    }
+}
+
+// The time of a row by which no event is due, where a tempo was passed.
+pub fn quiet_time(state: State, asked: i32, tempo_values: &[f32]) -> f64
+    ensures { λ r. ⌜ r ≡ add binary64 (state .time) (timeTo noTime (now («tempo_values» .entry)) state asked) ⌝ }
+{
+    state.time + time_to(state, 0.0, tempo_values, asked)
 }
 
 // ---- the whole walk
@@ -417,16 +592,10 @@ pub fn walk_to(
 {
     let early = early_tempo(start, tempo_beats, tempo_values);
     let mut state = start;
+    let mut heads = heads_of(start, tempo_beats, stop_beats, delay_beats, warp_beats);
     let mut passed: usize = 0;
     loop {
-        let next = find_next_event(
-            state,
-            tempo_beats,
-            stop_beats,
-            delay_beats,
-            warp_beats,
-            asked,
-        );
+        let next = find_next_event(heads, asked);
         let more = is_event(next);
         if !more {
             let time = time_at(state, next, early, tempo_values);
@@ -445,6 +614,15 @@ pub fn walk_to(
             delay_values,
             warp_beats,
             warp_lengths,
+        );
+        heads = heads_after(
+            heads,
+            next,
+            state,
+            tempo_beats,
+            stop_beats,
+            delay_beats,
+            warp_beats,
         );
         passed = passed + 1;
     }

@@ -1,20 +1,21 @@
 -- `clock_run::ask_each` asks beat by beat. Assumes nothing.
 use Prim.Native.Nat.{_-_}
-use mathlib.Core.Path.{_≡_, sym, ap, _∙_}
-use mathlib.Core.Bool.{true}
+use mathlib.Core.Path.{_≡_, sym, ap, _∙_, subst}
+use mathlib.Core.Bool.{Bool, true, false}
 use native.Mathlib.Omega.{arith}
 use lib.IntN.{ℤ}
 use lib.ListN.{length, getD}
 use lib.Ieee.{Float, nan, binary64, sub}
 use mir.Syntax.{w32}
-use mir.Val.{toZ, ofZ}
+use mir.Val.{SFits, toZ, ofZ}
 use Rattle.rows.specs.Rows.{row}
 use Rattle.walk.specs.Events.{timing}
 use Rattle.walk.proofs.BackFromBits.{back}
 use Rattle.walk.proofs.RowOrder.{no}
-use Rattle.clock_run.specs.Ahead.{isQuiet}
+use Rattle.clock_run.specs.Ahead.{isBefore, pastTempo}
+use Rattle.clock_run.specs.declared.Past.{Past}
 use Rattle.clock_run.proofs.BeatByBeat.{Running, begun, turned, quiet-turn, ended}
-use Rattle.clock_run.proofs.QuietRows.{Sees}
+use Rattle.clock_run.proofs.QuietRows.{Sees, quietly, quiet-answer, passing, past-answer}
 use Rattle.clock_run.proofs.PlacesInColumns.{scaled4, scaled8, inside}
 use borrow.Author.Needs.{needs}
 use Rattle.clock_run.proofs.ask_each.Statement.{statement}
@@ -26,6 +27,11 @@ Inv-loop tempo-beats tempo-values stop-beats stop-values delay-beats delay-value
 
 abbrev μ-loop : tie.MeasureT-loop
 μ-loop tempo-beats tempo-values stop-beats stop-values delay-beats delay-values warp-beats warp-lengths offset global beats numbers₀ times₀ counts₀ at₀ ahead₀ i₀ numbers times counts at ahead i = length beats - i
+
+-- what a test of rows that stand in structs found
+test-of : (known : Bool) (until last : ℤ) (beat : Float) (r : ℤ) (found : Bool) → SFits w32 until → SFits w32 last
+    → isBefore known (toZ w32 (ofZ w32 until)) (toZ w32 (ofZ w32 last)) beat r ≡ found → isBefore known until last beat r ≡ found
+test-of known until last beat r found f g h = rw (back until f, back last g) at h
 
 loop-holds : tie.Need-loop-holds Inv-loop μ-loop
 loop-holds c =
@@ -43,111 +49,177 @@ shared-slice-read-beat c = c .before .loop-test .taken
 beat-to-note-row-requires : tie.Need-beat-to-note-row-requires Inv-loop μ-loop
 beat-to-note-row-requires c κs = search needs
 
-is-quiet-requires : tie.Need-is-quiet-requires Inv-loop μ-loop
-is-quiet-requires c κs = search needs
+is-before-requires : tie.Need-is-before-requires Inv-loop μ-loop
+is-before-requires c κs = search needs
 
 quiet-time-requires : tie.Need-quiet-time-requires Inv-loop μ-loop
 quiet-time-requires c κs = search needs
 
 mul-numbers : tie.Need-mul-numbers Inv-loop μ-loop
 mul-numbers c =
-    let s = c .before .before .before .before .before .before .before .before .before .before .before .before .before .before .before .before .before .before .before .before .before in
-    scaled4 (c .before .before .before .before .before .before .before .before .loop .i) (length (s .args .numbers .now)) (inside (c .before .before .before .before .before .before .before .before .loop .i) (length (s .args .beats .now)) (length (s .args .numbers .now)) (c .before .before .before .before .before .before .before .loop-test .taken) (s .pre .0)) (s .good .1 .1 .1 .1 .1 .1 .1 .1 .1 .1 .1 .1 .0 .1)
+    let s = c .before .before .before .before .before .before .before .before .before .before .before .before .before .before .before .before .before .before .before .before .before .before in
+    scaled4 (c .before .before .before .before .before .before .before .before .before .loop .i) (length (s .args .numbers .now)) (inside (c .before .before .before .before .before .before .before .before .before .loop .i) (length (s .args .beats .now)) (length (s .args .numbers .now)) (c .before .before .before .before .before .before .before .before .loop-test .taken) (s .pre .0)) (s .good .1 .1 .1 .1 .1 .1 .1 .1 .1 .1 .1 .1 .0 .1)
 
 slice-write-numbers : tie.Need-slice-write-numbers Inv-loop μ-loop
 slice-write-numbers c =
-    let s = c .before .before .before .before .before .before .before .before .before .before .before .before .before .before .before .before .before .before .before .before .before in
-    rw (c .before .before .before .before .before .before .before .before .loop .inv .0 .ofNumbers .size) (inside (c .before .before .before .before .before .before .before .before .loop .i) (length (s .args .beats .now)) (length (s .args .numbers .now)) (c .before .before .before .before .before .before .before .loop-test .taken) (s .pre .0))
+    let s = c .before .before .before .before .before .before .before .before .before .before .before .before .before .before .before .before .before .before .before .before .before .before in
+    rw (c .before .before .before .before .before .before .before .before .before .loop .inv .0 .ofNumbers .size) (inside (c .before .before .before .before .before .before .before .before .before .loop .i) (length (s .args .beats .now)) (length (s .args .numbers .now)) (c .before .before .before .before .before .before .before .before .loop-test .taken) (s .pre .0))
 
 mul-times : tie.Need-mul-times Inv-loop μ-loop
 mul-times c =
-    let s = c .before .before .before .before .before .before .before .before .before .before .before .before .before .before .before .before .before .before .before .before .before in
-    scaled8 (c .before .before .before .before .before .before .before .before .loop .i) (length (s .args .times .now)) (inside (c .before .before .before .before .before .before .before .before .loop .i) (length (s .args .beats .now)) (length (s .args .times .now)) (c .before .before .before .before .before .before .before .loop-test .taken) (s .pre .1)) (s .good .1 .1 .1 .1 .1 .1 .1 .1 .1 .1 .1 .1 .1 .0 .1)
+    let s = c .before .before .before .before .before .before .before .before .before .before .before .before .before .before .before .before .before .before .before .before .before .before in
+    scaled8 (c .before .before .before .before .before .before .before .before .before .loop .i) (length (s .args .times .now)) (inside (c .before .before .before .before .before .before .before .before .before .loop .i) (length (s .args .beats .now)) (length (s .args .times .now)) (c .before .before .before .before .before .before .before .before .loop-test .taken) (s .pre .1)) (s .good .1 .1 .1 .1 .1 .1 .1 .1 .1 .1 .1 .1 .1 .0 .1)
 
 slice-write-times : tie.Need-slice-write-times Inv-loop μ-loop
 slice-write-times c =
-    let s = c .before .before .before .before .before .before .before .before .before .before .before .before .before .before .before .before .before .before .before .before .before in
-    rw (c .before .before .before .before .before .before .before .before .loop .inv .0 .ofTimes .size) (inside (c .before .before .before .before .before .before .before .before .loop .i) (length (s .args .beats .now)) (length (s .args .times .now)) (c .before .before .before .before .before .before .before .loop-test .taken) (s .pre .1))
+    let s = c .before .before .before .before .before .before .before .before .before .before .before .before .before .before .before .before .before .before .before .before .before .before in
+    rw (c .before .before .before .before .before .before .before .before .before .loop .inv .0 .ofTimes .size) (inside (c .before .before .before .before .before .before .before .before .before .loop .i) (length (s .args .beats .now)) (length (s .args .times .now)) (c .before .before .before .before .before .before .before .before .loop-test .taken) (s .pre .1))
 
 mul-counts : tie.Need-mul-counts Inv-loop μ-loop
 mul-counts c =
-    let s = c .before .before .before .before .before .before .before .before .before .before .before .before .before .before .before .before .before .before .before .before .before in
-    scaled8 (c .before .before .before .before .before .before .before .before .loop .i) (length (s .args .counts .now)) (inside (c .before .before .before .before .before .before .before .before .loop .i) (length (s .args .beats .now)) (length (s .args .counts .now)) (c .before .before .before .before .before .before .before .loop-test .taken) (s .pre .2)) (s .good .1 .1 .1 .1 .1 .1 .1 .1 .1 .1 .1 .1 .1 .1 .0 .1)
+    let s = c .before .before .before .before .before .before .before .before .before .before .before .before .before .before .before .before .before .before .before .before .before .before in
+    scaled8 (c .before .before .before .before .before .before .before .before .before .loop .i) (length (s .args .counts .now)) (inside (c .before .before .before .before .before .before .before .before .before .loop .i) (length (s .args .beats .now)) (length (s .args .counts .now)) (c .before .before .before .before .before .before .before .before .loop-test .taken) (s .pre .2)) (s .good .1 .1 .1 .1 .1 .1 .1 .1 .1 .1 .1 .1 .1 .1 .0 .1)
 
 slice-write-counts : tie.Need-slice-write-counts Inv-loop μ-loop
 slice-write-counts c =
-    let s = c .before .before .before .before .before .before .before .before .before .before .before .before .before .before .before .before .before .before .before .before .before in
-    rw (c .before .before .before .before .before .before .before .before .loop .inv .0 .ofCounts .size) (inside (c .before .before .before .before .before .before .before .before .loop .i) (length (s .args .beats .now)) (length (s .args .counts .now)) (c .before .before .before .before .before .before .before .loop-test .taken) (s .pre .2))
+    let s = c .before .before .before .before .before .before .before .before .before .before .before .before .before .before .before .before .before .before .before .before .before .before in
+    rw (c .before .before .before .before .before .before .before .before .before .loop .inv .0 .ofCounts .size) (inside (c .before .before .before .before .before .before .before .before .before .loop .i) (length (s .args .beats .now)) (length (s .args .counts .now)) (c .before .before .before .before .before .before .before .before .loop-test .taken) (s .pre .2))
 
 add-i : tie.Need-add-i Inv-loop μ-loop
 add-i c =
-    let s = c .before .before .before .before .before .before .before .before .before .before .before .before .before .before .before .before .before .before .before .before .before in
-    omega (arith, c .before .before .before .before .before .before .before .loop-test .taken, s .good .1 .1 .1 .1 .1 .1 .1 .1 .1 .1 .1 .0 .0)
+    let s = c .before .before .before .before .before .before .before .before .before .before .before .before .before .before .before .before .before .before .before .before .before .before in
+    omega (arith, c .before .before .before .before .before .before .before .before .loop-test .taken, s .good .1 .1 .1 .1 .1 .1 .1 .1 .1 .1 .1 .0 .0)
 
 loop-less : tie.Need-loop-less Inv-loop μ-loop
-loop-less c = omega (arith, c .before .before .before .before .before .before .before .loop-test .taken)
+loop-less c = omega (arith, c .before .before .before .before .before .before .before .before .loop-test .taken)
 
 loop-again : tie.Need-loop-again Inv-loop μ-loop
 loop-again c =
-    let s = c .before .before .before .before .before .before .before .before .before .before .before .before .before .before .before .before .before .before .before .before .before in
+    let s = c .before .before .before .before .before .before .before .before .before .before .before .before .before .before .before .before .before .before .before .before .before .before in
     let a = s .args in
-    let l = c .before .before .before .before .before .before .before .before .loop in
-    let r = toZ w32 (ofZ w32 (c .before .before .before .before .before .beat-to-note-row .result)) in
-    let isRow : r ≡ row binary64 (getD (a .beats .now) (l .i) nan) = back (c .before .before .before .before .before .beat-to-note-row .result) (record { sfits = c .before .before .before .before .before .beat-to-note-row .ok }) ∙ c .before .before .before .before .before .beat-to-note-row .ensures in
-    let quiet : isQuiet (l .ahead) (l .at .asked) (getD (a .beats .now) (l .i) nan) r ≡ true =
-    ap (λ (z : ℤ). isQuiet (l .ahead) z (getD (a .beats .now) (l .i) nan) r) (sym (back (l .at .asked) (record { sfits = c .before .before .before .before .struct-told .given .1 .0 .1 }))) ∙ sym (c .before .before .before .is-quiet .ensures) ∙ c .before .before .if1 .taken in
-    (quiet-turn (timing (a .tempo-beats .now) (a .tempo-values .now) (a .stop-beats .now) (a .stop-values .now) (a .delay-beats .now) (a .delay-values .now) (a .warp-beats .now) (a .warp-lengths .now)) (a .offset) (a .global) (a .cursor) (a .beats .now) (a .numbers .now) (a .times .now) (a .counts .now) (l .at) (l .numbers) (l .times) (l .counts) (l .i) (l .inv .0) (l .ahead) (l .inv .1) r isRow quiet _ (ap (λ (x : Float). sub binary64 x (a .global)) (c .quiet-time .ensures)) (c .before .before .before .before .before .before .before .loop-test .taken) (s .pre .0) (s .pre .1) (s .pre .2), l .inv .1)
+    let l = c .before .before .before .before .before .before .before .before .before .loop in
+    let beat = getD (a .beats .now) (l .i) nan in
+    let asked = c .before .before .before .before .before .before .beat-to-note-row in
+    let r = toZ w32 (ofZ w32 (asked .result)) in
+    let isRow : r ≡ row binary64 beat = back (asked .result) (record { sfits = asked .ok }) ∙ asked .ensures in
+    let quiet : isBefore (l .ahead .known) (l .ahead .row) (l .at .asked) beat r ≡ true =
+    test-of (l .ahead .known) (l .ahead .row) (l .at .asked) beat r true (record { sfits = c .before .before .before .before .before .struct-told .given .1 .0 .1 }) (record { sfits = c .before .before .before .before .struct-told2 .given .1 .0 .1 }) (sym (c .before .before .before .is-before .ensures) ∙ c .before .before .if1 .taken) in
+    let is = quiet-answer (timing (a .tempo-beats .now) (a .tempo-values .now) (a .stop-beats .now) (a .stop-values .now) (a .delay-beats .now) (a .delay-values .now) (a .warp-beats .now) (a .warp-lengths .now)) (a .offset) (a .global) (l .at) beat (l .ahead) (l .inv .1) (rw isRow at quiet) in
+    (quiet-turn (timing (a .tempo-beats .now) (a .tempo-values .now) (a .stop-beats .now) (a .stop-values .now) (a .delay-beats .now) (a .delay-values .now) (a .warp-beats .now) (a .warp-lengths .now)) (a .offset) (a .global) (a .cursor) (a .beats .now) (a .numbers .now) (a .times .now) (a .counts .now) (l .at) (l .numbers) (l .times) (l .counts) (l .i) (l .inv .0) 0 (l .at .state) (l .ahead .rate) is r isRow _ (ap (λ (x : Float). sub binary64 x (a .global)) (c .quiet-time .ensures)) (c .before .before .before .before .before .before .before .before .loop-test .taken) (s .pre .0) (s .pre .1) (s .pre .2), l .inv .1)
+
+past-tempo-requires : tie.Need-past-tempo-requires Inv-loop μ-loop
+past-tempo-requires c κs = search needs
+
+quiet-time-requires-2 : tie.Need-quiet-time-requires-2 Inv-loop μ-loop
+quiet-time-requires-2 c κs = search needs
+
+mul-numbers-2 : tie.Need-mul-numbers-2 Inv-loop μ-loop
+mul-numbers-2 c =
+    let s = c .before .before .before .before .before .before .before .before .before .before .before .before .before .before .before .before .before .before .before .before .before .before .before .before .before in
+    scaled4 (c .before .before .before .before .before .before .before .before .before .before .before .before .loop .i) (length (s .args .numbers .now)) (inside (c .before .before .before .before .before .before .before .before .before .before .before .before .loop .i) (length (s .args .beats .now)) (length (s .args .numbers .now)) (c .before .before .before .before .before .before .before .before .before .before .before .loop-test .taken) (s .pre .0)) (s .good .1 .1 .1 .1 .1 .1 .1 .1 .1 .1 .1 .1 .0 .1)
+
+slice-write-numbers-2 : tie.Need-slice-write-numbers-2 Inv-loop μ-loop
+slice-write-numbers-2 c =
+    let s = c .before .before .before .before .before .before .before .before .before .before .before .before .before .before .before .before .before .before .before .before .before .before .before .before .before in
+    rw (c .before .before .before .before .before .before .before .before .before .before .before .before .loop .inv .0 .ofNumbers .size) (inside (c .before .before .before .before .before .before .before .before .before .before .before .before .loop .i) (length (s .args .beats .now)) (length (s .args .numbers .now)) (c .before .before .before .before .before .before .before .before .before .before .before .loop-test .taken) (s .pre .0))
+
+mul-times-2 : tie.Need-mul-times-2 Inv-loop μ-loop
+mul-times-2 c =
+    let s = c .before .before .before .before .before .before .before .before .before .before .before .before .before .before .before .before .before .before .before .before .before .before .before .before .before in
+    scaled8 (c .before .before .before .before .before .before .before .before .before .before .before .before .loop .i) (length (s .args .times .now)) (inside (c .before .before .before .before .before .before .before .before .before .before .before .before .loop .i) (length (s .args .beats .now)) (length (s .args .times .now)) (c .before .before .before .before .before .before .before .before .before .before .before .loop-test .taken) (s .pre .1)) (s .good .1 .1 .1 .1 .1 .1 .1 .1 .1 .1 .1 .1 .1 .0 .1)
+
+slice-write-times-2 : tie.Need-slice-write-times-2 Inv-loop μ-loop
+slice-write-times-2 c =
+    let s = c .before .before .before .before .before .before .before .before .before .before .before .before .before .before .before .before .before .before .before .before .before .before .before .before .before in
+    rw (c .before .before .before .before .before .before .before .before .before .before .before .before .loop .inv .0 .ofTimes .size) (inside (c .before .before .before .before .before .before .before .before .before .before .before .before .loop .i) (length (s .args .beats .now)) (length (s .args .times .now)) (c .before .before .before .before .before .before .before .before .before .before .before .loop-test .taken) (s .pre .1))
+
+mul-counts-2 : tie.Need-mul-counts-2 Inv-loop μ-loop
+mul-counts-2 c =
+    let s = c .before .before .before .before .before .before .before .before .before .before .before .before .before .before .before .before .before .before .before .before .before .before .before .before .before in
+    scaled8 (c .before .before .before .before .before .before .before .before .before .before .before .before .loop .i) (length (s .args .counts .now)) (inside (c .before .before .before .before .before .before .before .before .before .before .before .before .loop .i) (length (s .args .beats .now)) (length (s .args .counts .now)) (c .before .before .before .before .before .before .before .before .before .before .before .loop-test .taken) (s .pre .2)) (s .good .1 .1 .1 .1 .1 .1 .1 .1 .1 .1 .1 .1 .1 .1 .0 .1)
+
+slice-write-counts-2 : tie.Need-slice-write-counts-2 Inv-loop μ-loop
+slice-write-counts-2 c =
+    let s = c .before .before .before .before .before .before .before .before .before .before .before .before .before .before .before .before .before .before .before .before .before .before .before .before .before in
+    rw (c .before .before .before .before .before .before .before .before .before .before .before .before .loop .inv .0 .ofCounts .size) (inside (c .before .before .before .before .before .before .before .before .before .before .before .before .loop .i) (length (s .args .beats .now)) (length (s .args .counts .now)) (c .before .before .before .before .before .before .before .before .before .before .before .loop-test .taken) (s .pre .2))
+
+add-i-2 : tie.Need-add-i-2 Inv-loop μ-loop
+add-i-2 c =
+    let s = c .before .before .before .before .before .before .before .before .before .before .before .before .before .before .before .before .before .before .before .before .before .before .before .before .before in
+    omega (arith, c .before .before .before .before .before .before .before .before .before .before .before .loop-test .taken, s .good .1 .1 .1 .1 .1 .1 .1 .1 .1 .1 .1 .0 .0)
+
+loop-less-2 : tie.Need-loop-less-2 Inv-loop μ-loop
+loop-less-2 c = omega (arith, c .before .before .before .before .before .before .before .before .before .before .before .loop-test .taken)
+
+loop-again-2 : tie.Need-loop-again-2 Inv-loop μ-loop
+loop-again-2 c =
+    let s = c .before .before .before .before .before .before .before .before .before .before .before .before .before .before .before .before .before .before .before .before .before .before .before .before .before in
+    let a = s .args in
+    let l = c .before .before .before .before .before .before .before .before .before .before .before .before .loop in
+    let beat = getD (a .beats .now) (l .i) nan in
+    let asked = c .before .before .before .before .before .before .before .before .before .beat-to-note-row in
+    let r = toZ w32 (ofZ w32 (asked .result)) in
+    let isRow : r ≡ row binary64 beat = back (asked .result) (record { sfits = asked .ok }) ∙ asked .ensures in
+    let t = timing (a .tempo-beats .now) (a .tempo-values .now) (a .stop-beats .now) (a .stop-values .now) (a .delay-beats .now) (a .delay-values .now) (a .warp-beats .now) (a .warp-lengths .now) in
+    let p = c .before .before .before .before .past-tempo .result in
+    let behind : isBefore (l .ahead .known) (l .ahead .row) (l .at .asked) beat r ≡ false =
+    test-of (l .ahead .known) (l .ahead .row) (l .at .asked) beat r false (record { sfits = c .before .before .before .before .before .before .before .before .struct-told .given .1 .0 .1 }) (record { sfits = c .before .before .before .before .before .before .before .struct-told2 .given .1 .0 .1 }) (sym (c .before .before .before .before .before .before .is-before .ensures) ∙ c .before .before .before .before .before .if1 .left) in
+    let behind-row : isBefore (l .ahead .known) (l .ahead .row) (l .at .asked) beat (row binary64 beat) ≡ false = rw isRow at behind in
+    let isPast : p ≡ passing t (a .offset) (a .global) (l .at) beat (l .ahead) (l .inv .1) behind-row = c .before .before .before .before .past-tempo .ensures ∙ ap (λ (z : ℤ). pastTempo (a .tempo-beats .now) (a .tempo-values .now) (a .stop-values .now) (a .delay-values .now) (a .warp-beats .now) (a .warp-lengths .now) (l .ahead) (l .at) beat z) isRow in
+    let found = past-answer t (a .offset) (a .global) (l .at) beat (l .ahead) (l .inv .1) behind-row (ap (λ (x : Past). x .reached) (sym isPast) ∙ c .before .before .before .if2 .taken) in
+    let is = ap (λ (x : Past). quietly t (a .offset) (a .global) (l .at) beat 1 (x .state) (x .ahead .rate)) isPast ∙ found .0 in
+    (quiet-turn t (a .offset) (a .global) (a .cursor) (a .beats .now) (a .numbers .now) (a .times .now) (a .counts .now) (l .at) (l .numbers) (l .times) (l .counts) (l .i) (l .inv .0) 1 (p .state) (p .ahead .rate) is r isRow _ (ap (λ (x : Float). sub binary64 x (a .global)) (c .quiet-time2 .ensures)) (c .before .before .before .before .before .before .before .before .before .before .before .loop-test .taken) (s .pre .0) (s .pre .1) (s .pre .2), subst (λ (x : Past). Sees t (x .state) (x .ahead)) (sym isPast) (found .1))
 
 ask-requires : tie.Need-ask-requires Inv-loop μ-loop
 ask-requires c κs = search needs
 
-mul-numbers-2 : tie.Need-mul-numbers-2 Inv-loop μ-loop
-mul-numbers-2 c =
-    let s = c .before .before .before .before .before .before .before .before .before .before .before .before .before .before .before .before .before .before .before .before in
-    scaled4 (c .before .before .before .before .before .before .before .loop .i) (length (s .args .numbers .now)) (inside (c .before .before .before .before .before .before .before .loop .i) (length (s .args .beats .now)) (length (s .args .numbers .now)) (c .before .before .before .before .before .before .loop-test .taken) (s .pre .0)) (s .good .1 .1 .1 .1 .1 .1 .1 .1 .1 .1 .1 .1 .0 .1)
+mul-numbers-3 : tie.Need-mul-numbers-3 Inv-loop μ-loop
+mul-numbers-3 c =
+    let s = c .before .before .before .before .before .before .before .before .before .before .before .before .before .before .before .before .before .before .before .before .before .before .before in
+    scaled4 (c .before .before .before .before .before .before .before .before .before .before .loop .i) (length (s .args .numbers .now)) (inside (c .before .before .before .before .before .before .before .before .before .before .loop .i) (length (s .args .beats .now)) (length (s .args .numbers .now)) (c .before .before .before .before .before .before .before .before .before .loop-test .taken) (s .pre .0)) (s .good .1 .1 .1 .1 .1 .1 .1 .1 .1 .1 .1 .1 .0 .1)
 
-slice-write-numbers-2 : tie.Need-slice-write-numbers-2 Inv-loop μ-loop
-slice-write-numbers-2 c =
-    let s = c .before .before .before .before .before .before .before .before .before .before .before .before .before .before .before .before .before .before .before .before in
-    rw (c .before .before .before .before .before .before .before .loop .inv .0 .ofNumbers .size) (inside (c .before .before .before .before .before .before .before .loop .i) (length (s .args .beats .now)) (length (s .args .numbers .now)) (c .before .before .before .before .before .before .loop-test .taken) (s .pre .0))
+slice-write-numbers-3 : tie.Need-slice-write-numbers-3 Inv-loop μ-loop
+slice-write-numbers-3 c =
+    let s = c .before .before .before .before .before .before .before .before .before .before .before .before .before .before .before .before .before .before .before .before .before .before .before in
+    rw (c .before .before .before .before .before .before .before .before .before .before .loop .inv .0 .ofNumbers .size) (inside (c .before .before .before .before .before .before .before .before .before .before .loop .i) (length (s .args .beats .now)) (length (s .args .numbers .now)) (c .before .before .before .before .before .before .before .before .before .loop-test .taken) (s .pre .0))
 
-mul-times-2 : tie.Need-mul-times-2 Inv-loop μ-loop
-mul-times-2 c =
-    let s = c .before .before .before .before .before .before .before .before .before .before .before .before .before .before .before .before .before .before .before .before in
-    scaled8 (c .before .before .before .before .before .before .before .loop .i) (length (s .args .times .now)) (inside (c .before .before .before .before .before .before .before .loop .i) (length (s .args .beats .now)) (length (s .args .times .now)) (c .before .before .before .before .before .before .loop-test .taken) (s .pre .1)) (s .good .1 .1 .1 .1 .1 .1 .1 .1 .1 .1 .1 .1 .1 .0 .1)
+mul-times-3 : tie.Need-mul-times-3 Inv-loop μ-loop
+mul-times-3 c =
+    let s = c .before .before .before .before .before .before .before .before .before .before .before .before .before .before .before .before .before .before .before .before .before .before .before in
+    scaled8 (c .before .before .before .before .before .before .before .before .before .before .loop .i) (length (s .args .times .now)) (inside (c .before .before .before .before .before .before .before .before .before .before .loop .i) (length (s .args .beats .now)) (length (s .args .times .now)) (c .before .before .before .before .before .before .before .before .before .loop-test .taken) (s .pre .1)) (s .good .1 .1 .1 .1 .1 .1 .1 .1 .1 .1 .1 .1 .1 .0 .1)
 
-slice-write-times-2 : tie.Need-slice-write-times-2 Inv-loop μ-loop
-slice-write-times-2 c =
-    let s = c .before .before .before .before .before .before .before .before .before .before .before .before .before .before .before .before .before .before .before .before in
-    rw (c .before .before .before .before .before .before .before .loop .inv .0 .ofTimes .size) (inside (c .before .before .before .before .before .before .before .loop .i) (length (s .args .beats .now)) (length (s .args .times .now)) (c .before .before .before .before .before .before .loop-test .taken) (s .pre .1))
+slice-write-times-3 : tie.Need-slice-write-times-3 Inv-loop μ-loop
+slice-write-times-3 c =
+    let s = c .before .before .before .before .before .before .before .before .before .before .before .before .before .before .before .before .before .before .before .before .before .before .before in
+    rw (c .before .before .before .before .before .before .before .before .before .before .loop .inv .0 .ofTimes .size) (inside (c .before .before .before .before .before .before .before .before .before .before .loop .i) (length (s .args .beats .now)) (length (s .args .times .now)) (c .before .before .before .before .before .before .before .before .before .loop-test .taken) (s .pre .1))
 
-mul-counts-2 : tie.Need-mul-counts-2 Inv-loop μ-loop
-mul-counts-2 c =
-    let s = c .before .before .before .before .before .before .before .before .before .before .before .before .before .before .before .before .before .before .before .before in
-    scaled8 (c .before .before .before .before .before .before .before .loop .i) (length (s .args .counts .now)) (inside (c .before .before .before .before .before .before .before .loop .i) (length (s .args .beats .now)) (length (s .args .counts .now)) (c .before .before .before .before .before .before .loop-test .taken) (s .pre .2)) (s .good .1 .1 .1 .1 .1 .1 .1 .1 .1 .1 .1 .1 .1 .1 .0 .1)
+mul-counts-3 : tie.Need-mul-counts-3 Inv-loop μ-loop
+mul-counts-3 c =
+    let s = c .before .before .before .before .before .before .before .before .before .before .before .before .before .before .before .before .before .before .before .before .before .before .before in
+    scaled8 (c .before .before .before .before .before .before .before .before .before .before .loop .i) (length (s .args .counts .now)) (inside (c .before .before .before .before .before .before .before .before .before .before .loop .i) (length (s .args .beats .now)) (length (s .args .counts .now)) (c .before .before .before .before .before .before .before .before .before .loop-test .taken) (s .pre .2)) (s .good .1 .1 .1 .1 .1 .1 .1 .1 .1 .1 .1 .1 .1 .1 .0 .1)
 
-slice-write-counts-2 : tie.Need-slice-write-counts-2 Inv-loop μ-loop
-slice-write-counts-2 c =
-    let s = c .before .before .before .before .before .before .before .before .before .before .before .before .before .before .before .before .before .before .before .before in
-    rw (c .before .before .before .before .before .before .before .loop .inv .0 .ofCounts .size) (inside (c .before .before .before .before .before .before .before .loop .i) (length (s .args .beats .now)) (length (s .args .counts .now)) (c .before .before .before .before .before .before .loop-test .taken) (s .pre .2))
+slice-write-counts-3 : tie.Need-slice-write-counts-3 Inv-loop μ-loop
+slice-write-counts-3 c =
+    let s = c .before .before .before .before .before .before .before .before .before .before .before .before .before .before .before .before .before .before .before .before .before .before .before in
+    rw (c .before .before .before .before .before .before .before .before .before .before .loop .inv .0 .ofCounts .size) (inside (c .before .before .before .before .before .before .before .before .before .before .loop .i) (length (s .args .beats .now)) (length (s .args .counts .now)) (c .before .before .before .before .before .before .before .before .before .loop-test .taken) (s .pre .2))
 
 look-ahead-requires : tie.Need-look-ahead-requires Inv-loop μ-loop
 look-ahead-requires c κs = search needs
 
-add-i-2 : tie.Need-add-i-2 Inv-loop μ-loop
-add-i-2 c =
-    let s = c .before .before .before .before .before .before .before .before .before .before .before .before .before .before .before .before .before .before .before .before .before .before .before in
-    omega (arith, c .before .before .before .before .before .before .before .before .before .loop-test .taken, s .good .1 .1 .1 .1 .1 .1 .1 .1 .1 .1 .1 .0 .0)
+add-i-3 : tie.Need-add-i-3 Inv-loop μ-loop
+add-i-3 c =
+    let s = c .before .before .before .before .before .before .before .before .before .before .before .before .before .before .before .before .before .before .before .before .before .before .before .before .before .before in
+    omega (arith, c .before .before .before .before .before .before .before .before .before .before .before .before .loop-test .taken, s .good .1 .1 .1 .1 .1 .1 .1 .1 .1 .1 .1 .0 .0)
 
-loop-less-2 : tie.Need-loop-less-2 Inv-loop μ-loop
-loop-less-2 c = omega (arith, c .before .before .before .before .before .before .before .before .before .loop-test .taken)
+loop-less-3 : tie.Need-loop-less-3 Inv-loop μ-loop
+loop-less-3 c = omega (arith, c .before .before .before .before .before .before .before .before .before .before .before .before .loop-test .taken)
 
-loop-again-2 : tie.Need-loop-again-2 Inv-loop μ-loop
-loop-again-2 c =
-    let s = c .before .before .before .before .before .before .before .before .before .before .before .before .before .before .before .before .before .before .before .before .before .before .before in
+loop-again-3 : tie.Need-loop-again-3 Inv-loop μ-loop
+loop-again-3 c =
+    let s = c .before .before .before .before .before .before .before .before .before .before .before .before .before .before .before .before .before .before .before .before .before .before .before .before .before .before in
     let a = s .args in
-    let l = c .before .before .before .before .before .before .before .before .before .before .loop in
-    (turned (timing (a .tempo-beats .now) (a .tempo-values .now) (a .stop-beats .now) (a .stop-values .now) (a .delay-beats .now) (a .delay-values .now) (a .warp-beats .now) (a .warp-lengths .now)) (a .offset) (a .global) (a .cursor) (a .beats .now) (a .numbers .now) (a .times .now) (a .counts .now) (l .at) (l .numbers) (l .times) (l .counts) (l .i) (l .inv .0) (c .before .before .before .ask .result) (c .before .before .before .ask .ensures) (c .before .before .before .before .before .before .before .before .before .loop-test .taken) (s .pre .0) (s .pre .1) (s .pre .2), λ e. c .look-ahead .ensures)
+    let l = c .before .before .before .before .before .before .before .before .before .before .before .before .before .loop in
+    (turned (timing (a .tempo-beats .now) (a .tempo-values .now) (a .stop-beats .now) (a .stop-values .now) (a .delay-beats .now) (a .delay-values .now) (a .warp-beats .now) (a .warp-lengths .now)) (a .offset) (a .global) (a .cursor) (a .beats .now) (a .numbers .now) (a .times .now) (a .counts .now) (l .at) (l .numbers) (l .times) (l .counts) (l .i) (l .inv .0) (c .before .before .before .ask .result) (c .before .before .before .ask .ensures) (c .before .before .before .before .before .before .before .before .before .before .before .before .loop-test .taken) (s .pre .0) (s .pre .1) (s .pre .2), λ e. c .look-ahead .ensures)
 
 same-length : tie.Need-same-length Inv-loop μ-loop
 same-length c = c .before .loop .inv .0 .ofNumbers .size
@@ -174,7 +246,7 @@ ask-each-spec =
     mul-beat
     shared-slice-read-beat
     beat-to-note-row-requires
-    is-quiet-requires
+    is-before-requires
     quiet-time-requires
     mul-numbers
     slice-write-numbers
@@ -185,17 +257,28 @@ ask-each-spec =
     add-i
     loop-less
     loop-again
-    ask-requires
+    past-tempo-requires
+    quiet-time-requires-2
     mul-numbers-2
     slice-write-numbers-2
     mul-times-2
     slice-write-times-2
     mul-counts-2
     slice-write-counts-2
-    look-ahead-requires
     add-i-2
     loop-less-2
     loop-again-2
+    ask-requires
+    mul-numbers-3
+    slice-write-numbers-3
+    mul-times-3
+    slice-write-times-3
+    mul-counts-3
+    slice-write-counts-3
+    look-ahead-requires
+    add-i-3
+    loop-less-3
+    loop-again-3
     same-length
     same-length-2
     same-length-3

@@ -8,7 +8,7 @@ use Rattle.rows.specs.Rows.{row}
 use Rattle.walk.specs.Events.{Timing, timing}
 use Rattle.walk.proofs.BackFromBits.{back}
 use Rattle.clock.specs.Question.{cursorRefusal, playerNumber, temposOf, playerQuestion}
-use Rattle.clock.proofs.QuietReply.{quiet-reply}
+use Rattle.clock.proofs.SoonReply.{soon-reply}
 use borrow.Author.Needs.{needs}
 use Rattle.clock.proofs.Cursor.time_for_beat_checked.Statement.{statement}
 use Rattle.clock.proofs.Cursor.time_for_beat_checked.Tie as tie
@@ -25,11 +25,11 @@ lower-of-requires c κs = search needs
 beat-to-note-row-requires : tie.Need-beat-to-note-row-requires
 beat-to-note-row-requires c κs = search needs
 
-is-quiet-requires : tie.Need-is-quiet-requires
-is-quiet-requires c κs = search needs
+soon-requires : tie.Need-soon-requires
+soon-requires c κs = search needs
 
-reply-quietly-requires : tie.Need-reply-quietly-requires
-reply-quietly-requires c κs = search needs
+answered-soon-requires : tie.Need-answered-soon-requires
+answered-soon-requires c κs = c .before .soon .ensures (c .if2 .taken) .0
 
 returns : tie.Need-returns
 unfolding playerQuestion playerNumber cursorRefusal temposOf
@@ -38,9 +38,10 @@ returns c =
     let t : Timing = timing (a .tempo-beats .now) (a .tempo-values .now) (a .stop-beats .now) (a .stop-values .now) (a .delay-beats .now) (a .delay-values .now) (a .warp-beats .now) (a .warp-lengths .now) in
     let asked = c .before .before .before .beat-to-note-row in
     let r = toZ w32 (ofZ w32 (asked .result)) in
+    let is-soon = c .before .before .soon .ensures (c .before .if2 .taken) in
     let is : r ≡ row binary64 (a .beat) = back (asked .result) (record { sfits = asked .ok }) ∙ asked .ensures in
     rw (← c .before .before .before .before .before .before .before .beat-number .ensures, ← c .before .before .before .before .before .before .refusal .ensures, ← c .before .before .before .before .before .lower-of .ensures, eq-eqb _ _ (c .before .before .before .before .if1 .taken))
-    (c .reply-quietly .ensures ∙ quiet-reply t (a .self) (a .offset) (a .global) (a .beat) r is (c .before .before .is-quiet .ensures (c .before .if2 .taken)))
+    (c .answered-soon .ensures ∙ soon-reply t (a .self) (a .offset) (a .global) (a .beat) r _ is (is-soon .1) (is-soon .2) (is-soon .3))
 
 reply-requires : tie.Need-reply-requires
 reply-requires c κs = search needs
@@ -66,8 +67,8 @@ time-for-beat-checked-spec =
     refusal-requires
     lower-of-requires
     beat-to-note-row-requires
-    is-quiet-requires
-    reply-quietly-requires
+    soon-requires
+    answered-soon-requires
     returns
     reply-requires
     returns-2

@@ -1,0 +1,66 @@
+-- `clock_run::past_tempo` is `pastTempo`. Assumes nothing.
+use mathlib.Core.Bool.{true, false}
+use mathlib.Core.Path.{_≡_, sym, _∙_}
+use Rattle.walk.proofs.BackFromBits.{back}
+use Rattle.clock_run.specs.Ahead.{isBefore, pastTempo}
+use borrow.Author.Needs.{needs}
+use Rattle.clock_run.proofs.past_tempo.Statement.{statement}
+use Rattle.clock_run.proofs.past_tempo.Tie as tie
+
+is-before-requires : tie.Need-is-before-requires
+is-before-requires c κs = search needs
+
+pass-next-tempo-requires : tie.Need-pass-next-tempo-requires
+pass-next-tempo-requires c κs = search needs
+
+look-on-requires : tie.Need-look-on-requires
+look-on-requires c κs = search needs
+
+is-before-requires-2 : tie.Need-is-before-requires-2
+is-before-requires-2 c κs = search needs
+
+returns : tie.Need-returns
+unfolding pastTempo
+returns c =
+    let s = c .before .before .before .before .before .before .before .before .before .before .before .before .before .before .before .before .before .before in
+    let a = s .args in
+    let isRest = back (a .ahead .rest) (record { sfits = c .before .before .before .before .before .before .before .before .before .before .struct-told .given .1 .1 .0 .1 }) in
+    let isAsked = back (a .at .asked) (record { sfits = c .before .before .before .before .before .before .before .before .before .struct-told2 .given .1 .0 .1 }) in
+    let isRow = back (a .row) (s .fits .row) in
+    let due : isBefore (a .ahead .known) (a .ahead .rest) (a .at .asked) (a .beat) (a .row) ≡ true =
+    rw (isRest, isAsked, isRow) at (sym (c .before .before .before .before .before .before .before .before .is-before .ensures) ∙ c .before .before .before .before .before .before .before .if1 .taken) in
+    rw (
+      due,
+      c .is-before2 .ensures,
+      back (c .before .before .before .look-on .result .row) (record { sfits = c .before .before .struct-told5 .given .1 .0 .1 }),
+      isAsked,
+      isRow,
+      c .before .before .before .look-on .ensures,
+      isRest,
+      c .before .before .before .before .before .pass-next-tempo .ensures,
+      back (a .ahead .row) (record { sfits = c .before .before .before .before .before .before .struct-told3 .given .1 .0 .1 }),
+    )
+
+returns-2 : tie.Need-returns-2
+unfolding pastTempo
+returns-2 c =
+    let s = c .before .before .before .before .before .before .before .before .before .before .before in
+    let a = s .args in
+    let due : isBefore (a .ahead .known) (a .ahead .rest) (a .at .asked) (a .beat) (a .row) ≡ false =
+    rw (
+      back (a .ahead .rest) (record { sfits = c .before .before .before .struct-told .given .1 .1 .0 .1 }),
+      back (a .at .asked) (record { sfits = c .before .before .struct-told2 .given .1 .0 .1 }),
+      back (a .row) (s .fits .row),
+    ) at (sym (c .before .is-before .ensures) ∙ c .if1 .left) in
+    rw due
+
+pub past-tempo-spec : {M : Type 1} → statement M
+past-tempo-spec =
+    tie.close
+    (tie.spec
+    is-before-requires
+    pass-next-tempo-requires
+    look-on-requires
+    is-before-requires-2
+    returns
+    returns-2)

@@ -1,0 +1,39 @@
+-- A walk that passes nothing, or one tempo. Definitions only.
+use mathlib.Core.Bool.{true}
+use mathlib.Core.List.{List}
+use lib.Dec.{ltb}
+use lib.IntN.{ℤ}
+use lib.Signed.{ltZ}
+use lib.ListN.{length}
+use lib.Ieee.{Float, binary64, add}
+use Rattle.picks.specs.Pick.{pick}
+use Rattle.walk.specs.Passing.{noTime, timeTo, passed}
+use Rattle.walk.specs.Quiet.{rowAt}
+use Rattle.walk.specs.declared.State.{State}
+use Rattle.walk.specs.declared.Soon.{Soon}
+use Rattle.walk.specs.declared.Walked.{Walked}
+use Rattle.walk.specs.declared.Event.the-variants.{Tempo}
+
+-- the next tempo passed on a row, if there is one; the tempo that a walk begins with plays no part once one is passed
+unfoldable pub tempoPassed : (tempoBeats tempoValues stopValues delayValues warpBeats warpLengths : List Float) → State → ℤ → State
+tempoPassed tempoBeats tempoValues stopValues delayValues warpBeats warpLengths s at =
+    pick (ltb (s .tempos) (length tempoBeats)) (passed noTime tempoValues stopValues delayValues warpBeats warpLengths s (record { row = at; kind = Tempo })) s
+
+-- before the next tempo the state as it is; else the state past it, which is the whole walk where the row is before the tempo after that
+unfoldable pub soonOf : (tempoBeats tempoValues stopValues delayValues warpBeats warpLengths : List Float) → State → ℤ → Soon
+soonOf tempoBeats tempoValues stopValues delayValues warpBeats warpLengths s asked =
+    pick (ltZ asked (rowAt tempoBeats (s .tempos)))
+    (record { state = s; passed = 0; whole = true })
+    (record {
+      state = tempoPassed tempoBeats tempoValues stopValues delayValues warpBeats warpLengths s (rowAt tempoBeats (s .tempos));
+      passed = 1;
+      whole = ltZ asked (rowAt tempoBeats (tempoPassed tempoBeats tempoValues stopValues delayValues warpBeats warpLengths s (rowAt tempoBeats (s .tempos)) .tempos));
+    })
+
+-- what such a walk comes to at the row
+abbrev pub walkedSoon : List Float → ℤ → Soon → Walked
+walkedSoon tempoValues asked soon = record {
+  state = soon .state;
+  passed = soon .passed;
+  time = add binary64 (soon .state .time) (timeTo noTime tempoValues (soon .state) asked);
+}
