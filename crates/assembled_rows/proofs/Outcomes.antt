@@ -95,7 +95,7 @@ module _ {tests : ℕ} {result : List (Float × Float)} {outcome : Outcome} {fir
   narrowed-result q = rw its-number at (pair-same read-back q)
 
 -- ---- row lists
-long-number : (change : Float → Float) (beats values : List Float) → 1024 < length beats → assembledNumber change beats values ≡ 1
+pub long-number : (change : Float → Float) (beats values : List Float) → 1024 < length beats → assembledNumber change beats values ≡ 1
 unfolding listNumber
 long-number change beats values h = rw (length-map beats quantized, lt-ltb 1024 (length beats) h)
 
