@@ -2,18 +2,17 @@
 use Prim.Native.Nat.{ℕ, _≤_, _<_, min}
 use mathlib.Core.Path.{_≡_, refl, sym, ap, _∙_}
 use mathlib.Core.Bool.{Bool, true, false}
-use mathlib.Core.List.{List, [], map}
+use mathlib.Core.List.{List, map}
 use mathlib.Core.Logic.{⊎-elim}
 use native.Mathlib.Omega.{arith}
 use borrow.Author.Tests.{eq-eqb, ne-eqb, le-leb, lt-leb, lt-ltb, ltb-false, eqb-true}
-use lib.Dec.{ltb, leb, eqb}
+use lib.Dec.{ltb, eqb}
 use lib.ListN.{length, length-map}
 use lib.Ieee.{Float}
 use Rattle.picks.specs.Pick.{pick}
 use Rattle.rows.specs.Rows.{quantized}
 use Rattle.limits.specs.declared.Range.{Range}
-use Rattle.limits.specs.declared.Kind.the-variants.{Beat, Value}
-use Rattle.limits.specs.Numbers.{rangeOf, allIn}
+use Rattle.limits.specs.Numbers.{allIn}
 use Rattle.limits.specs.Refusals.{listNumber}
 use Rattle.order.specs.Order.{laid}
 use Rattle.order.specs.Entries.{first, second}

@@ -1,7 +1,7 @@
 -- Where quantised beats rise, the assembled list is what is given, each number by itself: the f32 beat of each row, and each value narrowed. Assumes nothing.
 use Prim.Native.Nat.{ℕ}
 use mathlib.Core.Path.{_≡_, refl, sym, ap, ap₂, _∙_}
-use mathlib.Core.Bool.{Bool, true, false}
+use mathlib.Core.Bool.{Bool, true}
 use mathlib.Core.List.{List, [], _∷_, map, map-map}
 use lib.Dec.{T}
 use lib.IntN.{ℤ}
@@ -9,14 +9,14 @@ use lib.ListN.{length, length-map}
 use lib.Ieee.{Float, binary64, lt}
 use Rattle.ieee.specs.Narrowing.{narrow}
 use Rattle.ieee.proofs.Narrow.{narrow-own}
-use Rattle.rows.specs.Rows.{row, beatOf, quantized, allowedBeat}
+use Rattle.rows.specs.Rows.{beatOf, quantized, allowedBeat}
 use Rattle.rows.proofs.NarrowedBeat.{narrowed-beat}
 use Rattle.rows.proofs.Quantizing.{row-quantized}
 use Rattle.limits.specs.declared.Kind.the-variants.{Beat}
 use Rattle.limits.specs.Numbers.{inRange, rangeOf, allIn}
 use Rattle.limits.proofs.Every.{every-rest}
 use Rattle.limits.proofs.ListTaken.{list-taken}
-use Rattle.order.specs.Order.{tidied, Above, Rises}
+use Rattle.order.specs.Order.{Above, Rises}
 use Rattle.order.specs.Entries.{entries, first}
 use Rattle.order.proofs.Columns.{first-entries}
 use Rattle.order.proofs.TidiedList.{tidied-still}

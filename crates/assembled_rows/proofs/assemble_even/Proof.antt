@@ -3,7 +3,6 @@ use mathlib.Core.Path.{_≡_, sym, ap, _∙_}
 use mathlib.Core.Bool.{false}
 use mathlib.Core.List.{map}
 use lib.Ieee.{lt}
-use borrow.Author.Tests.{not-false}
 use Rattle.rows.specs.Rows.{quantized}
 use Rattle.limits.specs.Neighbours.{everyTwo}
 use Rattle.columns.proofs.LaidEach.{laid-all}
