@@ -6,5 +6,6 @@ pub mod Outcomes
 pub mod WrittenRises
 pub mod WrittenTaken
 pub mod FitsWhenTaken
+pub mod Untested
 pub mod Unique
 pub mod InTwoLoops

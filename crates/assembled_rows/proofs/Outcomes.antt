@@ -2,18 +2,17 @@
 use Prim.Native.Nat.{ℕ, _≤_, _<_, min}
 use mathlib.Core.Path.{_≡_, refl, sym, ap, _∙_}
 use mathlib.Core.Bool.{Bool, true, false}
-use mathlib.Core.List.{List, [], map}
+use mathlib.Core.List.{List, map}
 use mathlib.Core.Logic.{⊎-elim}
 use native.Mathlib.Omega.{arith}
 use borrow.Author.Tests.{eq-eqb, ne-eqb, le-leb, lt-leb, lt-ltb, ltb-false, eqb-true}
-use lib.Dec.{ltb, leb, eqb}
+use lib.Dec.{ltb, eqb}
 use lib.ListN.{length, length-map}
 use lib.Ieee.{Float}
 use Rattle.picks.specs.Pick.{pick}
 use Rattle.rows.specs.Rows.{quantized}
 use Rattle.limits.specs.declared.Range.{Range}
-use Rattle.limits.specs.declared.Kind.the-variants.{Beat, Value}
-use Rattle.limits.specs.Numbers.{rangeOf, allIn}
+use Rattle.limits.specs.Numbers.{allIn}
 use Rattle.limits.specs.Refusals.{listNumber}
 use Rattle.order.specs.Order.{laid}
 use Rattle.order.specs.Entries.{first, second}
@@ -95,7 +94,7 @@ module _ {tests : ℕ} {result : List (Float × Float)} {outcome : Outcome} {fir
   narrowed-result q = rw its-number at (pair-same read-back q)
 
 -- ---- row lists
-long-number : (change : Float → Float) (beats values : List Float) → 1024 < length beats → assembledNumber change beats values ≡ 1
+pub long-number : (change : Float → Float) (beats values : List Float) → 1024 < length beats → assembledNumber change beats values ≡ 1
 unfolding listNumber
 long-number change beats values h = rw (length-map beats quantized, lt-ltb 1024 (length beats) h)
 

@@ -1,7 +1,7 @@
 -- Where quantised beats rise, the assembled list is what is given, each number by itself: the f32 beat of each row, and each value narrowed. Assumes nothing.
 use Prim.Native.Nat.{ℕ}
 use mathlib.Core.Path.{_≡_, refl, sym, ap, ap₂, _∙_}
-use mathlib.Core.Bool.{Bool, true, false}
+use mathlib.Core.Bool.{Bool, true}
 use mathlib.Core.List.{List, [], _∷_, map, map-map}
 use lib.Dec.{T}
 use lib.IntN.{ℤ}
@@ -9,21 +9,21 @@ use lib.ListN.{length, length-map}
 use lib.Ieee.{Float, binary64, lt}
 use Rattle.ieee.specs.Narrowing.{narrow}
 use Rattle.ieee.proofs.Narrow.{narrow-own}
-use Rattle.rows.specs.Rows.{row, beatOf, quantized, allowedBeat}
+use Rattle.rows.specs.Rows.{beatOf, quantized, allowedBeat}
 use Rattle.rows.proofs.NarrowedBeat.{narrowed-beat}
 use Rattle.rows.proofs.Quantizing.{row-quantized}
 use Rattle.limits.specs.declared.Kind.the-variants.{Beat}
 use Rattle.limits.specs.Numbers.{inRange, rangeOf, allIn}
 use Rattle.limits.proofs.Every.{every-rest}
 use Rattle.limits.proofs.ListTaken.{list-taken}
-use Rattle.order.specs.Order.{tidied, Above, Rises}
-use Rattle.order.specs.Entries.{entries, first, second}
-use Rattle.order.proofs.Columns.{first-entries, second-entries, length-entries}
+use Rattle.order.specs.Order.{Above, Rises}
+use Rattle.order.specs.Entries.{entries, first}
+use Rattle.order.proofs.Columns.{first-entries}
 use Rattle.order.proofs.TidiedList.{tidied-still}
 use Rattle.columns.specs.Each.{laidEach}
 use Rattle.tidy_rows.specs.RowTidying.{rowKeyAt, onRow, rowKeyOf, onItsRow, tidyRows, rowsNumber}
 use Rattle.tidy_rows.proofs.TakenBeats.{taken-allowed}
-use Rattle.assembled_rows.specs.AssembledRows.{narrowedEntry, changeBy, assembledRows}
+use Rattle.assembled_rows.specs.AssembledRows.{narrowedEntry, changeBy, assembledRows, eachByItself}
 use Rattle.limits.specs.Neighbours.{everyTwo}
 use Rattle.assembled_rows.proofs.InRowOrder.{narrowRow, narrow-row-within, rising-rows}
 use Rattle.assembled_rows.proofs.QuantizedTaken.{quantized-fits}
@@ -42,11 +42,13 @@ each-quantized (x ∷ from) (y ∷ old) = ap₂ _∷_ (quantized-own x) (each-qu
 pub quantized-on-row : (beat : Float) → T (allowedBeat beat) → narrow (onRow (quantized beat)) ≡ quantized beat
 quantized-on-row beat h = ap (λ (r : ℤ). narrow (beatOf binary64 r)) (row-quantized beat h binary64) ∙ narrowed-beat (narrowRow beat) (narrow-row-within beat h)
 
-each-on-row : (beats : List Float) → allIn (rangeOf Beat) beats ≡ true → map (λ (beat : Float). narrow (onRow (quantized beat))) beats ≡ map quantized beats
-each-on-row [] h = refl
-each-on-row (beat ∷ beats) h =
+pub each-on-its-row : (beats values : List Float) → allIn (rangeOf Beat) beats ≡ true → map narrowedEntry (map onItsRow (entries (map quantized beats) values)) ≡ entries (map quantized beats) (map narrow values)
+unfolding entries
+each-on-its-row [] values h = refl
+each-on-its-row (beat ∷ beats) [] h = refl
+each-on-its-row (beat ∷ beats) (value ∷ values) h =
     let both = every-rest (inRange (rangeOf Beat)) beat beats h in
-    ap (λ (b : Float). b ∷ map (λ (x : Float). narrow (onRow (quantized x))) beats) (quantized-on-row beat (taken-allowed beat (both .0))) ∙ ap (_∷_ (quantized beat)) (each-on-row beats (both .1))
+    ap₂ _∷_ (ap (λ (b : Float). (b, narrow value)) (quantized-on-row beat (taken-allowed beat (both .0)))) (each-on-its-row beats values (both .1))
 
 -- entries rise as their beats do
 above-entries : (k : ℕ) (l : List (Float × Float)) → Above rowKeyAt k (map first l) → Above rowKeyOf k l
@@ -71,21 +73,5 @@ module _ (whole : Bool) (beats values : List Float) (h : rowsNumber beats values
   unfolding assembledRows tidyRows
   same = ap (λ (l : List (Float × Float)). map narrowedEntry (map onItsRow l)) (tidied-still rowKeyOf list rises)
 
-  pub rising-length : length (assembledRows (changeBy whole) beats values) ≡ length beats
-  rising-length =
-      ap length same ∙ length-map (map onItsRow list) narrowedEntry ∙ length-map list onItsRow ∙ length-entries (map quantized beats) (map (changeBy whole) values) even ∙ length-map beats quantized
-
-  pub rising-beats : map first (assembledRows (changeBy whole) beats values) ≡ map quantized beats
-  rising-beats =
-      ap (map first) same ∙ map-map first narrowedEntry (map onItsRow list) ∙ map-map (λ (e : Float × Float). narrow (e .0)) onItsRow list
-      ∙ sym (map-map (λ (beat : Float). narrow (onRow beat)) first list)
-      ∙ ap (map (λ (beat : Float). narrow (onRow beat))) (first-entries (map quantized beats) (map (changeBy whole) values) even)
-      ∙ map-map (λ (beat : Float). narrow (onRow beat)) quantized beats
-      ∙ each-on-row beats (list-taken h .beatsIn)
-
-  pub rising-values : map second (assembledRows (changeBy whole) beats values) ≡ map (λ (value : Float). narrow (changeBy whole value)) values
-  rising-values =
-      ap (map second) same ∙ map-map second narrowedEntry (map onItsRow list) ∙ map-map (λ (e : Float × Float). narrow (e .1)) onItsRow list
-      ∙ sym (map-map narrow second list)
-      ∙ ap (map narrow) (second-entries (map quantized beats) (map (changeBy whole) values) even)
-      ∙ map-map narrow (changeBy whole) values
+  pub rising-list : assembledRows (changeBy whole) beats values ≡ eachByItself whole (map quantized beats) values
+  rising-list = same ∙ each-on-its-row beats (map (changeBy whole) values) (list-taken h .beatsIn) ∙ ap (entries (map quantized beats)) (map-map narrow (changeBy whole) values)

@@ -1,13 +1,14 @@
 -- Assembly of a list whose entries are a beat and a value: stops, delays, warps and fakes. Definitions only.
 use Prim.Native.Nat.{ℕ}
-use mathlib.Core.Bool.{Bool, true}
+use mathlib.Core.Bool.{Bool, true, false}
 use mathlib.Core.List.{List, map}
 use lib.Dec.{leb, eqb}
 use lib.ListN.{length, take}
-use lib.Ieee.{Float}
+use lib.Ieee.{Float, lt}
 use Rattle.picks.specs.Pick.{pick}
 use Rattle.ieee.specs.Narrowing.{narrow}
 use Rattle.rows.specs.Rows.{quantized}
+use Rattle.limits.specs.Neighbours.{everyTwo}
 use Rattle.order.specs.Entries.{entries}
 use Rattle.columns.specs.declared.Outcome.{Outcome}
 use Rattle.columns.specs.Laying.{roomNumber, LaidPair}
@@ -39,6 +40,26 @@ unfoldable pub rowsFit : Bool → List Float → List Float → ℕ → Bool
 rowsFit whole beats values room =
     pick (leb (length beats) room) true
     (eqb (roomNumber (assembledNumber (changeBy whole) beats values) (length (assembledRows (changeBy whole) beats values)) room) 0)
+
+-- ---- a list that is not tested first
+
+-- beats that are quantised as they are, and each value by itself, as f32
+abbrev pub eachByItself : Bool → List Float → List Float → List (Float × Float)
+eachByItself whole quantised values = entries quantised (map (λ (value : Float). narrow (changeBy whole value)) values)
+
+-- the one outcome of laying them, 2 where they are not as many
+abbrev pub EachLaid : Bool → List Float → List Float → Outcome → List Float → List Float → List Float → List Float → Type 0
+EachLaid whole quantised values = LaidPair (pick (eqb (length quantised) (length values)) 0 2) (eachByItself whole quantised values)
+
+-- whether each is laid by itself: columns of one length, that of a list, and quantised beats that rise
+unfoldable pub byItself : List Float → List Float → Bool
+byItself beats values = pick (eqb (length beats) (length values)) (pick (leb (length beats) 1024) (everyTwo lt (map quantized beats)) false) false
+
+-- the one outcome of the call that tests no number: any other list is assembled. Of a list that is taken both are the same
+abbrev pub RowsUntested : Bool → List Float → List Float → Outcome → List Float → List Float → List Float → List Float → Type 0
+RowsUntested whole beats values =
+    LaidPair (pick (byItself beats values) 0 (assembledNumber (changeBy whole) beats values))
+    (pick (byItself beats values) (eachByItself whole (map quantized beats) values) (assembledRows (changeBy whole) beats values))
 
 -- ---- the steps that other lists share
 

@@ -2,8 +2,6 @@
 use columns::Outcome;
 use limits::Kind;
 ghost use mathlib.Core.Path.{_≡_};
-ghost use mathlib.Core.Bool.{true};
-ghost use mathlib.Core.List.{map};
 ghost use Prim.Native.Nat.{_≤_, _<_};
 ghost use lib.ListN.{length, take};
 ghost use lib.Ieee.{Float, lt};
@@ -12,8 +10,7 @@ ghost use Rattle.rows.specs.Rows.{quantized, quantized32};
 ghost use Rattle.limits.specs.Numbers.{miss};
 ghost use Rattle.columns.specs.Each.{laidEach};
 ghost use Rattle.columns.specs.Laying.{LaidPair};
-ghost use Rattle.tidy_rows.specs.RowTidying.{rowsNumber};
-ghost use Rattle.assembled_rows.specs.AssembledRows.{changeBy, narrowedFront, RowsAssembled, rowsFit};
+ghost use Rattle.assembled_rows.specs.AssembledRows.{changeBy, narrowedFront, EachLaid, RowsAssembled, RowsUntested, rowsFit};
 ghost use Rattle.limits.specs.Neighbours.{everyTwo, notAbove};
 
 // ---- numbers
@@ -127,7 +124,7 @@ fn quantize_front(column: &mut [f32], n: usize)
 }
 
 // The same into a column of f32.
-fn quantize_column_f32(from: &[f64], to: &mut [f32])
+pub fn quantize_column_f32(from: &[f64], to: &mut [f32])
     ensures { λ _. ⌜ now (to .exit) ≡ laidEach quantized (now (from .entry)) (now (to .entry)) ⌝ }
 {
     let n = columns::room_of(from.len(), to.len());
@@ -136,7 +133,7 @@ fn quantize_column_f32(from: &[f64], to: &mut [f32])
 }
 
 // Each number as it is.
-fn copy_column_f32(from: &[f32], to: &mut [f32])
+pub fn copy_column_f32(from: &[f32], to: &mut [f32])
     ensures { λ _. ⌜ now (to .exit) ≡ laidEach (λ (x : Float). x) (now (from .entry)) (now (to .entry)) ⌝ }
 {
     let n = columns::room_of(from.len(), to.len());
@@ -203,7 +200,7 @@ fn not_below(beat: f32, next: f32) -> usize
 }
 
 // Whether each beat is below the next.
-fn rise(beats: &[f32]) -> bool
+pub fn rise(beats: &[f32]) -> bool
     ensures { λ r. ⌜ r ≡ everyTwo lt (now (beats .entry)) ⌝ }
 {
     let mut fail: usize = 0;
@@ -338,21 +335,22 @@ fn assemble_any(
     assemble_many(beats, values, whole, out_beats, out_values)
 }
 
-// ---- a taken list: where its quantised beats rise, they are written as they are, and so is each value
+// ---- lists of one length: where quantised beats rise they are written as they are, and so is each value. No number is tested
 
-fn assemble_rising(
-    beats: &[f64],
+// Quantised beats over the front of one room, and each value by itself, as f32, over the front of the other: 2 where they are not as many, 7 where they do not fit.
+pub fn lay_each(
     quantised: &[f32],
     values: &[f64],
     whole: bool,
     out_beats: &mut [f32],
     out_values: &mut [f32],
 ) -> Outcome
-    requires { ⌜ rowsNumber (now beats) (now values) ≡ 0 ⌝ }
-    requires { ⌜ (now quantised ≡ map quantized (now beats)) × (everyTwo lt (now quantised) ≡ true) ⌝ }
-    ensures { λ r. ⌜ RowsAssembled whole (now (beats .entry)) (now (values .entry)) r (now («out_beats» .entry)) (now («out_beats» .exit)) (now («out_values» .entry)) (now («out_values» .exit)) ⌝ }
+    ensures { λ r. ⌜ EachLaid whole (now (quantised .entry)) (now (values .entry)) r (now («out_beats» .entry)) (now («out_beats» .exit)) (now («out_values» .entry)) (now («out_values» .exit)) ⌝ }
 {
-    let count = beats.len();
+    let count = quantised.len();
+    if count != values.len() {
+        return columns::refused(limits::UNEVEN);
+    }
     if count > columns::room_of(out_beats.len(), out_values.len()) {
         return columns::refused(limits::NO_ROOM);
     }
@@ -364,7 +362,7 @@ fn assemble_rising(
     }
 }
 
-fn assemble_taken(
+fn assemble_even(
     beats: &[f64],
     values: &[f64],
     whole: bool,
@@ -372,29 +370,29 @@ fn assemble_taken(
     out_beats: &mut [f32],
     out_values: &mut [f32],
 ) -> Outcome
-    requires { ⌜ (rowsNumber (now beats) (now values) ≡ 0) × (length (now quantised) ≡ length (now beats)) ⌝ }
-    ensures { λ r. ⌜ RowsAssembled whole (now (beats .entry)) (now (values .entry)) r (now («out_beats» .entry)) (now («out_beats» .exit)) (now («out_values» .entry)) (now («out_values» .exit)) ⌝ }
+    requires { ⌜ (length (now values) ≡ length (now beats)) × (length (now beats) ≤ 1024) × (length (now quantised) ≡ length (now beats)) ⌝ }
+    ensures { λ r. ⌜ RowsUntested whole (now (beats .entry)) (now (values .entry)) r (now («out_beats» .entry)) (now («out_beats» .exit)) (now («out_values» .entry)) (now («out_values» .exit)) ⌝ }
 {
     quantize_column_f32(beats, quantised);
     if rise(quantised) {
-        return assemble_rising(beats, quantised, values, whole, out_beats, out_values);
+        return lay_each(quantised, values, whole, out_beats, out_values);
     }
     assemble_any(beats, values, whole, out_beats, out_values)
 }
 
-fn assemble_taken_few(
+fn assemble_even_few(
     beats: &[f64],
     values: &[f64],
     whole: bool,
     out_beats: &mut [f32],
     out_values: &mut [f32],
 ) -> Outcome
-    requires { ⌜ (rowsNumber (now beats) (now values) ≡ 0) × (length (now beats) ≤ 64) ⌝ }
-    ensures { λ r. ⌜ RowsAssembled whole (now (beats .entry)) (now (values .entry)) r (now («out_beats» .entry)) (now («out_beats» .exit)) (now («out_values» .entry)) (now («out_values» .exit)) ⌝ }
+    requires { ⌜ (length (now values) ≡ length (now beats)) × (length (now beats) ≤ 64) ⌝ }
+    ensures { λ r. ⌜ RowsUntested whole (now (beats .entry)) (now (values .entry)) r (now («out_beats» .entry)) (now («out_beats» .exit)) (now («out_values» .entry)) (now («out_values» .exit)) ⌝ }
 {
     let n = beats.len();
     let mut quantised = [0.0f32; 64];
-    assemble_taken(
+    assemble_even(
         beats,
         values,
         whole,
@@ -404,19 +402,19 @@ fn assemble_taken_few(
     )
 }
 
-fn assemble_taken_many(
+fn assemble_even_many(
     beats: &[f64],
     values: &[f64],
     whole: bool,
     out_beats: &mut [f32],
     out_values: &mut [f32],
 ) -> Outcome
-    requires { ⌜ rowsNumber (now beats) (now values) ≡ 0 ⌝ }
-    ensures { λ r. ⌜ RowsAssembled whole (now (beats .entry)) (now (values .entry)) r (now («out_beats» .entry)) (now («out_beats» .exit)) (now («out_values» .entry)) (now («out_values» .exit)) ⌝ }
+    requires { ⌜ (length (now values) ≡ length (now beats)) × (length (now beats) ≤ 1024) ⌝ }
+    ensures { λ r. ⌜ RowsUntested whole (now (beats .entry)) (now (values .entry)) r (now («out_beats» .entry)) (now («out_beats» .exit)) (now («out_values» .entry)) (now («out_values» .exit)) ⌝ }
 {
     let n = beats.len();
     let mut quantised = [0.0f32; 1024];
-    assemble_taken(
+    assemble_even(
         beats,
         values,
         whole,
@@ -427,6 +425,29 @@ fn assemble_taken_many(
 }
 
 // ---- the calls
+
+// A list as it is where its quantised beats rise, and as `assemble_rows` has it where they do not.
+// For a list that is known to be taken both are the same.
+pub fn assemble_untested(
+    beats: &[f64],
+    values: &[f64],
+    whole: bool,
+    out_beats: &mut [f32],
+    out_values: &mut [f32],
+) -> Outcome
+    ensures { λ r. ⌜ RowsUntested whole (now (beats .entry)) (now (values .entry)) r (now («out_beats» .entry)) (now («out_beats» .exit)) (now («out_values» .entry)) (now («out_values» .exit)) ⌝ }
+{
+    if beats.len() != values.len() {
+        return columns::refused(limits::list_number(Kind::Beat, Kind::Value, beats, values));
+    }
+    if beats.len() <= 64 {
+        return assemble_even_few(beats, values, whole, out_beats, out_values);
+    }
+    if beats.len() <= limits::MOST_ENTRIES {
+        return assemble_even_many(beats, values, whole, out_beats, out_values);
+    }
+    columns::refused(limits::TOO_LONG)
+}
 
 // The assembled list over the fronts of both rooms, and its length. `whole`: the values are lengths, which are quantised too.
 // Refused with 1, 2, 3 or 4 for what tidying is given, and with 7 where the list does not fit.
@@ -441,10 +462,7 @@ pub fn assemble_rows(
 {
     let number = limits::list_number(Kind::Beat, Kind::Value, beats, values);
     if number == limits::TAKEN {
-        if beats.len() <= 64 {
-            return assemble_taken_few(beats, values, whole, out_beats, out_values);
-        }
-        return assemble_taken_many(beats, values, whole, out_beats, out_values);
+        return assemble_untested(beats, values, whole, out_beats, out_values);
     }
     if number == limits::TOO_LONG {
         return columns::refused(limits::TOO_LONG);

@@ -1,4 +1,6 @@
 pub mod KeptNoLonger
 pub mod QuantizedTaken
 pub mod Outcomes
+pub mod RisingKeys
+pub mod Untested
 pub mod Unique

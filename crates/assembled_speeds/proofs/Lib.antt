@@ -1,4 +1,5 @@
 pub mod NarrowedSpeeds
 pub mod QuantizedTaken
 pub mod Outcomes
+pub mod Untested
 pub mod Unique

@@ -1,9 +1,10 @@
 -- The speeds of a taken list pass the tests of what tidying is given: all that is left to refuse is an entry placed in a kept list that falls. Assumes nothing.
-use Prim.Native.Nat.{ℕ}
+use Prim.Native.Nat.{ℕ, _≤_}
 use mathlib.Core.Path.{_≡_, refl}
 use mathlib.Core.Bool.{Bool, true, false}
 use mathlib.Core.List.{List, map}
 use native.Mathlib.Omega.{arith}
+use borrow.Author.Tests.{ltb-false, eqb-true}
 use lib.Dec.{ltb, eqb}
 use lib.ListN.{length, length-map}
 use lib.Ieee.{Float}
@@ -19,23 +20,33 @@ use Rattle.tidy_speeds.specs.SpeedTidying.{valuesNumber, speedListNumber, speed
 use Rattle.assembled_rows.proofs.QuantizedTaken.{quantized-beats-taken}
 use Rattle.assembled_speeds.specs.AssembledSpeeds.{assembledSpeedsNumber}
 
-passed : (long long′ long″ long‴ even even′ even″ beats : Bool) (values : ℕ) → pick long 1 (pick long′ 1 (pick long″ 1 (pick long‴ 1 (pick even (pick even′ (pick even″ (pick beats values 3) 2) 2) 2)))) ≡ 0 → beats ≡ true
-passed long long′ long″ long‴ even even′ even″ true values h = refl
-passed true long′ long″ long‴ even even′ even″ false values h = absurd (omega arith)
-passed false true long″ long‴ even even′ even″ false values h = absurd (omega arith)
-passed false false true long‴ even even′ even″ false values h = absurd (omega arith)
-passed false false false true even even′ even″ false values h = absurd (omega arith)
-passed false false false false false even′ even″ false values h = absurd (omega arith)
-passed false false false false true false even″ false values h = absurd (omega arith)
-passed false false false false true true false false values h = absurd (omega arith)
+passed : (long long′ long″ long‴ even even′ even″ beats : Bool) (values : ℕ) → pick long 1 (pick long′ 1 (pick long″ 1 (pick long‴ 1 (pick even (pick even′ (pick even″ (pick beats values 3) 2) 2) 2)))) ≡ 0
+    → (long ≡ false) × (even ≡ true) × (even′ ≡ true) × (even″ ≡ true) × (beats ≡ true)
+passed false false false false true true true true values h = (refl, refl, refl, refl, refl)
+passed true long′ long″ long‴ even even′ even″ beats values h = absurd (omega arith)
+passed false true long″ long‴ even even′ even″ beats values h = absurd (omega arith)
+passed false false true long‴ even even′ even″ beats values h = absurd (omega arith)
+passed false false false true even even′ even″ beats values h = absurd (omega arith)
+passed false false false false false even′ even″ beats values h = absurd (omega arith)
+passed false false false false true false even″ beats values h = absurd (omega arith)
+passed false false false false true true false beats values h = absurd (omega arith)
 passed false false false false true true true false values h = absurd (omega arith)
 
 module _ (beats ratios delays : List Float) (units : List ℕ) (h : speedListNumber beats ratios delays units ≡ 0) where
-  pub speed-beats : allIn (rangeOf Beat) beats ≡ true
+  told : (ltb 1024 (length beats) ≡ false) × (eqb (length beats) (length ratios) ≡ true) × (eqb (length beats) (length delays) ≡ true) × (eqb (length beats) (length units) ≡ true) × (allIn (rangeOf Beat) beats ≡ true)
   unfolding speedListNumber
-  speed-beats =
+  told =
       passed (ltb 1024 (length beats)) (ltb 1024 (length ratios)) (ltb 1024 (length delays)) (ltb 1024 (length units)) (eqb (length beats) (length ratios)) (eqb (length beats) (length delays)) (eqb (length beats) (length units))
       (allIn (rangeOf Beat) beats) (valuesNumber ratios delays units) h
+
+  pub speed-beats : allIn (rangeOf Beat) beats ≡ true
+  speed-beats = told .4
+
+  pub few-speeds : length beats ≤ 1024
+  few-speeds = ltb-false 1024 (length beats) (told .0)
+
+  pub even-speeds : (length beats ≡ length ratios) × (length beats ≡ length delays) × (length beats ≡ length units)
+  even-speeds = (eqb-true (length beats) (length ratios) (told .1), eqb-true (length beats) (length delays) (told .2), eqb-true (length beats) (length units) (told .3))
 
   pub speeds-pass : speedListNumber (map quantized beats) ratios delays units ≡ 0
   unfolding speedListNumber

@@ -5,7 +5,7 @@ ghost use Prim.Native.Nat.{ℕ, _≤_};
 ghost use lib.ListN.{length};
 ghost use Rattle.columns.specs.Each.{laidEach};
 ghost use Rattle.speeds.specs.LaidSpeeds.{LaidSpeeds};
-ghost use Rattle.assembled_speeds.specs.AssembledSpeeds.{SpeedsAssembled, speedsRoomNumber, narrowedSpeeds};
+ghost use Rattle.assembled_speeds.specs.AssembledSpeeds.{SpeedsAssembled, speedsRoomNumber, speedsLater, narrowedSpeeds, sameLengths, eachSpeed, SpeedsUntested};
 
 fn copy_units(from: &[u8], to: &mut [u8])
     ensures { λ _. ⌜ now (to .exit) ≡ laidEach (λ (unit : ℕ). unit) (now (from .entry)) (now (to .entry)) ⌝ }
@@ -175,9 +175,7 @@ fn assemble_many(
     )
 }
 
-// The assembled speeds over the fronts of the four rooms, and how many.
-// Refused with 1, 2, 3, 4 or 6 for what tidying is given, and with 7 where they do not fit.
-pub fn assemble_speeds(
+fn assemble_any(
     beats: &[f64],
     ratios: &[f64],
     delays: &[f64],
@@ -187,6 +185,7 @@ pub fn assemble_speeds(
     out_delays: &mut [f32],
     out_units: &mut [u8],
 ) -> Outcome
+    requires { ⌜ length (now beats) ≤ 1024 ⌝ }
     ensures { λ r. ⌜ SpeedsAssembled (now (beats .entry)) (now (ratios .entry)) (now (delays .entry)) (now (units .entry)) r (now («out_beats» .entry)) (now («out_beats» .exit)) (now («out_ratios» .entry)) (now («out_ratios» .exit)) (now («out_delays» .entry)) (now («out_delays» .exit)) (now («out_units» .entry)) (now («out_units» .exit)) ⌝ }
 {
     if beats.len() <= 64 {
@@ -201,8 +200,181 @@ pub fn assemble_speeds(
             out_units,
         );
     }
+    assemble_many(
+        beats,
+        ratios,
+        delays,
+        units,
+        out_beats,
+        out_ratios,
+        out_delays,
+        out_units,
+    )
+}
+
+// ---- where quantised beats rise and no ratio is near the one before it, each number is written by itself. No number is tested
+
+fn same_lengths(beats: usize, ratios: usize, delays: usize, units: usize) -> bool
+    ensures { λ r. ⌜ r ≡ sameLengths beats ratios delays units ⌝ }
+{
+    if beats != ratios {
+        return false;
+    }
+    if beats != delays {
+        return false;
+    }
+    beats == units
+}
+
+fn lay_each(
+    quantised: &[f32],
+    ratios: &[f64],
+    delays: &[f64],
+    units: &[u8],
+    out_beats: &mut [f32],
+    out_ratios: &mut [f32],
+    out_delays: &mut [f32],
+    out_units: &mut [u8],
+) -> Outcome
+    requires { ⌜ (length (now quantised) ≡ length (now ratios)) × (length (now quantised) ≡ length (now delays)) × (length (now quantised) ≡ length (now units)) ⌝ }
+    ensures { λ r. ⌜ LaidSpeeds 0 (eachSpeed (now (quantised .entry)) (now (ratios .entry)) (now (delays .entry)) (now (units .entry))) r (now («out_beats» .entry)) (now («out_beats» .exit)) (now («out_ratios» .entry)) (now («out_ratios» .exit)) (now («out_delays» .entry)) (now («out_delays» .exit)) (now («out_units» .entry)) (now («out_units» .exit)) ⌝ }
+{
+    let count = quantised.len();
+    let room = speeds::least_of(
+        out_beats.len(),
+        out_ratios.len(),
+        out_delays.len(),
+        out_units.len(),
+    );
+    if count > room {
+        return columns::refused(limits::NO_ROOM);
+    }
+    assembled_rows::copy_column_f32(quantised, out_beats);
+    assembled_rows::narrow_column(ratios, out_ratios);
+    assembled_rows::narrow_column(delays, out_delays);
+    copy_units(units, out_units);
+    Outcome {
+        number: limits::TAKEN,
+        count: count,
+    }
+}
+
+fn assemble_by(
+    beats: &[f64],
+    ratios: &[f64],
+    delays: &[f64],
+    units: &[u8],
+    quantised: &mut [f32],
+    out_beats: &mut [f32],
+    out_ratios: &mut [f32],
+    out_delays: &mut [f32],
+    out_units: &mut [u8],
+) -> Outcome
+    requires { ⌜ (length (now beats) ≡ length (now ratios)) × (length (now beats) ≡ length (now delays)) × (length (now beats) ≡ length (now units)) ⌝ }
+    requires { ⌜ (length (now beats) ≤ 1024) × (length (now quantised) ≡ length (now beats)) ⌝ }
+    ensures { λ r. ⌜ SpeedsUntested (now (beats .entry)) (now (ratios .entry)) (now (delays .entry)) (now (units .entry)) r (now («out_beats» .entry)) (now («out_beats» .exit)) (now («out_ratios» .entry)) (now («out_ratios» .exit)) (now («out_delays» .entry)) (now («out_delays» .exit)) (now («out_units» .entry)) (now («out_units» .exit)) ⌝ }
+{
+    assembled_rows::quantize_column_f32(beats, quantised);
+    if assembled_scrolls::rise_apart(quantised, ratios) {
+        return lay_each(
+            quantised,
+            ratios,
+            delays,
+            units,
+            out_beats,
+            out_ratios,
+            out_delays,
+            out_units,
+        );
+    }
+    assemble_any(
+        beats,
+        ratios,
+        delays,
+        units,
+        out_beats,
+        out_ratios,
+        out_delays,
+        out_units,
+    )
+}
+
+fn assemble_by_few(
+    beats: &[f64],
+    ratios: &[f64],
+    delays: &[f64],
+    units: &[u8],
+    out_beats: &mut [f32],
+    out_ratios: &mut [f32],
+    out_delays: &mut [f32],
+    out_units: &mut [u8],
+) -> Outcome
+    requires { ⌜ (length (now beats) ≡ length (now ratios)) × (length (now beats) ≡ length (now delays)) × (length (now beats) ≡ length (now units)) ⌝ }
+    requires { ⌜ length (now beats) ≤ 64 ⌝ }
+    ensures { λ r. ⌜ SpeedsUntested (now (beats .entry)) (now (ratios .entry)) (now (delays .entry)) (now (units .entry)) r (now («out_beats» .entry)) (now («out_beats» .exit)) (now («out_ratios» .entry)) (now («out_ratios» .exit)) (now («out_delays» .entry)) (now («out_delays» .exit)) (now («out_units» .entry)) (now («out_units» .exit)) ⌝ }
+{
+    let n = beats.len();
+    let mut quantised = [0.0f32; 64];
+    assemble_by(
+        beats,
+        ratios,
+        delays,
+        units,
+        &mut quantised[..n],
+        out_beats,
+        out_ratios,
+        out_delays,
+        out_units,
+    )
+}
+
+fn assemble_by_many(
+    beats: &[f64],
+    ratios: &[f64],
+    delays: &[f64],
+    units: &[u8],
+    out_beats: &mut [f32],
+    out_ratios: &mut [f32],
+    out_delays: &mut [f32],
+    out_units: &mut [u8],
+) -> Outcome
+    requires { ⌜ (length (now beats) ≡ length (now ratios)) × (length (now beats) ≡ length (now delays)) × (length (now beats) ≡ length (now units)) ⌝ }
+    requires { ⌜ length (now beats) ≤ 1024 ⌝ }
+    ensures { λ r. ⌜ SpeedsUntested (now (beats .entry)) (now (ratios .entry)) (now (delays .entry)) (now (units .entry)) r (now («out_beats» .entry)) (now («out_beats» .exit)) (now («out_ratios» .entry)) (now («out_ratios» .exit)) (now («out_delays» .entry)) (now («out_delays» .exit)) (now («out_units» .entry)) (now («out_units» .exit)) ⌝ }
+{
+    let n = beats.len();
+    let mut quantised = [0.0f32; 1024];
+    assemble_by(
+        beats,
+        ratios,
+        delays,
+        units,
+        &mut quantised[..n],
+        out_beats,
+        out_ratios,
+        out_delays,
+        out_units,
+    )
+}
+
+// ---- the calls
+
+// The assembled speeds over the fronts of the four rooms, and how many.
+// Refused with 1, 2, 3, 4 or 6 for what tidying is given, and with 7 where they do not fit.
+pub fn assemble_speeds(
+    beats: &[f64],
+    ratios: &[f64],
+    delays: &[f64],
+    units: &[u8],
+    out_beats: &mut [f32],
+    out_ratios: &mut [f32],
+    out_delays: &mut [f32],
+    out_units: &mut [u8],
+) -> Outcome
+    ensures { λ r. ⌜ SpeedsAssembled (now (beats .entry)) (now (ratios .entry)) (now (delays .entry)) (now (units .entry)) r (now («out_beats» .entry)) (now («out_beats» .exit)) (now («out_ratios» .entry)) (now («out_ratios» .exit)) (now («out_delays» .entry)) (now («out_delays» .exit)) (now («out_units» .entry)) (now («out_units» .exit)) ⌝ }
+{
     if beats.len() <= limits::MOST_ENTRIES {
-        return assemble_many(
+        return assemble_any(
             beats,
             ratios,
             delays,
@@ -216,10 +388,74 @@ pub fn assemble_speeds(
     columns::refused(limits::TOO_LONG)
 }
 
+// Speeds as they are where quantised beats rise and no ratio is near the one before it, and as `assemble_speeds` has them where that is not so.
+// For a list that is known to be taken both are the same.
+pub fn assemble_untested(
+    beats: &[f64],
+    ratios: &[f64],
+    delays: &[f64],
+    units: &[u8],
+    out_beats: &mut [f32],
+    out_ratios: &mut [f32],
+    out_delays: &mut [f32],
+    out_units: &mut [u8],
+) -> Outcome
+    ensures { λ r. ⌜ SpeedsUntested (now (beats .entry)) (now (ratios .entry)) (now (delays .entry)) (now (units .entry)) r (now («out_beats» .entry)) (now («out_beats» .exit)) (now («out_ratios» .entry)) (now («out_ratios» .exit)) (now («out_delays» .entry)) (now («out_delays» .exit)) (now («out_units» .entry)) (now («out_units» .exit)) ⌝ }
+{
+    if !same_lengths(beats.len(), ratios.len(), delays.len(), units.len()) {
+        return assemble_speeds(
+            beats,
+            ratios,
+            delays,
+            units,
+            out_beats,
+            out_ratios,
+            out_delays,
+            out_units,
+        );
+    }
+    if beats.len() <= 64 {
+        return assemble_by_few(
+            beats,
+            ratios,
+            delays,
+            units,
+            out_beats,
+            out_ratios,
+            out_delays,
+            out_units,
+        );
+    }
+    if beats.len() <= limits::MOST_ENTRIES {
+        return assemble_by_many(
+            beats,
+            ratios,
+            delays,
+            units,
+            out_beats,
+            out_ratios,
+            out_delays,
+            out_units,
+        );
+    }
+    assemble_speeds(
+        beats,
+        ratios,
+        delays,
+        units,
+        out_beats,
+        out_ratios,
+        out_delays,
+        out_units,
+    )
+}
+
 fn number_in(beats: &[f64], ratios: &[f64], delays: &[f64], units: &[u8], room: usize) -> u32
-    requires { ⌜ length (now beats) ≤ 1024 ⌝ }
     ensures { λ r. ⌜ r ≡ speedsRoomNumber (now (beats .entry)) (now (ratios .entry)) (now (delays .entry)) (now (units .entry)) room ⌝ }
 {
+    if beats.len() > limits::MOST_ENTRIES {
+        return limits::TOO_LONG;
+    }
     let n = columns::room_of(room, limits::MOST_ENTRIES);
     let mut beat_room = [0.0f32; 1024];
     let mut ratio_room = [0.0f32; 1024];
@@ -238,7 +474,8 @@ fn number_in(beats: &[f64], ratios: &[f64], delays: &[f64], units: &[u8], room: 
     outcome.number
 }
 
-// What `assemble_speeds` answers where the shortest room has a length: at once where the list is taken and no longer than that, and no beat is above the next.
+// What `assemble_speeds` answers where the shortest room has a length. Where that is no less than the list's and no beat is above the next it is 0 at once,
+// as it is of every such list that is taken: no number is tested.
 pub fn speeds_number(
     beats: &[f64],
     ratios: &[f64],
@@ -246,15 +483,9 @@ pub fn speeds_number(
     units: &[u8],
     room: usize,
 ) -> u32
-    ensures { λ r. ⌜ r ≡ speedsRoomNumber (now (beats .entry)) (now (ratios .entry)) (now (delays .entry)) (now (units .entry)) room ⌝ }
+    ensures { λ r. ⌜ r ≡ speedsLater (now (beats .entry)) (now (ratios .entry)) (now (delays .entry)) (now (units .entry)) room ⌝ }
 {
-    if beats.len() > limits::MOST_ENTRIES {
-        return limits::TOO_LONG;
-    }
     if beats.len() > room {
-        return number_in(beats, ratios, delays, units, room);
-    }
-    if tidy_speeds::speed_list_number(beats, ratios, delays, units) != limits::TAKEN {
         return number_in(beats, ratios, delays, units, room);
     }
     if assembled_rows::never_fall(beats) {

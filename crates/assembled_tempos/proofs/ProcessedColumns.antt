@@ -20,8 +20,9 @@ use Rattle.columns.specs.Laying.{roomNumber, LaidPair, LaidList}
 use Rattle.columns.proofs.Rooms.{list-of-pair}
 use Rattle.tidy_rows.specs.RowTidying.{rowsNumber}
 use Rattle.raw_lists.specs.RawLists.{roomFor}
-use Rattle.assembled_rows.specs.AssembledRows.{narrowedEntry, changeBy, assembledRows, assembledNumber, narrowedFront, rowsFit}
+use Rattle.assembled_rows.specs.AssembledRows.{narrowedEntry, changeBy, assembledRows, RowsUntested, narrowedFront, rowsFit}
 use Rattle.assembled_rows.proofs.QuantizedTaken.{quantized-taken}
+use Rattle.assembled_rows.proofs.Untested.{untested-taken}
 use Rattle.assembled_tempos.specs.AssembledTempos.{assembledTempos, assembledStops, assembledWarps, threeRooms, fitNumber}
 use Rattle.assembled_tempos.specs.Inside.{Processed, listsOf}
 use Rattle.assembled_tempos.proofs.RowsFit.{fit-number}
@@ -61,19 +62,19 @@ module _ (tempoBeats tempoValues stopBeats stopValues warpBeats warpLengths : Li
         list-of-pair q′ (q′ .number ∙ fit)
 
     pub stops-laid : fitNumber (assembledStops (listsOf tempoBeats tempoValues stopBeats stopValues warpBeats warpLengths offset)) (roomFor firstOld secondOld) ≡ 0
-        → LaidPair (assembledNumber (changeBy false) stopBeats stopValues) (assembledRows (changeBy false) stopBeats stopValues) outcome firstOld firstNew secondOld secondNew
+        → RowsUntested false stopBeats stopValues outcome firstOld firstNew secondOld secondNew
         → LaidList 0 (assembledStops (listsOf tempoBeats tempoValues stopBeats stopValues warpBeats warpLengths offset)) (outcome .count) firstOld firstNew secondOld secondNew
     stops-laid fit q =
         let q′ : LaidPair 0 (assembledStops (listsOf tempoBeats tempoValues stopBeats stopValues warpBeats warpLengths offset)) outcome firstOld firstNew secondOld secondNew =
-        rw stops-are (rw (quantized-taken stopBeats stopValues false (p .stops)) at q) in
+        rw stops-are (rw (quantized-taken stopBeats stopValues false (p .stops)) at (untested-taken stopBeats stopValues false (p .stops) q)) in
         list-of-pair q′ (q′ .number ∙ fit)
 
     pub warps-laid : length warpBeats ≤ 1024 → fitNumber (assembledWarps (listsOf tempoBeats tempoValues stopBeats stopValues warpBeats warpLengths offset)) (roomFor firstOld secondOld) ≡ 0
-        → LaidPair (assembledNumber (changeBy true) warpBeats warpLengths) (assembledRows (changeBy true) warpBeats warpLengths) outcome firstOld firstNew secondOld secondNew
+        → RowsUntested true warpBeats warpLengths outcome firstOld firstNew secondOld secondNew
         → LaidList 0 (assembledWarps (listsOf tempoBeats tempoValues stopBeats stopValues warpBeats warpLengths offset)) (outcome .count) firstOld firstNew secondOld secondNew
     warps-laid few fit q =
         let q′ : LaidPair 0 (assembledWarps (listsOf tempoBeats tempoValues stopBeats stopValues warpBeats warpLengths offset)) outcome firstOld firstNew secondOld secondNew =
-        rw warps-are (rw (quantized-taken warpBeats warpLengths true (p .warps few)) at q) in
+        rw warps-are (rw (quantized-taken warpBeats warpLengths true (p .warps few)) at (untested-taken warpBeats warpLengths true (p .warps few) q)) in
         list-of-pair q′ (q′ .number ∙ fit)
 
 pub record AllFit (later tempos stops warps : ℕ) : Type 0 where

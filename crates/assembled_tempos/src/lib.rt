@@ -108,14 +108,14 @@ fn lay_lists(
         out_tempo_beats,
         out_tempo_values,
     );
-    let stops = assembled_rows::assemble_rows(
+    let stops = assembled_rows::assemble_untested(
         stop_beats,
         stop_values,
         false,
         out_stop_beats,
         out_stop_values,
     );
-    let warps = assembled_rows::assemble_rows(
+    let warps = assembled_rows::assemble_untested(
         warp_beats,
         warp_lengths,
         true,

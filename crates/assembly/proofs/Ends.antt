@@ -20,10 +20,13 @@ use Rattle.speeds.specs.Speed.{SpeedEntry}
 use Rattle.speeds.specs.LaidSpeeds.{leastOf, LaidSpeeds}
 use Rattle.tidy_speeds.specs.SpeedTidying.{speedListNumber}
 use Rattle.by_format.specs.ByFormat.{Lists}
-use Rattle.assembled_rows.specs.AssembledRows.{changeBy, assembledNumber, assembledRows, rowsFit}
+use Rattle.assembled_rows.specs.AssembledRows.{changeBy, assembledRows, RowsUntested, rowsFit}
 use Rattle.assembled_rows.proofs.QuantizedTaken.{quantized-taken}
-use Rattle.assembled_scrolls.specs.AssembledScrolls.{assembledScrolls, assembledScrollsNumber, scrollsRoomNumber}
-use Rattle.assembled_speeds.specs.AssembledSpeeds.{assembledSpeeds, assembledSpeedsNumber, speedsRoomNumber}
+use Rattle.assembled_rows.proofs.Untested.{untested-taken}
+use Rattle.assembled_scrolls.specs.AssembledScrolls.{scrollsRoomNumber, scrollsLater}
+use Rattle.assembled_scrolls.proofs.Untested as scrolls
+use Rattle.assembled_speeds.specs.AssembledSpeeds.{speedsRoomNumber, speedsLater}
+use Rattle.assembled_speeds.proofs.Untested as speeds
 use Rattle.assembled_tempos.specs.declared.AssembledTempos.{AssembledTempos}
 use Rattle.assembled_tempos.specs.AssembledTempos.{verdict, fitNumber, threeRooms, ThreeLaid}
 use Rattle.assembled_tempos.proofs.RowsFit.{fit-number}
@@ -82,6 +85,8 @@ same-later {raw} {later} {later′} {most} {lists} {outcome} {tempoBeatsOld} {te
 
 pub record OthersTaken (delayBeats delayValues speedBeats speedRatios speedDelays : List Float) (speedUnits : List ℕ) (scrollBeats scrollValues fakeBeats fakeLengths : List Float) : Type 0 where
   pub delays : listOf delayBeats delayValues ≡ 0
+  pub speeds : speedListNumber speedBeats speedRatios speedDelays speedUnits ≡ 0
+  pub scrolls : listOf scrollBeats scrollValues ≡ 0
   pub fakes : listOf fakeBeats fakeLengths ≡ 0
 
 module _ (delayBeats delayValues speedBeats speedRatios speedDelays : List Float) (speedUnits : List ℕ) (scrollBeats scrollValues fakeBeats fakeLengths : List Float) where
@@ -93,13 +98,21 @@ module _ (delayBeats delayValues speedBeats speedRatios speedDelays : List Float
       let f = listOf fakeBeats fakeLengths in
       let one = lower-none (lower (lower d s) c) f h in
       let two = lower-none (lower d s) c (one .0) in
-      record { delays = lower-none d s (two .0) .0; fakes = one .1 }
+      let three = lower-none d s (two .0) in
+      record { delays = three .0; speeds = three .1; scrolls = two .1; fakes = one .1 }
 
   module _ (delayRoom speedRoom scrollRoom fakeRoom : ℕ) where
     pub later-is : othersNumber delayBeats delayValues speedBeats speedRatios speedDelays speedUnits scrollBeats scrollValues fakeBeats fakeLengths ≡ 0
-        → lower (lower (lower (pick (rowsFit false delayBeats delayValues delayRoom) 0 7) (speedsRoomNumber speedBeats speedRatios speedDelays speedUnits speedRoom)) (scrollsRoomNumber scrollBeats scrollValues scrollRoom)) (pick (rowsFit true fakeBeats fakeLengths fakeRoom) 0 7)
+        → lower (lower (lower (pick (rowsFit false delayBeats delayValues delayRoom) 0 7) (speedsLater speedBeats speedRatios speedDelays speedUnits speedRoom)) (scrollsLater scrollBeats scrollValues scrollRoom)) (pick (rowsFit true fakeBeats fakeLengths fakeRoom) 0 7)
         ≡ othersLater delayBeats delayValues speedBeats speedRatios speedDelays speedUnits scrollBeats scrollValues fakeBeats fakeLengths delayRoom speedRoom scrollRoom fakeRoom
-    later-is h = rw (fit-number false delayBeats delayValues delayRoom (others-taken h .delays), fit-number true fakeBeats fakeLengths fakeRoom (others-taken h .fakes))
+    later-is h =
+        let taken = others-taken h in
+        rw (
+          fit-number false delayBeats delayValues delayRoom (taken .delays),
+          fit-number true fakeBeats fakeLengths fakeRoom (taken .fakes),
+          speeds.later-taken speedBeats speedRatios speedDelays speedUnits (taken .speeds) speedRoom,
+          scrolls.later-taken scrollBeats scrollValues (taken .scrolls) scrollRoom,
+        )
 
     pub record OthersFit : Type 0 where
       pub delaysFit : fitNumber (assembledDelays delayBeats delayValues) delayRoom ≡ 0
@@ -120,10 +133,10 @@ module _ (delayBeats delayValues speedBeats speedRatios speedDelays : List Float
 
 -- a row list that is taken and fits
 pub rows-laid : (whole : Bool) (beats values : List Float) {outcome : Outcome} {beatsOld beatsNew valuesOld valuesNew : List Float} → listOf beats values ≡ 0 → fitNumber (assembledRows (changeBy whole) beats values) (roomFor beatsOld valuesOld) ≡ 0
-    → LaidPair (assembledNumber (changeBy whole) beats values) (assembledRows (changeBy whole) beats values) outcome beatsOld beatsNew valuesOld valuesNew
+    → RowsUntested whole beats values outcome beatsOld beatsNew valuesOld valuesNew
     → LaidList 0 (assembledRows (changeBy whole) beats values) (outcome .count) beatsOld beatsNew valuesOld valuesNew
 rows-laid whole beats values {outcome} {beatsOld} {beatsNew} {valuesOld} {valuesNew} taken fit q =
-    let q′ : LaidPair 0 (assembledRows (changeBy whole) beats values) outcome beatsOld beatsNew valuesOld valuesNew = rw (quantized-taken beats values whole taken) at q in
+    let q′ : LaidPair 0 (assembledRows (changeBy whole) beats values) outcome beatsOld beatsNew valuesOld valuesNew = rw (quantized-taken beats values whole taken) at (untested-taken beats values whole taken q) in
     list-of-pair q′ (q′ .number ∙ fit)
 
 -- ---- what tempos, stops and warps answer is the number of all

@@ -210,14 +210,14 @@ pub fn compute_timing_segments_within(
             offset: processed.offset,
         };
     }
-    let delays = assembled_rows::assemble_rows(
+    let delays = assembled_rows::assemble_untested(
         delay_beats,
         delay_values,
         false,
         out_delay_beats,
         out_delay_values,
     );
-    let speeds = assembled_speeds::assemble_speeds(
+    let speeds = assembled_speeds::assemble_untested(
         speed_beats,
         speed_ratios,
         speed_delays,
@@ -227,13 +227,13 @@ pub fn compute_timing_segments_within(
         out_speed_delays,
         out_speed_units,
     );
-    let scrolls = assembled_scrolls::assemble_scrolls(
+    let scrolls = assembled_scrolls::assemble_untested(
         scroll_beats,
         scroll_values,
         out_scroll_beats,
         out_scroll_values,
     );
-    let fakes = assembled_rows::assemble_rows(
+    let fakes = assembled_rows::assemble_untested(
         fake_beats,
         fake_lengths,
         true,

@@ -2,10 +2,13 @@
 use mathlib.Core.Path.{sym}
 use native.Mathlib.Omega.{arith}
 use lib.Seq.{length-take-le}
-use Rattle.assembled_scrolls.proofs.Outcomes.{answered}
+use Rattle.assembled_scrolls.proofs.Outcomes.{long-answered, answered}
 use borrow.Author.Needs.{needs}
 use Rattle.assembled_scrolls.proofs.number_in.Statement.{statement}
 use Rattle.assembled_scrolls.proofs.number_in.Tie as tie
+
+returns : tie.Need-returns
+returns c = let given = c .before .before .before .args in long-answered (given .beats .now) (given .values .now) (given .room) (c .if1 .taken)
 
 room-of-requires : tie.Need-room-of-requires
 room-of-requires c κs = search needs
@@ -25,17 +28,20 @@ slice-aggregate-assemble-scrolls-2 c = sym (length-take-le _ _ (omega (arith, c 
 assemble-scrolls-requires : tie.Need-assemble-scrolls-requires
 assemble-scrolls-requires c κs = search needs
 
-returns : tie.Need-returns
-returns c = answered (c .before .before .before .before .before .before .before .before .args .beats .now) (c .before .before .before .before .before .before .before .before .args .values .now) (c .before .before .before .before .before .before .before .before .args .room) (c .before .before .before .before .before .before .before .before .pre) (c .before .before .before .before .before .room-of .ensures) (length-take-le _ _ (omega (arith, c .before .before .before .before .before .room-of .ensures))) (length-take-le _ _ (omega (arith, c .before .before .before .before .before .room-of .ensures))) (c .before .before .assemble-scrolls .ensures)
+returns-2 : tie.Need-returns-2
+returns-2 c =
+    let given = c .before .before .before .before .before .before .before .before .before .args in
+    answered (given .beats .now) (given .values .now) (given .room) (c .before .before .before .before .before .before .if1 .left) (c .before .before .before .before .before .room-of .ensures) (length-take-le _ _ (omega (arith, c .before .before .before .before .before .room-of .ensures))) (length-take-le _ _ (omega (arith, c .before .before .before .before .before .room-of .ensures))) (c .before .before .assemble-scrolls .ensures)
 
 pub number-in-spec : {M : Type 1} → statement M
 number-in-spec =
     tie.close
     (tie.spec
+    returns
     room-of-requires
     array-borrow-prefix-beat-room
     slice-aggregate-assemble-scrolls
     array-borrow-prefix-value-room
     slice-aggregate-assemble-scrolls-2
     assemble-scrolls-requires
-    returns)
+    returns-2)

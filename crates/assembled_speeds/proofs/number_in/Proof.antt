@@ -2,10 +2,13 @@
 use mathlib.Core.Path.{sym}
 use native.Mathlib.Omega.{arith}
 use lib.Seq.{length-take-le}
-use Rattle.assembled_speeds.proofs.Outcomes.{answered}
+use Rattle.assembled_speeds.proofs.Outcomes.{long-answered, answered}
 use borrow.Author.Needs.{needs}
 use Rattle.assembled_speeds.proofs.number_in.Statement.{statement}
 use Rattle.assembled_speeds.proofs.number_in.Tie as tie
+
+returns : tie.Need-returns
+returns c = let given = c .before .before .before .before .before .args in long-answered (given .beats .now) (given .ratios .now) (given .delays .now) (given .units .now) (given .room) (c .if1 .taken)
 
 room-of-requires : tie.Need-room-of-requires
 room-of-requires c κs = search needs
@@ -37,13 +40,16 @@ slice-aggregate-assemble-speeds-4 c = sym (length-take-le _ _ (omega (arith, c .
 assemble-speeds-requires : tie.Need-assemble-speeds-requires
 assemble-speeds-requires c κs = search needs
 
-returns : tie.Need-returns
-returns c = answered (c .before .before .before .before .before .before .before .before .before .before .before .before .before .before .args .beats .now) (c .before .before .before .before .before .before .before .before .before .before .before .before .before .before .args .ratios .now) (c .before .before .before .before .before .before .before .before .before .before .before .before .before .before .args .delays .now) (c .before .before .before .before .before .before .before .before .before .before .before .before .before .before .args .units .now) (c .before .before .before .before .before .before .before .before .before .before .before .before .before .before .args .room) (c .before .before .before .before .before .before .before .before .before .before .before .before .before .before .pre) (c .before .before .before .before .before .before .before .before .before .room-of .ensures) (length-take-le _ _ (omega (arith, c .before .before .before .before .before .before .before .before .before .room-of .ensures))) (length-take-le _ _ (omega (arith, c .before .before .before .before .before .before .before .before .before .room-of .ensures))) (length-take-le _ _ (omega (arith, c .before .before .before .before .before .before .before .before .before .room-of .ensures))) (length-take-le _ _ (omega (arith, c .before .before .before .before .before .before .before .before .before .room-of .ensures))) (c .before .before .before .before .assemble-speeds .ensures)
+returns-2 : tie.Need-returns-2
+returns-2 c =
+    let given = c .before .before .before .before .before .before .before .before .before .before .before .before .before .before .before .args in
+    answered (given .beats .now) (given .ratios .now) (given .delays .now) (given .units .now) (given .room) (c .before .before .before .before .before .before .before .before .before .before .if1 .left) (c .before .before .before .before .before .before .before .before .before .room-of .ensures) (length-take-le _ _ (omega (arith, c .before .before .before .before .before .before .before .before .before .room-of .ensures))) (length-take-le _ _ (omega (arith, c .before .before .before .before .before .before .before .before .before .room-of .ensures))) (length-take-le _ _ (omega (arith, c .before .before .before .before .before .before .before .before .before .room-of .ensures))) (length-take-le _ _ (omega (arith, c .before .before .before .before .before .before .before .before .before .room-of .ensures))) (c .before .before .before .before .assemble-speeds .ensures)
 
 pub number-in-spec : {M : Type 1} → statement M
 number-in-spec =
     tie.close
     (tie.spec
+    returns
     room-of-requires
     array-borrow-prefix-beat-room
     slice-aggregate-assemble-speeds
@@ -54,4 +60,4 @@ number-in-spec =
     array-borrow-prefix-unit-room
     slice-aggregate-assemble-speeds-4
     assemble-speeds-requires
-    returns)
+    returns-2)

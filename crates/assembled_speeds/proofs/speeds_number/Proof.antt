@@ -1,51 +1,38 @@
 -- `assembled_speeds::speeds_number` has the list assembled only where its number is not known at once. Assumes nothing.
 use mathlib.Core.Path.{sym, _∙_}
-use Rattle.assembled_speeds.proofs.Outcomes.{long-answered, taken-at-once}
+use mathlib.Core.Bool.{true, false}
+use Rattle.assembled_speeds.proofs.Untested.{later-short, later-by}
 use borrow.Author.Needs.{needs}
 use Rattle.assembled_speeds.proofs.speeds_number.Statement.{statement}
 use Rattle.assembled_speeds.proofs.speeds_number.Tie as tie
 
-returns : tie.Need-returns
-returns c = long-answered (c .before .before .before .before .before .args .beats .now) (c .before .before .before .before .before .args .ratios .now) (c .before .before .before .before .before .args .delays .now) (c .before .before .before .before .before .args .units .now) (c .before .before .before .before .before .args .room) (c .if1 .taken)
-
 number-in-requires : tie.Need-number-in-requires
 number-in-requires c κs = search needs
 
-returns-2 : tie.Need-returns-2
-returns-2 c = search needs
+returns : tie.Need-returns
+returns c = let given = c .before .before .before .before .before .before .args in c .number-in .ensures ∙ later-short (given .beats .now) (given .ratios .now) (given .delays .now) (given .units .now) (given .room) (c .before .if1 .taken)
 
-speed-list-number-requires : tie.Need-speed-list-number-requires
-speed-list-number-requires c κs = search needs
+never-fall-requires : tie.Need-never-fall-requires
+never-fall-requires c κs = search needs
+
+returns-2 : tie.Need-returns-2
+returns-2 c = let given = c .before .before .before .before .before .before .before .args in later-by (given .beats .now) (given .ratios .now) (given .delays .now) (given .units .now) (given .room) true (c .before .before .if1 .left) (sym (c .if2 .taken) ∙ c .before .never-fall .ensures)
 
 number-in-requires-2 : tie.Need-number-in-requires-2
 number-in-requires-2 c κs = search needs
 
 returns-3 : tie.Need-returns-3
-returns-3 c = search needs
-
-never-fall-requires : tie.Need-never-fall-requires
-never-fall-requires c κs = search needs
-
-returns-4 : tie.Need-returns-4
-returns-4 c = taken-at-once (c .before .before .before .before .before .before .before .before .before .before .args .beats .now) (c .before .before .before .before .before .before .before .before .before .before .args .ratios .now) (c .before .before .before .before .before .before .before .before .before .before .args .delays .now) (c .before .before .before .before .before .before .before .before .before .before .args .units .now) (c .before .before .before .before .before .before .before .before .before .before .args .room) (sym (c .before .before .before .speed-list-number .ensures) ∙ c .before .before .if3 .left) (sym (c .before .never-fall .ensures) ∙ c .if4 .taken) (c .before .before .before .before .if2 .left)
-
-number-in-requires-3 : tie.Need-number-in-requires-3
-number-in-requires-3 c κs = search needs
-
-returns-5 : tie.Need-returns-5
-returns-5 c = search needs
+returns-3 c =
+    let given = c .before .before .before .before .before .before .before .before .args in
+    c .number-in2 .ensures ∙ later-by (given .beats .now) (given .ratios .now) (given .delays .now) (given .units .now) (given .room) false (c .before .before .before .if1 .left) (sym (c .before .if2 .left) ∙ c .before .before .never-fall .ensures)
 
 pub speeds-number-spec : {M : Type 1} → statement M
 speeds-number-spec =
     tie.close
     (tie.spec
-    returns
     number-in-requires
-    returns-2
-    speed-list-number-requires
-    number-in-requires-2
-    returns-3
+    returns
     never-fall-requires
-    returns-4
-    number-in-requires-3
-    returns-5)
+    returns-2
+    number-in-requires-2
+    returns-3)
