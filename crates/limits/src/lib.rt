@@ -224,7 +224,8 @@ fn one_not_plain(range: Range, x: f64) -> u32
     if is_plain(range, x) { 0 } else { 1 }
 }
 
-fn worse_of(one: u32, other: u32) -> u32
+// The greater of two numbers: a loop that keeps the worst has no branch.
+pub fn worse_of(one: u32, other: u32) -> u32
     ensures { λ r. ⌜ r ≡ pick (ltb one other) other one ⌝ }
 {
     if one < other { other } else { one }
