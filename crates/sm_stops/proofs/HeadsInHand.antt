@@ -54,7 +54,7 @@ module _ (beats : List Float) (place : ℕ) where
       go false = rw (not-least least)
 
   -- a head is finite where there is one
-  pub head-left : Numbers beats → lt (headAt beats place) (inf false) ≡ ltb place (length beats)
+  head-left : Numbers beats → lt (headAt beats place) (inf false) ≡ ltb place (length beats)
   unfolding headAt lt
   head-left n = go (ltb place (length beats)) refl
     where

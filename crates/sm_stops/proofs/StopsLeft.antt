@@ -1,6 +1,6 @@
 -- Where no delay and no warp is left, the sums are those of the stops alone, each on its own. Assumes nothing.
-use Prim.Native.Nat.{ℕ, zero, suc, _+_, _-_, _/_, _%_, _≤_, _<_}
-use mathlib.Core.List.{List, [], _++_}
+use Prim.Native.Nat.{ℕ, zero, suc, _+_, _-_, _%_, _≤_, _<_}
+use mathlib.Core.List.{List, _++_}
 use mathlib.Core.Bool.{Bool, true, false}
 use mathlib.Core.Path.{_≡_, refl, sym, ap, _∙_}
 use native.Mathlib.Omega.{arith}
@@ -8,11 +8,10 @@ use borrow.Author.Tests.{lt-ltb, le-ltb, ltb-false}
 use lib.Dec.{ltb}
 use lib.ListN.{length, take, drop, getD, length-append}
 use lib.Seq.{drop-drop, length-take-le}
-use lib.Ieee.{Float, nan, inf, binary32, add, lt, eq}
-use Rattle.picks.specs.Pick.{pick}
+use lib.Ieee.{Float, nan, binary32, add}
 use Rattle.order.specs.Order.{laid}
 use Rattle.order.proofs.LaidOverFront.{Laying}
-use Rattle.sm_stops.specs.Merging.{Sources, Heads, Turned, none, lesser, leastBeat, meets, beatHere, turn, isOver, left, written, mergedWithin, merged}
+use Rattle.sm_stops.specs.Merging.{Sources, Heads, none, lesser, leastBeat, meets, turn, isOver, left, written, mergedWithin, merged}
 use Rattle.sm_stops.specs.InHand.{alone, atStop}
 use Rattle.sm_stops.specs.Plain.{Numbers, Plain}
 
