@@ -9,7 +9,7 @@ use lib.Dec.{ltb}
 use lib.ListN.{length, getD}
 use lib.Ieee.{Float, nan, inf, fin, lt, le, eq}
 use Rattle.picks.specs.Pick.{pick}
-use Rattle.sm_stops.specs.Merging.{Sources, Heads, lesser, leastBeat, meets, forward, beatHere}
+use Rattle.sm_stops.specs.Merging.{Sources, Heads, lesser, leastBeat, meets, forward, beatHere, isOver}
 use Rattle.sm_stops.specs.InHand.{headAt, secondsAt}
 use Rattle.sm_stops.specs.Plain.{Numbers, Plain}
 use Rattle.sm_stops.proofs.TempoForward.{begun, over, later}
@@ -53,6 +53,15 @@ module _ (beats : List Float) (place : ℕ) where
       go true = refl
       go false = rw (not-least least)
 
+  -- a head is finite where there is one
+  head-left : Numbers beats → lt (headAt beats place) (inf false) ≡ ltb place (length beats)
+  unfolding headAt lt
+  head-left n = go (ltb place (length beats)) refl
+    where
+      go : (t : Bool) → ltb place (length beats) ≡ t → lt (pick t (getD beats place nan) (inf false)) (inf false) ≡ t
+      go true e = n .below place (ltb-true place (length beats) e)
+      go false e = refl
+
   head-first : Numbers beats → headAt beats place ≡ lesser (inf false) beats place
   unfolding headAt lesser
   head-first n = go (ltb place (length beats)) refl
@@ -77,6 +86,28 @@ least-in-hand s h tempoBeat lasts stopBeat delayBeat warpBeat plain hand first l
     let two : pick (lt delayBeat stopBeat) delayBeat stopBeat ≡ lesser stopBeat (s .delayBeats) (h .delay) = rw (hand .delay) (head-lesser (s .delayBeats) (h .delay) stopBeat) in
     let three : pick (lt warpBeat first) warpBeat first ≡ lesser first (s .warpBeats) (h .warp) = rw (hand .warp) (head-lesser (s .warpBeats) (h .warp) first) in
     f ∙ three ∙ ap (λ (x : Float). lesser x (s .warpBeats) (h .warp)) (e ∙ two ∙ ap (λ (x : Float). lesser x (s .delayBeats) (h .delay)) one)
+
+-- ---- delays and warps
+abbrev pub noneLeft : Sources → Heads → Bool
+noneLeft s h = pick (ltb (h .delay) (length (s .delayBeats))) false (pick (ltb (h .warp) (length (s .warpBeats))) false true)
+
+pub over-in-hand : (s : Sources) (h : Heads) (tempoBeat lasts stopBeat delayBeat warpBeat : Float) → Plain s → InHand s h tempoBeat lasts stopBeat delayBeat warpBeat
+    → pick (lt delayBeat (inf false)) false (pick (lt warpBeat (inf false)) false true) ≡ noneLeft s h
+over-in-hand s h tempoBeat lasts stopBeat delayBeat warpBeat plain hand =
+    rw (hand .delay, hand .warp, head-left (s .delayBeats) (h .delay) (plain .delays), head-left (s .warpBeats) (h .warp) (plain .warps))
+
+pub both-over : (a b : Bool) → pick a false (pick b false true) ≡ true → (a ≡ false) × (b ≡ false)
+both-over false false e = (refl, refl)
+both-over true b e = never e
+both-over false true e = never e
+
+pub more-left : (s : Sources) (h : Heads) → noneLeft s h ≡ false → isOver s h ≡ false
+unfolding isOver
+more-left s h e = rw e (go (ltb (h .stop) (length (s .stops))))
+  where
+    go : (t : Bool) → pick t false false ≡ false
+    go true = refl
+    go false = refl
 
 -- ---- the next tempo
 pub tempo-stays : (tempoBeats : List Float) (place : ℕ) (beat : Float) → place < 2 ^ 63 → le (headAt tempoBeats (place + 1)) beat ≡ false → place ≡ forward tempoBeats place beat

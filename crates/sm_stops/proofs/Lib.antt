@@ -2,6 +2,7 @@ pub mod TempoForward
 pub mod EveryTurnMeets
 pub mod HeadsInHand
 pub mod TurnByTurn
+pub mod StopsLeft
 pub mod TwoByTwo
 pub mod TakenSources
 pub mod SmallNumbers

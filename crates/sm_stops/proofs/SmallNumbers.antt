@@ -1,5 +1,4 @@
 -- A flat list whose numbers could all be beats has beats and pauses that are taken: what is small enough for a beat is so for a pause. Assumes nothing.
-use Prim.Native.Nat.{_*_}
 use mathlib.Core.List.{List, [], _∷_}
 use mathlib.Core.Bool.{true}
 use mathlib.Core.Path.{_≡_, refl}
@@ -7,7 +6,7 @@ use native.Mathlib.Omega.{arith}
 use lib.Ieee.{Float}
 use Rattle.ieee.proofs.Magnitude.{sized, sized-within}
 use Rattle.limits.specs.declared.Kind.the-variants.{Beat, Pause}
-use Rattle.limits.specs.Numbers.{rangeOf, inRange, every, allIn}
+use Rattle.limits.specs.Numbers.{rangeOf, inRange, allIn}
 use Rattle.limits.proofs.Every.{every-rest}
 use Rattle.limits.proofs.TakenWithin.{taken-within, within-taken}
 use Rattle.sm_stops.specs.Filling.{beatsIn, valuesIn}

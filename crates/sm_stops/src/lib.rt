@@ -1,17 +1,18 @@
 // Warps and delays as the stops of an SM chart.
 use limits::Kind;
 ghost use mathlib.Core.Path.{_≡_};
-ghost use mathlib.Core.Bool.{true, false, not};
+ghost use mathlib.Core.Bool.{true, false};
 ghost use Prim.Native.Nat.{_+_, _*_, _/_, _%_, _<_, _≤_, _^_};
 ghost use lib.Dec.{ltb, leb, eqb};
-ghost use lib.ListN.{length, getD, set};
+ghost use lib.ListN.{length, take, getD, set};
+ghost use mathlib.Core.List.{_++_};
 ghost use lib.Ieee.{nan, inf, ne, lt};
 ghost use Rattle.picks.specs.Pick.{pick};
 ghost use Rattle.limits.specs.Numbers.{rangeOf};
 ghost use Rattle.order.specs.Order.{laid};
 ghost use Rattle.sm_stops.specs.Merging.{sources, none, meets, plus, forward, tempoPlace, less, onward, merged, atFirst};
-ghost use Rattle.sm_stops.specs.InHand.{headAt, secondsAt};
-ghost use Rattle.sm_stops.specs.Plain.{Plain};
+ghost use Rattle.sm_stops.specs.InHand.{headAt, secondsAt, alone, atStop};
+ghost use Rattle.sm_stops.specs.Plain.{Numbers, Plain};
 ghost use Rattle.sm_stops.specs.Filling.{beatsIn, valuesIn, isEven, flatNumber, flat, listsNumber, StopsFilled, chosen};
 
 // What filling the work list answers: the refusal number, the entries written, and whether the caller's own stops are the answer.
@@ -50,11 +51,14 @@ fn lesser_of(least: f32, head: f32) -> f32
     if head < least { head } else { least }
 }
 
-// Whether no head is left: the least beat is infinite then.
-fn is_over(least: f32) -> bool
-    ensures { λ r. ⌜ r ≡ not (lt least (inf false)) ⌝ }
+// Whether no delay and no warp is left: their heads are infinite then.
+fn are_over(delay_head: f32, warp_head: f32) -> bool
+    ensures { λ r. ⌜ r ≡ pick (lt «delay_head» (inf false)) false (pick (lt «warp_head» (inf false)) false true) ⌝ }
 {
-    if least < 1.0 / 0.0 {
+    if delay_head < 1.0 / 0.0 {
+        return false;
+    }
+    if warp_head < 1.0 / 0.0 {
         return false;
     }
     true
@@ -229,6 +233,22 @@ fn lay_sum(work: &mut [f32], at: usize, beat: f32, value: f32) -> usize
     at
 }
 
+// The stops from a place on, behind the `count` numbers that are laid; how many numbers are laid then.
+fn lay_rest(stops: &[f32], from: usize, work: &mut [f32], count: usize) -> usize
+    requires { ⌜ Numbers (now stops) × (length (now stops) % 2 ≡ 0) × (from % 2 ≡ 0) × (from ≤ length (now stops) + 1) ⌝ }
+    requires { ⌜ (count ≤ length (now work)) × (count + length (flat (merged (alone (now stops)) (atStop from))) ≤ length (now work)) ⌝ }
+    ensures { λ r. ⌜ r ≡ count + length (flat (merged (alone (now (stops .entry))) (atStop from))) ⌝ }
+    ensures { λ _. ⌜ now (work .exit) ≡ laid (take count (now (work .entry)) ++ flat (merged (alone (now (stops .entry))) (atStop from))) (now (work .entry)) ⌝ }
+{
+    let mut stop = from;
+    let mut at = count;
+    while stop < stops.len() {
+        at = lay_sum(work, at, stops[stop], 0.0 + stops[stop + 1]);
+        stop += 2;
+    }
+    at
+}
+
 fn lay_stops(
     tempo_beats: &[f32],
     tempo_values: &[f32],
@@ -255,10 +275,10 @@ fn lay_stops(
     let mut warp_beat = head_at(warp_beats, 0);
     let mut at: usize = 0;
     loop {
-        let beat = lesser_of(lesser_of(stop_beat, delay_beat), warp_beat);
-        if is_over(beat) {
-            return at;
+        if are_over(delay_beat, warp_beat) {
+            return lay_rest(stops, stop, work, at);
         }
+        let beat = lesser_of(lesser_of(stop_beat, delay_beat), warp_beat);
         let stopped = pass_stop(stops, stop, stop_beat, beat);
         let delayed = pass_delay(
             delay_beats,

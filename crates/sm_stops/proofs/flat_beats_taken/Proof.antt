@@ -1,5 +1,5 @@
 -- `sm_stops::flat_beats_taken` goes two by two, up to one that is not taken. Assumes nothing.
-use Prim.Native.Nat.{_+_, _-_}
+use Prim.Native.Nat.{_-_}
 use mathlib.Core.Path.{_≡_, refl, sym, ap, _∙_}
 use borrow.Author.Tests.{not-true, not-false}
 use lib.Ieee.{nan}

@@ -2,7 +2,6 @@
 use Rattle.picks.proofs.Rules.{flags}
 use mathlib.Core.Bool.{true}
 use mathlib.Core.Path.{_≡_, sym, _∙_}
-use lib.Dec.{ltb}
 use lib.ListN.{length}
 use borrow.Author.Tests.{le-ltb, not-true, not-false}
 use Rattle.sm_stops.specs.Filling.{flatNumber, isEven}

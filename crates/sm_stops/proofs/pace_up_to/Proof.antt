@@ -1,6 +1,6 @@
 -- `sm_stops::pace_up_to` moves the tempo forward where the next is due. Assumes nothing.
 use native.Mathlib.Omega.{arith}
-use mathlib.Core.Path.{refl, sym, ap, _∙_}
+use mathlib.Core.Path.{sym, ap, _∙_}
 use lib.Ieee.{Float, le, ofBits}
 use Rattle.sm_stops.proofs.TurnByTurn.{forward-le}
 use Rattle.sm_stops.proofs.HeadsInHand.{tempo-stays}
