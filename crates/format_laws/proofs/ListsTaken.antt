@@ -1,11 +1,9 @@
 -- Of raw lists that are taken, the processed ones are no longer than they may be, and are taken further on: stops by row tidying, made warps by their beats and lengths. Assumes nothing.
 use Prim.Native.Nat.{ℕ, _+_, _≤_, max}
-use mathlib.Core.Path.{_≡_, refl, sym, ap, _∙_}
+use mathlib.Core.Path.{_≡_, refl, _∙_}
 use mathlib.Core.Bool.{Bool, true, false}
 use mathlib.Core.List.{List, [], _∷_, map}
 use native.Mathlib.Omega.{arith}
-use native.Mathlib.Nat.{max-le}
-use lib.Dec.{eqb}
 use lib.ListN.{length, length-map}
 use lib.Ieee.{Float, le, lt, eq, neg}
 use borrow.Author.Tests.{ne-eqb}
@@ -20,14 +18,10 @@ use Rattle.limits.proofs.Every.{every-rest}
 use Rattle.limits.proofs.ListTaken.{list-taken}
 use Rattle.limits.proofs.TakenWithin.{within-taken}
 use Rattle.limits.proofs.TempoSizes.{tempo-at-most}
-use Rattle.order.specs.Order.{tidied}
 use Rattle.order.specs.Entries.{entries, first, second}
-use Rattle.order.proofs.Columns.{length-entries}
-use Rattle.order.proofs.TidiedList.{tidied-length}
 use Rattle.order.proofs.EachEntry.{each-so}
 use Rattle.columns.proofs.KeptLaid.{few-kept}
-use Rattle.tidy_tempos.specs.TempoTidying.{beatKeyOf, beatZero, sixty, fromZero, changesAfter, changes, tidyTempos}
-use Rattle.tidy_tempos.proofs.FromZero.{from-zero-length}
+use Rattle.tidy_tempos.specs.TempoTidying.{beatZero, sixty}
 use Rattle.raw_lists.specs.RawLists.{rawNumber, rawNumbers}
 use Rattle.raw_lists.proofs.BothTaken.{both-taken}
 use Rattle.process_ssc.specs.Ssc.{staysSsc, onRow, stayed}
@@ -44,6 +38,7 @@ use Rattle.sm_bounds.proofs.AssemblyTakes.{sm-stops-taken, sm-warps-taken}
 use Rattle.sm_laws.proofs.ChangesInOrder.{changeKey}
 use Rattle.assembled_rows.proofs.QuantizedTaken.{list-passes}
 use Rattle.sm_lent.specs.Sm.{written}
+use Rattle.process_sm.proofs.FewTidied.{entries-few, few-tidied}
 use Rattle.by_format.specs.declared.TimingFormat.{TimingFormat}
 use Rattle.by_format.specs.declared.TimingFormat.the-variants.{Sm, Ssc}
 use Rattle.by_format.specs.ByFormat.{Lists, noneGiven, tempoBeatsOf, tempoValuesOf, listsBy, processedLists}
@@ -58,35 +53,6 @@ pub record ListsTaken (tempoMost stopMost : ℕ) (lists : Lists) : Type 0 where
   pub onRows : map quantized (map first (lists .stops)) ≡ map first (lists .stops)
   pub warpBeats : allIn (rangeOf Beat) (map first (lists .warps)) ≡ true
   pub warpLengths : allIn (rangeOf Value) (map second (lists .warps)) ≡ true
-
--- ---- tidied tempos are no more than are given, or one
-
-fewer-changes : (value : Float) (list : List (Float × Float)) → length (changesAfter value list) ≤ length list
-unfolding changesAfter
-fewer-changes value [] = omega arith
-fewer-changes value (e ∷ list) = go (eq (e .1) value) (fewer-changes value list) (fewer-changes (e .1) list)
-  where
-    go : (t : Bool) → length (changesAfter value list) ≤ length list → length (changesAfter (e .1) list) ≤ length list → length (pick t (changesAfter value list) (e ∷ changesAfter (e .1) list)) ≤ length (e ∷ list)
-    go true h k = omega arith
-    go false h k = omega arith
-
-few-changed : (list : List (Float × Float)) → length (changes list) ≤ length list
-unfolding changes
-few-changed [] = omega arith
-few-changed (e ∷ list) = omega (arith, fewer-changes (e .1) list)
-
-entries-few : (beats values : List Float) → length (entries beats values) ≤ length beats
-unfolding entries
-entries-few [] values = omega arith
-entries-few (b ∷ beats) [] = omega arith
-entries-few (b ∷ beats) (v ∷ values) = omega (arith, entries-few beats values)
-
-pub few-tidied : (beats values : List Float) → length (tidyTempos beats values) ≤ max (length beats) 1
-unfolding tidyTempos
-few-tidied [] values = omega arith
-few-tidied (b ∷ beats) values =
-    let all = entries (b ∷ beats) values in
-    omega (arith, few-changed (fromZero (tidied beatKeyOf all)), from-zero-length (tidied beatKeyOf all), tidied-length beatKeyOf all, entries-few (b ∷ beats) values)
 
 -- ---- by format
 

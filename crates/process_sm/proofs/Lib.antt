@@ -1,2 +1,4 @@
 pub mod WorkRoom
 pub mod OneOutcome
+pub mod FewTidied
+pub mod WalkedIntoRooms

@@ -1,9 +1,157 @@
 // SM: the processing of raw tempos and stops.
 use raw_lists::Processed;
 ghost use mathlib.Core.Path.{_≡_};
-ghost use Prim.Native.Nat.{_≤_};
+ghost use mathlib.Core.Bool.{true};
+ghost use Prim.Native.Nat.{_≤_, _+_, _<_, _^_, max, min};
 ghost use lib.ListN.{length};
+ghost use Rattle.raw_lists.specs.RawLists.{rawNumbers};
 ghost use Rattle.process_sm.specs.Sm.{SmProcessed};
+ghost use Rattle.process_sm.specs.Inside.{Holds, ResultRooms};
+
+// ---- where every room holds the most that the lists come to: stops and warps are written into their rooms by the walk itself
+
+fn rooms_hold(
+    tempos: usize,
+    stops: usize,
+    tempo_room: usize,
+    stop_room: usize,
+    warp_room: usize,
+) -> bool
+    requires { ⌜ tempos + stops < 2 ^ 64 ⌝ }
+    ensures { λ r. ⌜ (r ≡ true → Holds tempos stops «tempo_room» «stop_room» «warp_room») ⌝ }
+{
+    if tempo_room < 1 {
+        return false;
+    }
+    if tempos > tempo_room {
+        return false;
+    }
+    if stops > stop_room {
+        return false;
+    }
+    tempos + stops <= warp_room
+}
+
+// By way of columns for the tempos that are still to be tidied.
+fn process_into(
+    tempo_beats: &[f64],
+    tempo_values: &[f64],
+    stop_beats: &[f64],
+    stop_values: &[f64],
+    walked_beats: &mut [f64],
+    walked_values: &mut [f64],
+    out_tempo_beats: &mut [f64],
+    out_tempo_values: &mut [f64],
+    out_stop_beats: &mut [f64],
+    out_stop_values: &mut [f64],
+    out_warp_beats: &mut [f64],
+    out_warp_lengths: &mut [f64],
+) -> Processed
+    requires { ⌜ ResultRooms (now «tempo_beats») (now «stop_beats») (now «out_tempo_beats») (now «out_tempo_values») (now «out_stop_beats») (now «out_stop_values») (now «out_warp_beats») (now «out_warp_lengths») ⌝ }
+    requires { ⌜ (rawNumbers (now «tempo_beats») (now «tempo_values») (now «stop_beats») (now «stop_values») ≡ 0 → max (length (now «tempo_beats»)) 1 ≤ min (length (now «walked_beats»)) (length (now «walked_values»))) ⌝ }
+    ensures { λ r. ⌜ SmProcessed (now («tempo_beats» .entry)) (now («tempo_values» .entry)) (now («stop_beats» .entry)) (now («stop_values» .entry)) r (now («out_tempo_beats» .entry)) (now («out_tempo_beats» .exit)) (now («out_tempo_values» .entry)) (now («out_tempo_values» .exit)) (now («out_stop_beats» .entry)) (now («out_stop_beats» .exit)) (now («out_stop_values» .entry)) (now («out_stop_values» .exit)) (now («out_warp_beats» .entry)) (now («out_warp_beats» .exit)) (now («out_warp_lengths» .entry)) (now («out_warp_lengths» .exit)) ⌝ }
+{
+    let walked = sm_raw::walk_raw(
+        tempo_beats,
+        tempo_values,
+        stop_beats,
+        stop_values,
+        walked_beats,
+        walked_values,
+        out_stop_beats,
+        out_stop_values,
+        out_warp_beats,
+        out_warp_lengths,
+    );
+    if walked.number != 0 {
+        return raw_lists::refused(walked.number);
+    }
+    let count = walked.tempos;
+    let tempos = tidy_tempos::tidy_bpms(
+        &walked_beats[..count],
+        &walked_values[..count],
+        out_tempo_beats,
+        out_tempo_values,
+    );
+    Processed {
+        number: limits::TAKEN,
+        tempos: tempos.count,
+        stops: walked.stops,
+        warps: walked.warps,
+        offset: std::num::f32_to_f64_with_nan(walked.offset),
+    }
+}
+
+// Columns for as many tempos as a chart has.
+fn into_few(
+    tempo_beats: &[f64],
+    tempo_values: &[f64],
+    stop_beats: &[f64],
+    stop_values: &[f64],
+    out_tempo_beats: &mut [f64],
+    out_tempo_values: &mut [f64],
+    out_stop_beats: &mut [f64],
+    out_stop_values: &mut [f64],
+    out_warp_beats: &mut [f64],
+    out_warp_lengths: &mut [f64],
+) -> Processed
+    requires { ⌜ length (now «tempo_beats») ≤ 64 ⌝ }
+    requires { ⌜ ResultRooms (now «tempo_beats») (now «stop_beats») (now «out_tempo_beats») (now «out_tempo_values») (now «out_stop_beats») (now «out_stop_values») (now «out_warp_beats») (now «out_warp_lengths») ⌝ }
+    ensures { λ r. ⌜ SmProcessed (now («tempo_beats» .entry)) (now («tempo_values» .entry)) (now («stop_beats» .entry)) (now («stop_values» .entry)) r (now («out_tempo_beats» .entry)) (now («out_tempo_beats» .exit)) (now («out_tempo_values» .entry)) (now («out_tempo_values» .exit)) (now («out_stop_beats» .entry)) (now («out_stop_beats» .exit)) (now («out_stop_values» .entry)) (now («out_stop_values» .exit)) (now («out_warp_beats» .entry)) (now («out_warp_beats» .exit)) (now («out_warp_lengths» .entry)) (now («out_warp_lengths» .exit)) ⌝ }
+{
+    let mut walked_beats = [0.0; 64];
+    let mut walked_values = [0.0; 64];
+    process_into(
+        tempo_beats,
+        tempo_values,
+        stop_beats,
+        stop_values,
+        &mut walked_beats,
+        &mut walked_values,
+        out_tempo_beats,
+        out_tempo_values,
+        out_stop_beats,
+        out_stop_values,
+        out_warp_beats,
+        out_warp_lengths,
+    )
+}
+
+// Columns for as many as are taken.
+fn into_many(
+    tempo_beats: &[f64],
+    tempo_values: &[f64],
+    stop_beats: &[f64],
+    stop_values: &[f64],
+    out_tempo_beats: &mut [f64],
+    out_tempo_values: &mut [f64],
+    out_stop_beats: &mut [f64],
+    out_stop_values: &mut [f64],
+    out_warp_beats: &mut [f64],
+    out_warp_lengths: &mut [f64],
+) -> Processed
+    requires { ⌜ ResultRooms (now «tempo_beats») (now «stop_beats») (now «out_tempo_beats») (now «out_tempo_values») (now «out_stop_beats») (now «out_stop_values») (now «out_warp_beats») (now «out_warp_lengths») ⌝ }
+    ensures { λ r. ⌜ SmProcessed (now («tempo_beats» .entry)) (now («tempo_values» .entry)) (now («stop_beats» .entry)) (now («stop_values» .entry)) r (now («out_tempo_beats» .entry)) (now («out_tempo_beats» .exit)) (now («out_tempo_values» .entry)) (now («out_tempo_values» .exit)) (now («out_stop_beats» .entry)) (now («out_stop_beats» .exit)) (now («out_stop_values» .entry)) (now («out_stop_values» .exit)) (now («out_warp_beats» .entry)) (now («out_warp_beats» .exit)) (now («out_warp_lengths» .entry)) (now («out_warp_lengths» .exit)) ⌝ }
+{
+    let mut walked_beats = [0.0; 1024];
+    let mut walked_values = [0.0; 1024];
+    process_into(
+        tempo_beats,
+        tempo_values,
+        stop_beats,
+        stop_values,
+        &mut walked_beats,
+        &mut walked_values,
+        out_tempo_beats,
+        out_tempo_values,
+        out_stop_beats,
+        out_stop_values,
+        out_warp_beats,
+        out_warp_lengths,
+    )
+}
+
+// ---- where a room may be too short: all three lists by way of work columns
 
 // Columns for as many tempos and stops as a chart has.
 fn process_few(
@@ -47,11 +195,7 @@ fn process_few(
     )
 }
 
-// ---- the call
-
-// Both lists as f32 changes in order by beat, walked, and the tempos that are written tidied. Counts and columns of the tempos, the stops and the
-// warps that are made, and what beat 0 is moved by.
-pub fn process_bpms_and_stops_sm(
+fn process_by_columns(
     tempo_beats: &[f64],
     tempo_values: &[f64],
     stop_beats: &[f64],
@@ -99,6 +243,76 @@ pub fn process_bpms_and_stops_sm(
         &mut walked_stop_values,
         &mut walked_warp_beats,
         &mut walked_warp_lengths,
+        out_tempo_beats,
+        out_tempo_values,
+        out_stop_beats,
+        out_stop_values,
+        out_warp_beats,
+        out_warp_lengths,
+    )
+}
+
+// ---- the call
+
+// Both lists as f32 changes in order by beat, walked, and the tempos that are written tidied. Counts and columns of the tempos, the stops and the
+// warps that are made, and what beat 0 is moved by.
+pub fn process_bpms_and_stops_sm(
+    tempo_beats: &[f64],
+    tempo_values: &[f64],
+    stop_beats: &[f64],
+    stop_values: &[f64],
+    out_tempo_beats: &mut [f64],
+    out_tempo_values: &mut [f64],
+    out_stop_beats: &mut [f64],
+    out_stop_values: &mut [f64],
+    out_warp_beats: &mut [f64],
+    out_warp_lengths: &mut [f64],
+) -> Processed
+    ensures { λ r. ⌜ SmProcessed (now («tempo_beats» .entry)) (now («tempo_values» .entry)) (now («stop_beats» .entry)) (now («stop_values» .entry)) r (now («out_tempo_beats» .entry)) (now («out_tempo_beats» .exit)) (now («out_tempo_values» .entry)) (now («out_tempo_values» .exit)) (now («out_stop_beats» .entry)) (now («out_stop_beats» .exit)) (now («out_stop_values» .entry)) (now («out_stop_values» .exit)) (now («out_warp_beats» .entry)) (now («out_warp_beats» .exit)) (now («out_warp_lengths» .entry)) (now («out_warp_lengths» .exit)) ⌝ }
+{
+    let tempo_room = columns::room_of(out_tempo_beats.len(), out_tempo_values.len());
+    let stop_room = columns::room_of(out_stop_beats.len(), out_stop_values.len());
+    let warp_room = columns::room_of(out_warp_beats.len(), out_warp_lengths.len());
+    let hold = rooms_hold(
+        tempo_beats.len(),
+        stop_beats.len(),
+        tempo_room,
+        stop_room,
+        warp_room,
+    );
+    if hold {
+        if tempo_beats.len() <= 64 {
+            return into_few(
+                tempo_beats,
+                tempo_values,
+                stop_beats,
+                stop_values,
+                out_tempo_beats,
+                out_tempo_values,
+                out_stop_beats,
+                out_stop_values,
+                out_warp_beats,
+                out_warp_lengths,
+            );
+        }
+        return into_many(
+            tempo_beats,
+            tempo_values,
+            stop_beats,
+            stop_values,
+            out_tempo_beats,
+            out_tempo_values,
+            out_stop_beats,
+            out_stop_values,
+            out_warp_beats,
+            out_warp_lengths,
+        );
+    }
+    process_by_columns(
+        tempo_beats,
+        tempo_values,
+        stop_beats,
+        stop_values,
         out_tempo_beats,
         out_tempo_values,
         out_stop_beats,

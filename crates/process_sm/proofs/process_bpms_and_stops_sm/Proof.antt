@@ -1,16 +1,26 @@
--- `process_sm::process_bpms_and_stops_sm` lends columns for as many as are taken, or for as many as a chart has. Assumes nothing.
-use native.Mathlib.Omega.{arith}
-use native.Mathlib.Nat.{max-le}
-use lib.ListN.{length}
-use Rattle.limits.proofs.ListTaken.{list-taken}
-use Rattle.raw_lists.proofs.BothTaken.{both-taken}
-use Rattle.process_sm.proofs.WorkRoom.{with-room}
+-- `process_sm::process_bpms_and_stops_sm` goes by whether every room holds the most that the lists come to. Assumes nothing.
+use Rattle.process_sm.specs.Inside.{ResultRooms}
 use borrow.Author.Needs.{needs}
 use Rattle.process_sm.proofs.process_bpms_and_stops_sm.Statement.{statement}
 use Rattle.process_sm.proofs.process_bpms_and_stops_sm.Tie as tie
 
-process-few-requires : tie.Need-process-few-requires
-process-few-requires c κs = search needs
+rooms : (c : tie.Then1) → ResultRooms (c .before .before .before .before .before .before .before .before .before .before .before .before .before .before .before .args .tempo-beats .now) (c .before .before .before .before .before .before .before .before .before .before .before .before .before .before .before .args .stop-beats .now) (c .before .before .before .before .before .before .before .before .before .before .before .before .before .before .before .args .out-tempo-beats .now) (c .before .before .before .before .before .before .before .before .before .before .before .before .before .before .before .args .out-tempo-values .now) (c .before .before .before .before .before .before .before .before .before .before .before .before .before .before .before .args .out-stop-beats .now) (c .before .before .before .before .before .before .before .before .before .before .before .before .before .before .before .args .out-stop-values .now) (c .before .before .before .before .before .before .before .before .before .before .before .before .before .before .before .args .out-warp-beats .now) (c .before .before .before .before .before .before .before .before .before .before .before .before .before .before .before .args .out-warp-lengths .now)
+rooms c = rw (c .before .before .before .before .room-of .ensures, c .before .before .before .room-of2 .ensures, c .before .before .room-of3 .ensures) at (c .before .rooms-hold .ensures (c .if1 .taken))
+
+room-of-requires : tie.Need-room-of-requires
+room-of-requires c κs = search needs
+
+room-of-requires-2 : tie.Need-room-of-requires-2
+room-of-requires-2 c κs = search needs
+
+room-of-requires-3 : tie.Need-room-of-requires-3
+room-of-requires-3 c κs = search needs
+
+rooms-hold-requires : tie.Need-rooms-hold-requires
+rooms-hold-requires c κs = search needs
+
+into-few-requires : tie.Need-into-few-requires
+into-few-requires c κs = (c .before .before .before .before .before .before .if2 .taken, rooms (c .before .before .before .before .before .before .before))
 
 same-length : tie.Need-same-length
 same-length c = search needs
@@ -33,26 +43,8 @@ same-length-6 c = search needs
 returns : tie.Need-returns
 returns c = search needs
 
-slice-aggregate-process-lent : tie.Need-slice-aggregate-process-lent
-slice-aggregate-process-lent c = search needs
-
-slice-aggregate-process-lent-2 : tie.Need-slice-aggregate-process-lent-2
-slice-aggregate-process-lent-2 c = search needs
-
-slice-aggregate-process-lent-3 : tie.Need-slice-aggregate-process-lent-3
-slice-aggregate-process-lent-3 c = search needs
-
-slice-aggregate-process-lent-4 : tie.Need-slice-aggregate-process-lent-4
-slice-aggregate-process-lent-4 c = search needs
-
-slice-aggregate-process-lent-5 : tie.Need-slice-aggregate-process-lent-5
-slice-aggregate-process-lent-5 c = search needs
-
-slice-aggregate-process-lent-6 : tie.Need-slice-aggregate-process-lent-6
-slice-aggregate-process-lent-6 c = search needs
-
-process-lent-requires : tie.Need-process-lent-requires
-process-lent-requires c κs = search needs
+into-many-requires : tie.Need-into-many-requires
+into-many-requires c κs = rooms (c .before .before .before .before .before .before .before)
 
 same-length-7 : tie.Need-same-length-7
 same-length-7 c = search needs
@@ -73,19 +65,41 @@ same-length-12 : tie.Need-same-length-12
 same-length-12 c = search needs
 
 returns-2 : tie.Need-returns-2
-returns-2 c =
-    with-room (c .before .before .before .before .before .before .before .before .before .before .before .before .before .before .before .before .before .before .process-lent .ensures)
-    (record {
-      tempos = λ h. max-le {a = length (c .before .before .before .before .before .before .before .before .before .before .before .before .before .before .before .before .before .before .before .before .before .before .before .before .before .before .before .before .before .before .before .before .before .before .before .before .before .before .before .before .before .before .args .tempo-beats .now)} {b = 1} {k = 1024} (list-taken (both-taken h .tempos) .few) (omega arith);
-      stops = λ h. list-taken (both-taken h .stops) .few;
-      warps = λ h. let t = list-taken (both-taken h .tempos) .few in let s = list-taken (both-taken h .stops) .few in omega arith;
-    })
+returns-2 c = search needs
+
+process-by-columns-requires : tie.Need-process-by-columns-requires
+process-by-columns-requires c κs = search needs
+
+same-length-13 : tie.Need-same-length-13
+same-length-13 c = search needs
+
+same-length-14 : tie.Need-same-length-14
+same-length-14 c = search needs
+
+same-length-15 : tie.Need-same-length-15
+same-length-15 c = search needs
+
+same-length-16 : tie.Need-same-length-16
+same-length-16 c = search needs
+
+same-length-17 : tie.Need-same-length-17
+same-length-17 c = search needs
+
+same-length-18 : tie.Need-same-length-18
+same-length-18 c = search needs
+
+returns-3 : tie.Need-returns-3
+returns-3 c = search needs
 
 pub process-bpms-and-stops-sm-spec : {M : Type 1} → statement M
 process-bpms-and-stops-sm-spec =
     tie.close
     (tie.spec
-    process-few-requires
+    room-of-requires
+    room-of-requires-2
+    room-of-requires-3
+    rooms-hold-requires
+    into-few-requires
     same-length
     same-length-2
     same-length-3
@@ -93,17 +107,19 @@ process-bpms-and-stops-sm-spec =
     same-length-5
     same-length-6
     returns
-    slice-aggregate-process-lent
-    slice-aggregate-process-lent-2
-    slice-aggregate-process-lent-3
-    slice-aggregate-process-lent-4
-    slice-aggregate-process-lent-5
-    slice-aggregate-process-lent-6
-    process-lent-requires
+    into-many-requires
     same-length-7
     same-length-8
     same-length-9
     same-length-10
     same-length-11
     same-length-12
-    returns-2)
+    returns-2
+    process-by-columns-requires
+    same-length-13
+    same-length-14
+    same-length-15
+    same-length-16
+    same-length-17
+    same-length-18
+    returns-3)
