@@ -81,15 +81,15 @@ int main(void) {
     const double beats[] = {2, 6, 12, 16, 17, 6};
     const double expected[] = {1, 2, 2, 4, 5.5, 2};
     for (size_t i = 0; i < sizeof beats / sizeof *beats; i++) {
-        marrighentu_answer answer = marrighentu_lent_time_for_beat_checked(&cursor, CLOCK_COLUMNS(t), beats[i]);
-        printf("beat %g at %g s, %zu steps\n", beats[i], answer.time, answer.count);
-        expect(answer.number == MARRIGHENTU_TAKEN && answer.time == expected[i], "the second of a beat");
-        expect(same_cursor(&answer.cursor, &cursor), "the cursor is stored");
+        marrighentu_reply reply = marrighentu_lent_time_for_beat_checked(&cursor, CLOCK_COLUMNS(t), beats[i]);
+        printf("beat %g at %g s, %zu steps\n", beats[i], reply.time, reply.count);
+        expect(reply.number == MARRIGHENTU_TAKEN && reply.time == expected[i], "the second of a beat");
+        expect(cursor.asked == (int32_t)beats[i] * 48, "the cursor is stored");
     }
 
     /* a refused question leaves the cursor as it was */
     marrighentu_cursor before = cursor;
-    marrighentu_answer refused = marrighentu_lent_time_for_beat(&cursor, CLOCK_COLUMNS(t), 65536.5);
+    marrighentu_reply refused = marrighentu_lent_time_for_beat(&cursor, CLOCK_COLUMNS(t), 65536.5);
     expect(refused.number == MARRIGHENTU_BAD_BEAT && refused.count == 0, "a beat beyond the limit");
     expect(same_cursor(&before, &cursor), "the cursor after a refusal");
 
@@ -98,8 +98,8 @@ int main(void) {
     uint32_t numbers[3];
     double times[3];
     size_t counts[3];
-    marrighentu_made ran = marrighentu_lent_run(&cursor, CLOCK_COLUMNS(t), asked, 3, numbers, 3, times, 3, counts, 3);
-    expect(ran.number == MARRIGHENTU_TAKEN && ran.cursor.asked == cursor.asked && cursor.asked == 17 * 48, "a run");
+    uint32_t ran = marrighentu_lent_run(&cursor, CLOCK_COLUMNS(t), asked, 3, numbers, 3, times, 3, counts, 3);
+    expect(ran == MARRIGHENTU_TAKEN && cursor.asked == 17 * 48, "a run");
     expect( numbers[0] == 0 && numbers[1] == MARRIGHENTU_BAD_BEAT && numbers[2] == 0, "a run's numbers");
     expect(times[0] == 0.0 && times[2] == 5.5 && counts[1] == 0, "a run's seconds");
 

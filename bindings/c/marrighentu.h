@@ -70,7 +70,14 @@ typedef struct {
     marrighentu_cursor cursor;
 } marrighentu_answer;
 
-/* A number and a cursor: of a new cursor, and of a run. */
+/* The same of a question whose cursor is lent: the cursor after it stands in its own place. */
+typedef struct {
+    uint32_t number;
+    double time;
+    size_t count;
+} marrighentu_reply;
+
+/* A number and a cursor: of a new cursor, and of a run by value. */
 typedef struct {
     uint32_t number;
     marrighentu_cursor cursor;
@@ -188,7 +195,7 @@ marrighentu_made marrighentu_cursor_new(
     double offset, double global_offset);
 
 /* At what second is this beat? Everything is tested: the timing, the beat, the cursor. The cursor is moved on; after a refusal it is as it was. */
-marrighentu_answer marrighentu_lent_time_for_beat(
+marrighentu_reply marrighentu_lent_time_for_beat(
     marrighentu_cursor *cursor,
     const float *tempo_beats, size_t tempo_beats_length,
     const float *tempo_values, size_t tempo_values_length,
@@ -204,7 +211,7 @@ marrighentu_answer marrighentu_lent_time_for_beat(
 /* The same for a timing that marrighentu_check_timing took and that has not changed since: only the beat and the cursor are tested, so that
  * the cost does not grow with the lists. This is the question for a player. Over other lists it still returns and does nothing undefined.
  */
-marrighentu_answer marrighentu_lent_time_for_beat_checked(
+marrighentu_reply marrighentu_lent_time_for_beat_checked(
     marrighentu_cursor *cursor,
     const float *tempo_beats, size_t tempo_beats_length,
     const float *tempo_values, size_t tempo_values_length,
@@ -219,8 +226,9 @@ marrighentu_answer marrighentu_lent_time_for_beat_checked(
 
 /* The second of each beat, with its number and count, in three columns; the timing and the cursor are tested once. A refused beat has number 3,
  * second 0 and count 0 and leaves the cursor as it was; the run itself is taken then. 7 where a column is shorter than the beats.
+ * The answer is the run's number; the cursor is moved on past the last beat.
  */
-marrighentu_made marrighentu_lent_run(
+uint32_t marrighentu_lent_run(
     marrighentu_cursor *cursor,
     const float *tempo_beats, size_t tempo_beats_length,
     const float *tempo_values, size_t tempo_values_length,
@@ -361,6 +369,7 @@ MARRIGHENTU_LAYOUT(offsetof(marrighentu_state, time) == 40 && offsetof(marrighen
 MARRIGHENTU_LAYOUT(sizeof(marrighentu_cursor) == 64 && offsetof(marrighentu_cursor, asked) == 56);
 MARRIGHENTU_LAYOUT(sizeof(marrighentu_answer) == 88 && offsetof(marrighentu_answer, time) == 8);
 MARRIGHENTU_LAYOUT(offsetof(marrighentu_answer, count) == 16 && offsetof(marrighentu_answer, cursor) == 24);
+MARRIGHENTU_LAYOUT(sizeof(marrighentu_reply) == 24 && offsetof(marrighentu_reply, time) == 8 && offsetof(marrighentu_reply, count) == 16);
 MARRIGHENTU_LAYOUT(sizeof(marrighentu_made) == 72 && offsetof(marrighentu_made, cursor) == 8);
 MARRIGHENTU_LAYOUT(sizeof(marrighentu_looked) == 8 && offsetof(marrighentu_looked, yes) == 4);
 MARRIGHENTU_LAYOUT(sizeof(marrighentu_outcome) == 16 && offsetof(marrighentu_outcome, count) == 8);

@@ -40,6 +40,15 @@ pub struct Answer {
     pub cursor: Cursor,
 }
 
+/// What a question to a lent cursor answers.
+#[derive(Clone, Copy, Debug)]
+#[repr(C)]
+pub struct Reply {
+    pub number: u32,
+    pub time: f64,
+    pub count: usize,
+}
+
 /// A number and a cursor: what a new cursor and a run answer.
 #[derive(Clone, Copy, Debug)]
 #[repr(C)]
@@ -75,9 +84,9 @@ port! {
     fn time_for_beat(cursor: Cursor; beat: f64) -> Answer = "marrighentu_time_for_beat";
     fn time_for_beat_checked(cursor: Cursor; beat: f64) -> Answer = "marrighentu_time_for_beat_checked";
     fn fresh_time_for_beat(; beat: f64) -> Answer = "marrighentu_get_time_for_beat";
-    fn lent_time_for_beat(cursor: &mut Cursor; beat: f64) -> Answer = "marrighentu_lent_time_for_beat";
-    fn lent_time_for_beat_checked(cursor: &mut Cursor; beat: f64) -> Answer = "marrighentu_lent_time_for_beat_checked";
-    fn lent_run_over(cursor: &mut Cursor; beats: *const f64, beats_len: usize, numbers: *mut u32, numbers_len: usize, times: *mut f64, times_len: usize, counts: *mut usize, counts_len: usize) -> Numbered = "marrighentu_lent_run";
+    fn lent_time_for_beat(cursor: &mut Cursor; beat: f64) -> Reply = "marrighentu_lent_time_for_beat";
+    fn lent_time_for_beat_checked(cursor: &mut Cursor; beat: f64) -> Reply = "marrighentu_lent_time_for_beat_checked";
+    fn lent_run_over(cursor: &mut Cursor; beats: *const f64, beats_len: usize, numbers: *mut u32, numbers_len: usize, times: *mut f64, times_len: usize, counts: *mut usize, counts_len: usize) -> u32 = "marrighentu_lent_run";
     fn run_over(cursor: Cursor; beats: *const f64, beats_len: usize, numbers: *mut u32, numbers_len: usize, times: *mut f64, times_len: usize, counts: *mut usize, counts_len: usize) -> Numbered = "marrighentu_run";
 }
 
@@ -91,7 +100,7 @@ pub struct Columns {
 
 /// A run over the front of each column, as long as its room.
 macro_rules! run_by {
-    ($name:ident, $cursor:ty, $over:ident) => {
+    ($name:ident, $cursor:ty, $over:ident, $answer:ty) => {
         #[inline(always)]
         pub fn $name(
             cursor: $cursor,
@@ -99,7 +108,7 @@ macro_rules! run_by {
             beats: &[f64],
             columns: &mut Columns,
             [numbers, times, counts]: [usize; 3],
-        ) -> Numbered {
+        ) -> $answer {
             let (numbers, times, counts) =
                 (&mut columns.numbers[..numbers], &mut columns.times[..times], &mut columns.counts[..counts]);
             $over(
@@ -118,8 +127,8 @@ macro_rules! run_by {
     };
 }
 
-run_by!(run, Cursor, run_over);
-run_by!(lent_run, &mut Cursor, lent_run_over);
+run_by!(run, Cursor, run_over, Numbered);
+run_by!(lent_run, &mut Cursor, lent_run_over, u32);
 
 pub fn cursor_new(offset: f64, global: f64) -> Numbered {
     unsafe extern "C" {
@@ -208,6 +217,13 @@ impl Cursor {
             _ => (),
         }
         cursor
+    }
+}
+
+impl Reply {
+    /// With the cursor that was lent, as it is after the question.
+    fn with(self, cursor: Cursor) -> Answer {
+        Answer { number: self.number, time: self.time, count: self.count, cursor }
     }
 }
 
@@ -386,18 +402,18 @@ impl Asked {
     fn question(&self, cursor: Cursor, beat: f64, found: &mut Found) -> Cursor {
         let chart = &self.chart;
         let wanted = self.answer(cursor, beat);
-        let mut check = |name: &str, got: Answer, after: Cursor| {
-            found.check(wanted.same(&got) && after.same(wanted.cursor), || {
-                format!("{chart:?}, {cursor:?}, beat {beat:?}: {wanted:?}, {name} {got:?} {after:?}")
+        let mut check = |name: &str, got: Answer| {
+            found.check(wanted.same(&got), || {
+                format!("{chart:?}, {cursor:?}, beat {beat:?}: {wanted:?}, {name} {got:?}")
             });
         };
         let mut lent = cursor;
-        check("port", time_for_beat(cursor, chart, beat), wanted.cursor);
-        check("lent", lent_time_for_beat(&mut lent, chart, beat), lent);
+        check("port", time_for_beat(cursor, chart, beat));
+        check("lent", lent_time_for_beat(&mut lent, chart, beat).with(lent));
         if self.number == 0 {
             let mut lent = cursor;
-            check("player's", time_for_beat_checked(cursor, chart, beat), wanted.cursor);
-            check("player's lent", lent_time_for_beat_checked(&mut lent, chart, beat), lent);
+            check("player's", time_for_beat_checked(cursor, chart, beat));
+            check("player's lent", lent_time_for_beat_checked(&mut lent, chart, beat).with(lent));
         }
         wanted.cursor
     }
@@ -409,12 +425,11 @@ impl Asked {
         let (mut by_value, mut by_lent, mut lent) = (wanted.clone(), wanted.clone(), cursor);
         let ran = self.expected_run(cursor, beats, rooms, &mut wanted);
         let answer = run(cursor, chart, beats, &mut by_value, rooms);
-        let lent_answer = lent_run(&mut lent, chart, beats, &mut by_lent, rooms);
-        for (answer, after, got) in [(answer, answer.cursor, by_value), (lent_answer, lent, by_lent)] {
-            let cursors = answer.cursor.same(ran.cursor) && after.same(ran.cursor);
-            found.check(answer.number == ran.number && cursors && got.same(&wanted), || {
+        let number = lent_run(&mut lent, chart, beats, &mut by_lent, rooms);
+        for (answer, got) in [(answer, by_value), (Numbered { number, cursor: lent }, by_lent)] {
+            found.check(answer.number == ran.number && answer.cursor.same(ran.cursor) && got.same(&wanted), || {
                 format!(
-                    "{chart:?}, {cursor:?}, beats {beats:?}, rooms {rooms:?}: {ran:?} {wanted:?}, port {answer:?} {after:?} {got:?}"
+                    "{chart:?}, {cursor:?}, beats {beats:?}, rooms {rooms:?}: {ran:?} {wanted:?}, port {answer:?} {got:?}"
                 )
             });
         }

@@ -65,7 +65,7 @@ impl<'timing> Cursor<'timing> {
     #[inline]
     pub fn ask(&mut self, beat: f64) -> Result<Answer, Refusal> {
         let t = self.timing;
-        let answer = ffi::time_for_beat_checked(
+        let reply = ffi::time_for_beat_checked(
             &mut self.at,
             &t.tempos,
             &t.stops,
@@ -75,7 +75,7 @@ impl<'timing> Cursor<'timing> {
             t.global,
             beat,
         );
-        taken(answer.number, Answer { time: answer.time, steps: answer.count })
+        taken(reply.number, Answer { time: reply.time, steps: reply.count })
     }
 
     /// Each beat of a list, in its order. A refused beat does not stop the ones after it.
@@ -85,7 +85,7 @@ impl<'timing> Cursor<'timing> {
         let mut numbers = vec![0; beats.len()];
         let mut times = vec![0.0; beats.len()];
         let mut counts = vec![0; beats.len()];
-        let ran = ffi::run(
+        let number = ffi::run(
             &mut self.at,
             &t.tempos,
             &t.stops,
@@ -98,7 +98,7 @@ impl<'timing> Cursor<'timing> {
             &mut times,
             &mut counts,
         );
-        if let Err(refusal) = taken(ran.number, ()) {
+        if let Err(refusal) = taken(number, ()) {
             return vec![Err(refusal); beats.len()];
         }
         numbers

@@ -23,16 +23,16 @@ pub struct Cursor {
     pub asked: i32,
 }
 
+/// What a question answers; the cursor after it stands in the place that was lent.
 #[derive(Clone, Copy, Debug)]
 #[repr(C)]
-pub struct Answer {
+pub struct Reply {
     pub number: u32,
     pub time: f64,
     pub count: usize,
-    pub cursor: Cursor,
 }
 
-/// A number and a cursor: what a new cursor and a run answer.
+/// A number and a cursor: what a new cursor answers.
 #[derive(Clone, Copy, Debug)]
 #[repr(C)]
 pub struct Numbered {
@@ -177,7 +177,7 @@ calls! {
         value offset: f64,
         value global: f64,
         value beat: f64,
-    ) -> Answer = "marrighentu_lent_time_for_beat_checked";
+    ) -> Reply = "marrighentu_lent_time_for_beat_checked";
     fn run(
         lent cursor: Cursor,
         list tempos: f32,
@@ -190,7 +190,7 @@ calls! {
         room numbers: u32,
         room times: f64,
         room counts: usize,
-    ) -> Numbered = "marrighentu_lent_run";
+    ) -> u32 = "marrighentu_lent_run";
     fn build_segment_row_storage(
         list stops: f32,
         list delays: f32,
@@ -241,8 +241,7 @@ const _: () = {
     assert!(offset_of!(State, warps) == 24 && offset_of!(State, row) == 32 && offset_of!(State, warping) == 36);
     assert!(offset_of!(State, time) == 40 && offset_of!(State, end) == 48);
     assert!(size_of::<Cursor>() == 64 && offset_of!(Cursor, asked) == 56);
-    assert!(size_of::<Answer>() == 88 && offset_of!(Answer, time) == 8 && offset_of!(Answer, count) == 16);
-    assert!(offset_of!(Answer, cursor) == 24);
+    assert!(size_of::<Reply>() == 24 && offset_of!(Reply, time) == 8 && offset_of!(Reply, count) == 16);
     assert!(size_of::<Numbered>() == 72 && offset_of!(Numbered, cursor) == 8);
     assert!(size_of::<Looked>() == 8 && offset_of!(Looked, yes) == 4);
     assert!(size_of::<Outcome>() == 16 && offset_of!(Outcome, count) == 8);

@@ -1,11 +1,18 @@
 // The clock over a cursor that its holder lends: it is copied out, asked, and what it has become is stored. For native programs too.
-use clock::Answer;
 use clock::Cursor;
-use clock_run::Ran;
 ghost use mathlib.Core.Path.{_≡_};
 ghost use Rattle.walk.specs.Events.{timing};
 ghost use Rattle.clock.specs.Question.{playerQuestion, question};
 ghost use Rattle.clock_run.specs.Run.{RunLaid};
+ghost use Rattle.lent_clock.specs.Reply.{replyOf};
+
+// A question's number, its time, and the events passed and one. The cursor for the next question is in the place that was lent.
+#[repr(C)]
+pub struct Reply {
+    pub number: u32,
+    pub time: f64,
+    pub count: usize,
+}
 
 // At what time is this beat? Everything is tested: the timing, its offsets, the beat, the cursor. After a refusal the cursor is as it was.
 #[no_mangle]
@@ -22,8 +29,8 @@ pub extern "C" fn marrighentu_lent_time_for_beat(
     offset: f64,
     global: f64,
     beat: f64,
-) -> Answer
-    ensures { λ r. ⌜ (r ≡ question (timing (now («tempo_beats» .entry)) (now («tempo_values» .entry)) (now («stop_beats» .entry)) (now («stop_values» .entry)) (now («delay_beats» .entry)) (now («delay_values» .entry)) (now («warp_beats» .entry)) (now («warp_lengths» .entry))) (now (cursor .entry)) offset global beat) × (now (cursor .exit) ≡ r .cursor) ⌝ }
+) -> Reply
+    ensures { λ r. ⌜ (r ≡ replyOf (question (timing (now («tempo_beats» .entry)) (now («tempo_values» .entry)) (now («stop_beats» .entry)) (now («stop_values» .entry)) (now («delay_beats» .entry)) (now («delay_values» .entry)) (now («warp_beats» .entry)) (now («warp_lengths» .entry))) (now (cursor .entry)) offset global beat)) × (now (cursor .exit) ≡ question (timing (now («tempo_beats» .entry)) (now («tempo_values» .entry)) (now («stop_beats» .entry)) (now («stop_values» .entry)) (now («delay_beats» .entry)) (now («delay_values» .entry)) (now («warp_beats» .entry)) (now («warp_lengths» .entry))) (now (cursor .entry)) offset global beat .cursor) ⌝ }
 {
     let answer = (*cursor).time_for_beat(
         tempo_beats,
@@ -39,7 +46,11 @@ pub extern "C" fn marrighentu_lent_time_for_beat(
         beat,
     );
     *cursor = answer.cursor;
-    answer
+    Reply {
+        number: answer.number,
+        time: answer.time,
+        count: answer.count,
+    }
 }
 
 // The player's question, for a timing that `timing_tests::check_timing` took and that has not changed since: the beat and the cursor are tested.
@@ -57,8 +68,8 @@ pub extern "C" fn marrighentu_lent_time_for_beat_checked(
     offset: f64,
     global: f64,
     beat: f64,
-) -> Answer
-    ensures { λ r. ⌜ (r ≡ playerQuestion (timing (now («tempo_beats» .entry)) (now («tempo_values» .entry)) (now («stop_beats» .entry)) (now («stop_values» .entry)) (now («delay_beats» .entry)) (now («delay_values» .entry)) (now («warp_beats» .entry)) (now («warp_lengths» .entry))) (now (cursor .entry)) offset global beat) × (now (cursor .exit) ≡ r .cursor) ⌝ }
+) -> Reply
+    ensures { λ r. ⌜ (r ≡ replyOf (playerQuestion (timing (now («tempo_beats» .entry)) (now («tempo_values» .entry)) (now («stop_beats» .entry)) (now («stop_values» .entry)) (now («delay_beats» .entry)) (now («delay_values» .entry)) (now («warp_beats» .entry)) (now («warp_lengths» .entry))) (now (cursor .entry)) offset global beat)) × (now (cursor .exit) ≡ playerQuestion (timing (now («tempo_beats» .entry)) (now («tempo_values» .entry)) (now («stop_beats» .entry)) (now («stop_values» .entry)) (now («delay_beats» .entry)) (now («delay_values» .entry)) (now («warp_beats» .entry)) (now («warp_lengths» .entry))) (now (cursor .entry)) offset global beat .cursor) ⌝ }
 {
     let answer = (*cursor).time_for_beat_checked(
         tempo_beats,
@@ -74,10 +85,14 @@ pub extern "C" fn marrighentu_lent_time_for_beat_checked(
         beat,
     );
     *cursor = answer.cursor;
-    answer
+    Reply {
+        number: answer.number,
+        time: answer.time,
+        count: answer.count,
+    }
 }
 
-// A run from the cursor on: for each beat its number, its time and its count, over the fronts of the three columns. After a refusal all is as it was.
+// A run from the cursor on: for each beat its number, its time and its count, over the fronts of the three columns. The answer is its number; after a refusal all is as it was.
 #[no_mangle]
 pub extern "C" fn marrighentu_lent_run(
     cursor: &mut Cursor,
@@ -95,8 +110,8 @@ pub extern "C" fn marrighentu_lent_run(
     numbers: &mut [u32],
     times: &mut [f64],
     counts: &mut [usize],
-) -> Ran
-    ensures { λ r. ⌜ (RunLaid (timing (now («tempo_beats» .entry)) (now («tempo_values» .entry)) (now («stop_beats» .entry)) (now («stop_values» .entry)) (now («delay_beats» .entry)) (now («delay_values» .entry)) (now («warp_beats» .entry)) (now («warp_lengths» .entry))) offset global (now (cursor .entry)) (now (beats .entry)) r (now (numbers .entry)) (now (numbers .exit)) (now (times .entry)) (now (times .exit)) (now (counts .entry)) (now (counts .exit))) × (now (cursor .exit) ≡ r .cursor) ⌝ }
+) -> u32
+    ensures { λ r. ⌜ RunLaid (timing (now («tempo_beats» .entry)) (now («tempo_values» .entry)) (now («stop_beats» .entry)) (now («stop_values» .entry)) (now («delay_beats» .entry)) (now («delay_values» .entry)) (now («warp_beats» .entry)) (now («warp_lengths» .entry))) offset global (now (cursor .entry)) (now (beats .entry)) (record { cursor = now (cursor .exit); number = r }) (now (numbers .entry)) (now (numbers .exit)) (now (times .entry)) (now (times .exit)) (now (counts .entry)) (now (counts .exit)) ⌝ }
 {
     let ran = clock_run::run(
         *cursor,
@@ -116,5 +131,5 @@ pub extern "C" fn marrighentu_lent_run(
         counts,
     );
     *cursor = ran.cursor;
-    ran
+    ran.number
 }

@@ -19,7 +19,7 @@ use contract.Monad.{Fun, fact}
 use contract.Running.{givenOf, tables, tablesOf}
 use types.Kit.{Given, ‵, raw, _⊛_, ⋆, some, later, _$_, _∵_, !, qed, by, move, drop, use1, use2, split, join, pick, rewrite, fsplit, fsplit3, fjoin, fjoin3, feqI, suffices, frame, await, done}
 use types.Run.{look, look-raw, init, forget, stop, hop, fld, from, load, of-opd, and-then, no-more, assigns, land, returns, enter, alloc1, alloc0, params1, pass1, pass0, free1, free0, store-raw}
-use types.Part.{whole, sub, look-in}
+use types.Part.{whole, sub, look-in, agg}
 use types.SemTy.{Body}
 use sound.WpLaws.{FmC, fmOf, WpFn-mono}
 use denote.RattleType.{RattleType, owns, Denots, Valss}
@@ -48,6 +48,10 @@ use Rattle.clock.specs.declared.Cursor.{Cursor}
 use Rattle.clock.specs.declared.Answer.{Answer}
 use Rattle.clock.proofs.Cursor as T
 use Rattle.clock.proofs.Cursor.Laws as T′
+use Rattle.lent_clock.specs.Reply.{replyOf}
+use Rattle.lent_clock.specs.declared.Reply.{Reply}
+use Rattle.lent_clock.proofs.Reply as N
+use Rattle.lent_clock.proofs.Reply.Laws as N′
 use Rattle.clock.proofs.Answer as U
 use Rattle.clock.proofs.Answer.Laws as U′
 use Rattle.clock.proofs.Cursor.time_for_beat as g
@@ -74,6 +78,9 @@ module _ {M : Type 1} (𝓤 : URA M) (H : Heap 𝓤) (A : Atoms 𝓤) (W : Given
 
   abbrev out : Answer → List Val
   out = LL.vals U.the-type U′.the-laws
+
+  abbrev told : Reply → List Val
+  told = LL.vals N.the-type N′.the-laws
 
   abbrev x : RefT Cursor × Denots (ShrSlice (named 1) κ1 f32 ∷ ShrSlice (named 2) κ2 f32 ∷ ShrSlice (named 3) κ3 f32 ∷ ShrSlice (named 4) κ4 f32 ∷ ShrSlice (named 5) κ5 f32 ∷ ShrSlice (named 6) κ6 f32 ∷ ShrSlice (named 7) κ7 f32 ∷ ShrSlice (named 8) κ8 f32 ∷ f64 ∷ f64 ∷ f64 ∷ [])
   x = (record { ptr = (b, o); name = γ; now = h }, (tb, (tv, (sb, (sv, (db, (dv, (wb, (wv, (offset, (global, (beat, tt))))))))))))
@@ -104,10 +111,10 @@ module _ {M : Type 1} (𝓤 : URA M) (H : Heap 𝓤) (A : Atoms 𝓤) (W : Given
   abbrev Said : Answer → Type 0
   Said r = r ≡ question (timing (now tb) (now tv) (now sb) (now sv) (now db) (now dv) (now wb) (now wv)) h offset global beat
 
-  exits : (r : Answer) → Said r → ent 𝓤 (⋆ 𝓤 H A (‵ (fobs γ (R .coded .code (r .cursor))) ∷ ‵ (fbor κ (Body (mem R) b o γ)) ∷ ‵ (flft κ q) ∷ ‵ (U.the-row .own r (out r)) ∷ (‵ (flft κ1 q1) ⊛ ‵ (flft κ2 q2) ⊛ ‵ (flft κ3 q3) ⊛ ‵ (flft κ4 q4) ⊛ ‵ (flft κ5 q5) ⊛ ‵ (flft κ6 q6) ⊛ ‵ (flft κ7 q7) ⊛ ‵ (flft κ8 q8) ⊛ ‵ ftrue) ∷ ‵ (Held (ftrue)) ∷ [])) (Post (only (out r)))
+  exits : (r : Answer) → Said r → ent 𝓤 (⋆ 𝓤 H A (‵ (fobs γ (R .coded .code (r .cursor))) ∷ ‵ (fbor κ (Body (mem R) b o γ)) ∷ ‵ (flft κ q) ∷ ‵ (N.the-row .own (replyOf r) (told (replyOf r))) ∷ (‵ (flft κ1 q1) ⊛ ‵ (flft κ2 q2) ⊛ ‵ (flft κ3 q3) ⊛ ‵ (flft κ4 q4) ⊛ ‵ (flft κ5 q5) ⊛ ‵ (flft κ6 q6) ⊛ ‵ (flft κ7 q7) ⊛ ‵ (flft κ8 q8) ⊛ ‵ ftrue) ∷ ‵ (Held (ftrue)) ∷ [])) (Post (only (told (replyOf r))))
   exits r e =
-      qed W (‵ (fobs γ (R .coded .code (r .cursor))) ∷ ‵ (fbor κ (Body (mem R) b o γ)) ∷ ‵ (flft κ q) ∷ ‵ (U.the-row .own r (out r)) ∷ (‵ (flft κ1 q1) ⊛ ‵ (flft κ2 q2) ⊛ ‵ (flft κ3 q3) ⊛ ‵ (flft κ4 q4) ⊛ ‵ (flft κ5 q5) ⊛ ‵ (flft κ6 q6) ⊛ ‵ (flft κ7 q7) ⊛ ‵ (flft κ8 q8) ⊛ ‵ ftrue) ∷ ‵ (Held (ftrue)) ∷ []) ∵
-      suffices ! _ (ends-at 𝓤 H A f.ended stayed (f.clauses 𝓤 H A at-mem run) W (((κ, (κ1, (κ2, (κ3, (κ4, (κ5, (κ6, (κ7, (κ8, tt))))))))), (q, (q1, (q2, (q3, (q4, (q5, (q6, (q7, (q8, tt))))))))), tt, x, at), tt) (only (out r)) r (r .cursor, (tt, (tt, (tt, (tt, (tt, (tt, (tt, (tt, (tt, (tt, (tt, tt)))))))))))) (tt, (tt, (tt, (tt, (tt, (tt, (tt, (tt, (tt, (tt, (tt, (tt, tt))))))))))))) $ says ! (e, refl) $
+      qed W (‵ (fobs γ (R .coded .code (r .cursor))) ∷ ‵ (fbor κ (Body (mem R) b o γ)) ∷ ‵ (flft κ q) ∷ ‵ (N.the-row .own (replyOf r) (told (replyOf r))) ∷ (‵ (flft κ1 q1) ⊛ ‵ (flft κ2 q2) ⊛ ‵ (flft κ3 q3) ⊛ ‵ (flft κ4 q4) ⊛ ‵ (flft κ5 q5) ⊛ ‵ (flft κ6 q6) ⊛ ‵ (flft κ7 q7) ⊛ ‵ (flft κ8 q8) ⊛ ‵ ftrue) ∷ ‵ (Held (ftrue)) ∷ []) ∵
+      suffices ! _ (ends-at 𝓤 H A f.ended stayed (f.clauses 𝓤 H A at-mem run) W (((κ, (κ1, (κ2, (κ3, (κ4, (κ5, (κ6, (κ7, (κ8, tt))))))))), (q, (q1, (q2, (q3, (q4, (q5, (q6, (q7, (q8, tt))))))))), tt, x, at), tt) (only (told (replyOf r))) (replyOf r) (r .cursor, (tt, (tt, (tt, (tt, (tt, (tt, (tt, (tt, (tt, (tt, (tt, tt)))))))))))) (tt, (tt, (tt, (tt, (tt, (tt, (tt, (tt, (tt, (tt, (tt, (tt, tt))))))))))))) $ says ! (ap replyOf e, ap (λ (a : Answer). a .cursor) e) $
       move ! (2 ∷ 4 ∷ []) $ join ! $ frame ! $ feqI ! (List Val) (vptr b o ∷ []) (vptr b o ∷ []) refl $ fjoin3 ! $ move ! (0 ∷ 2 ∷ []) $ fjoin ! $ frame ! $ done !
 
   module _ (C : Calls 𝓤 H) (Λ : Loops 𝓤 H) (fm : FmC 𝓤 H (W .laws) C) (known : Triple 𝓤 (C #g) (G 𝓤 H A at-mem run)) (room0 : length (tb .now) < 2 ^ 64) (room1 : length (tv .now) < 2 ^ 64) (room2 : length (sb .now) < 2 ^ 64) (room3 : length (sv .now) < 2 ^ 64) (room4 : length (db .now) < 2 ^ 64) (room5 : length (dv .now) < 2 ^ 64) (room6 : length (wb .now) < 2 ^ 64) (room7 : length (wv .now) < 2 ^ 64) (ok8 : fits binary64 offset ≡ true) (ok9 : fits binary64 global ≡ true) (ok10 : fits binary64 beat ≡ true) where
@@ -131,14 +138,14 @@ module _ {M : Type 1} (𝓤 : URA M) (H : Heap 𝓤) (A : Atoms 𝓤) (W : Given
         -- [what the answer owns; the tokens; what is kept; the cell; the old struct; the open borrow; obs; auth; the locals]
         peeks ! U.the-row (Is U.the-row) (shows 𝓤 H A U.the-row) r (v ∷ []) (λ is.
         let all = LL.owed U.the-type U′.the-laws r _ is in
-        let isv : Is U.the-row r (out r) = LL.owes U.the-type U′.the-laws r all in
+        let isv : Is N.the-row (replyOf r) (told (replyOf r)) = LL.owes N.the-type N′.the-laws (replyOf r) (all .0, (all .1 .0, (all .1 .1 .0, tt))) in
         let cur : Is R (r .cursor) (val (r .cursor)) = all .1 .1 .1 .0 in
         land ! (from ! (stop !)) (init ! 10 refl (LL.lawful U.the-type U′.the-laws 𝓤 H A W .typed r _ is .0)) $
         rewrite ! 10 (λ (u : Val). ‵ (fat fullShare U′.mir l13 0 u)) (ap only (LL.tells U.the-type U′.the-laws r _ is)) refl $
         assigns ! (of-opd ! (load ! (from ! (fld ! refl (stop !))) (look-in ! 10 (sub ! 3 refl (whole !))))) (from ! (hop ! (look ! 34 refl) (stop !))) (store-raw ! 3 refl (LL.lawful T.the-type T′.the-laws 𝓤 H A W .typed (r .cursor) _ cur .0)) $
-        assigns ! (of-opd ! (load ! (from ! (stop !)) (look ! 10 refl))) (from ! (stop !)) (init ! 36 refl (LL.lawful U.the-type U′.the-laws 𝓤 H A W .typed r _ isv .0)) $
+        assigns ! (agg ! (and-then ! (load ! (from ! (fld ! refl (stop !))) (look-in ! 10 (sub ! 0 refl (whole !)))) (and-then ! (load ! (from ! (fld ! refl (stop !))) (look-in ! 10 (sub ! 1 refl (whole !)))) (and-then ! (load ! (from ! (fld ! refl (stop !))) (look-in ! 10 (sub ! 2 refl (whole !)))) (no-more !))))) (from ! (stop !)) (init ! 36 refl (LL.lawful N.the-type N′.the-laws 𝓤 H A W .typed (replyOf r) _ isv .0)) $
         -- the answer and the struct are owned anew, and the borrow is closed
-        drop ! $ owned ! U.the-row (Is U.the-row) (LL.makes U.the-type U′.the-plain 𝓤 H A) r _ isv $ move ! (4 ∷ []) $ drop ! $ owned ! R (Is R) (LL.makes T.the-type T′.the-plain 𝓤 H A) (r .cursor) _ cur $
+        drop ! $ owned ! N.the-row (Is N.the-row) (LL.makes N.the-type N′.the-plain 𝓤 H A) (replyOf r) _ isv $ move ! (4 ∷ []) $ drop ! $ owned ! R (Is R) (LL.makes T.the-type T′.the-plain 𝓤 H A) (r .cursor) _ cur $
         move ! (4 ∷ 0 ∷ 5 ∷ 6 ∷ 7 ∷ []) $ closes ! tt R (r .cursor) (val (r .cursor)) b o $
         returns ! (look ! 34 refl) $ forget ! 6 refl $ forget ! 8 refl $ forget ! 10 refl $ forget ! 12 refl $ forget ! 14 refl $ forget ! 16 refl $ forget ! 18 refl $ forget ! 20 refl $ forget ! 22 refl $ forget ! 24 refl $ forget ! 26 refl $ forget ! 28 refl $ forget ! 30 refl $ forget ! 32 refl $ forget ! 34 refl $
         move ! (34 ∷ 35 ∷ []) $ free1 ! $ move ! (32 ∷ 33 ∷ []) $ free1 ! $ move ! (30 ∷ 31 ∷ []) $ free1 ! $ move ! (28 ∷ 29 ∷ []) $ free1 ! $ move ! (26 ∷ 27 ∷ []) $ free1 ! $ move ! (24 ∷ 25 ∷ []) $ free1 ! $ move ! (22 ∷ 23 ∷ []) $ free1 ! $ move ! (20 ∷ 21 ∷ []) $ free1 ! $ move ! (18 ∷ 19 ∷ []) $ free1 ! $ move ! (16 ∷ 17 ∷ []) $ free1 ! $ move ! (14 ∷ 15 ∷ []) $ free1 ! $ move ! (12 ∷ 13 ∷ []) $ free1 ! $ move ! (10 ∷ 11 ∷ []) $ free1 ! $ move ! (8 ∷ 9 ∷ []) $ free1 ! $ move ! (6 ∷ 7 ∷ []) $ free1 ! $ free0 ! $
