@@ -1,6 +1,6 @@
 -- The ends of the calls are their one outcome. Assumes nothing.
 use Prim.Native.Nat.{ℕ, _≤_, _<_, min}
-use mathlib.Core.Path.{_≡_, refl, sym, ap, _∙_}
+use mathlib.Core.Path.{_≡_, sym, ap, _∙_}
 use mathlib.Core.Bool.{true}
 use mathlib.Core.List.{List, map}
 use native.Mathlib.Omega.{arith}
@@ -11,7 +11,7 @@ use Rattle.rows.specs.Rows.{quantized}
 use Rattle.order.specs.Order.{laid}
 use Rattle.order.specs.Entries.{first}
 use Rattle.columns.specs.declared.Outcome.{Outcome}
-use Rattle.columns.specs.Laying.{roomNumber, refusedBy, given}
+use Rattle.columns.specs.Laying.{refusedBy, given}
 use Rattle.columns.proofs.Rooms.{number-taken}
 use Rattle.tidy_rows.specs.RowTidying.{rowKeyAt}
 use Rattle.keeping.specs.Keeping.{keptOf}
@@ -21,6 +21,7 @@ use Rattle.speeds.specs.LaidSpeeds.{ratioOf, delayOf, unitOf, leastOf, LaidSpee
 use Rattle.speeds.proofs.SpeedColumns.{many-speeds}
 use Rattle.speeds.proofs.Rooms.{refused-by-tests}
 use Rattle.tidy_speeds.specs.SpeedTidying.{speedListNumber, tidySpeeds, speedsNumber, SpeedsTidied}
+use Rattle.tidy_speeds.proofs.ListTaken.{speeds-taken}
 use Rattle.tidy_speeds.proofs.Outcomes.{ordered-number}
 use Rattle.limits.specs.Neighbours.{everyTwo, notAbove}
 use Rattle.assembled_rows.proofs.InRowOrder.{rows-never-fall}
@@ -28,7 +29,7 @@ use Rattle.assembled_rows.proofs.Outcomes.{number-as-tests, number-with-room, n
 use Rattle.assembled_scrolls.proofs.KeptNoLonger.{kept-few}
 use Rattle.assembled_speeds.specs.AssembledSpeeds.{narrowedSpeed, assembledSpeeds, assembledSpeedsNumber, SpeedsAssembled, speedsRoomNumber, narrowedSpeeds}
 use Rattle.assembled_speeds.proofs.NarrowedSpeeds.{front-of-result}
-use Rattle.assembled_speeds.proofs.QuantizedTaken.{speed-beats, speeds-pass}
+use Rattle.assembled_speeds.proofs.QuantizedTaken.{speeds-pass}
 
 -- ---- under a refusal any two results are the same
 pub speeds-same : {tests : ℕ} {one other : List SpeedEntry} {outcome : Outcome} {beatsOld beatsNew ratiosOld ratiosNew delaysOld delaysNew : List Float} {unitsOld unitsNew : List ℕ} → (tests ≡ 0 → one ≡ other)
@@ -113,7 +114,7 @@ module _ (beats ratios delays : List Float) (units : List ℕ) where
   pub taken-at-once : (room : ℕ) → speedListNumber beats ratios delays units ≡ 0 → everyTwo notAbove beats ≡ true → length beats ≤ room → 0 ≡ speedsRoomNumber beats ratios delays units room
   taken-at-once room h t l =
       number-taken (assembledSpeedsNumber beats ratios delays units) (length (assembledSpeeds beats ratios delays units)) room
-      (ordered-number (map quantized beats) ratios delays units (speeds-pass beats ratios delays units h) (rows-never-fall beats (speed-beats beats ratios delays units h) t)) (omega (arith, no-longer))
+      (ordered-number (map quantized beats) ratios delays units (speeds-pass beats ratios delays units h) (rows-never-fall beats (speeds-taken h .beatsIn) t)) (omega (arith, no-longer))
 
   -- ---- any other, in rooms of 1,024 at most
   pub answered : (room : ℕ) {n : ℕ} {outcome : Outcome} {beatsOld beatsNew ratiosOld ratiosNew delaysOld delaysNew : List Float} {unitsOld unitsNew : List ℕ}

@@ -31,6 +31,7 @@ use Rattle.speeds.proofs.SpeedColumns.{many-speeds}
 use Rattle.speed_order.specs.Apart.{ColumnsApart}
 use Rattle.speed_order.proofs.ColumnsLaid.{apart-kept}
 use Rattle.tidy_speeds.specs.SpeedTidying.{speedListNumber}
+use Rattle.tidy_speeds.proofs.ListTaken.{speeds-taken}
 use Rattle.tidy_speeds.proofs.Outcomes.{ordered-number, ordered-list}
 use Rattle.assembled_rows.proofs.QuantizedTaken.{quantized-beats-taken}
 use Rattle.assembled_rows.proofs.RisingRows.{quantized-on-row}
@@ -39,7 +40,7 @@ use Rattle.assembled_scrolls.proofs.RisingKeys.{rising-keys}
 use Rattle.assembled_scrolls.proofs.Untested.{both-apart}
 use Rattle.assembled_speeds.specs.AssembledSpeeds.{narrowedSpeed, assembledSpeeds, assembledSpeedsNumber, SpeedsAssembled, speedsRoomNumber, speedsLater, eachSpeed, sameLengths, speedsByThemselves, SpeedsUntested}
 use Rattle.assembled_speeds.proofs.NarrowedSpeeds.{least-within, beats-so, ratios-so, delays-so, units-so}
-use Rattle.assembled_speeds.proofs.QuantizedTaken.{speed-beats, few-speeds, even-speeds, speeds-pass}
+use Rattle.assembled_speeds.proofs.QuantizedTaken.{speeds-pass}
 use Rattle.assembled_speeds.proofs.Outcomes.{taken-at-once}
 
 -- ---- lengths
@@ -124,16 +125,16 @@ module _ (beats ratios delays : List Float) (units : List ℕ) where
   module _ (h : speedListNumber beats ratios delays units ≡ 0) where
     module _ (each : riseApart (map quantized beats) ratios ≡ true) where
       rows-rise : everyTwo rowRises (map quantized beats) ≡ true
-      rows-rise = rising-keys beats (speed-beats beats ratios delays units h) (both-apart (map quantized beats) ratios each .0)
+      rows-rise = rising-keys beats (speeds-taken h .beatsIn) (both-apart (map quantized beats) ratios each .0)
 
       all-apart : ColumnsApart (map quantized beats) ratios delays units
       all-apart =
-          let even = even-speeds beats ratios delays units h in
+          let taken = speeds-taken h in
           record {
-            ratiosEven = sym (length-map beats quantized ∙ even .0);
-            delaysEven = sym (length-map beats quantized ∙ even .1);
-            unitsEven = sym (length-map beats quantized ∙ even .2);
-            allowed = quantized-beats-taken beats (speed-beats beats ratios delays units h);
+            ratiosEven = sym (length-map beats quantized ∙ taken .ratiosEven);
+            delaysEven = sym (length-map beats quantized ∙ taken .delaysEven);
+            unitsEven = sym (length-map beats quantized ∙ taken .unitsEven);
+            allowed = quantized-beats-taken beats (speeds-taken h .beatsIn);
             rising = rows-rise;
             far = both-apart (map quantized beats) ratios each .1;
           }
@@ -146,14 +147,14 @@ module _ (beats ratios delays : List Float) (units : List ℕ) where
       apart-list =
           ap (map narrowedSpeed) (ordered-list (map quantized beats) ratios delays units (speeds-pass beats ratios delays units h) (rising-never-falls (map quantized beats) rows-rise)
           ∙ ap (map speedOnRow) (apart-kept (map quantized beats) ratios delays units all-apart))
-          ∙ each-on-its-row beats ratios delays units (speed-beats beats ratios delays units h)
+          ∙ each-on-its-row beats ratios delays units (speeds-taken h .beatsIn)
 
     module _ {outcome : Outcome} {beatsOld beatsNew ratiosOld ratiosNew delaysOld delaysNew : List Float} {unitsOld unitsNew : List ℕ} where
       choose : (each : Bool) → speedsByThemselves beats ratios delays units ≡ each
           → LaidSpeeds (pick each 0 (assembledSpeedsNumber beats ratios delays units)) (pick each (eachSpeed (map quantized beats) ratios delays units) (assembledSpeeds beats ratios delays units)) outcome beatsOld beatsNew ratiosOld ratiosNew delaysOld delaysNew unitsOld unitsNew
           → SpeedsAssembled beats ratios delays units outcome beatsOld beatsNew ratiosOld ratiosNew delaysOld delaysNew unitsOld unitsNew
       choose true e p =
-          let each = sym (by-themselves (even-speeds beats ratios delays units h) (few-speeds beats ratios delays units h)) ∙ e in
+          let each = let taken = speeds-taken h in sym (by-themselves (taken .ratiosEven, taken .delaysEven, taken .unitsEven) (taken .few)) ∙ e in
           rw (apart-number each, apart-list each) p
       choose false e p = p
 

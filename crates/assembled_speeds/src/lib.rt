@@ -1,22 +1,10 @@
 // Assembly of speeds: beats quantised, tidied, and written as f32, with the units.
 use columns::Outcome;
 ghost use mathlib.Core.Path.{_≡_};
-ghost use Prim.Native.Nat.{ℕ, _≤_};
+ghost use Prim.Native.Nat.{_≤_};
 ghost use lib.ListN.{length};
-ghost use Rattle.columns.specs.Each.{laidEach};
 ghost use Rattle.speeds.specs.LaidSpeeds.{LaidSpeeds};
 ghost use Rattle.assembled_speeds.specs.AssembledSpeeds.{SpeedsAssembled, speedsRoomNumber, speedsLater, narrowedSpeeds, sameLengths, eachSpeed, SpeedsUntested};
-
-fn copy_units(from: &[u8], to: &mut [u8])
-    ensures { λ _. ⌜ now (to .exit) ≡ laidEach (λ (unit : ℕ). unit) (now (from .entry)) (now (to .entry)) ⌝ }
-{
-    let n = columns::room_of(from.len(), to.len());
-    let mut i = 0;
-    while i < n {
-        to[i] = from[i];
-        i += 1;
-    }
-}
 
 // A result of four columns as f32: its first entries over the fronts of the rooms, or the number it was refused by, or 7 where the rooms are too short.
 fn lay_narrowed(
@@ -50,7 +38,7 @@ fn lay_narrowed(
     assembled_rows::narrow_column(&beats[..n], out_beats);
     assembled_rows::narrow_column(&ratios[..n], out_ratios);
     assembled_rows::narrow_column(&delays[..n], out_delays);
-    copy_units(&units[..n], out_units);
+    speeds::copy_units(&units[..n], out_units);
     Outcome {
         number: limits::TAKEN,
         count: n,
@@ -252,7 +240,7 @@ fn lay_each(
     assembled_rows::copy_column_f32(quantised, out_beats);
     assembled_rows::narrow_column(ratios, out_ratios);
     assembled_rows::narrow_column(delays, out_delays);
-    copy_units(units, out_units);
+    speeds::copy_units(units, out_units);
     Outcome {
         number: limits::TAKEN,
         count: count,

@@ -4,7 +4,7 @@ use speeds::Speed;
 ghost use mathlib.Core.Path.{_≡_};
 ghost use mathlib.Core.Bool.{true, false};
 ghost use mathlib.Core.List.{map};
-ghost use Prim.Native.Nat.{ℕ, _≤_, _<_};
+ghost use Prim.Native.Nat.{_≤_, _<_};
 ghost use lib.Dec.{ltb, leb};
 ghost use lib.ListN.{length, getD, set};
 ghost use lib.Ieee.{nan};
@@ -13,8 +13,6 @@ ghost use Rattle.tidy_rows.specs.RowTidying.{rowKeyAt, onRow};
 ghost use Rattle.keeping.specs.Passing.{comes, passed};
 ghost use Rattle.speeds.specs.Speed.{valueOf, nearSpeed, noSpeed, speedEntries, speedOnRow};
 ghost use Rattle.speeds.specs.LaidSpeeds.{leastOf, LaidRooms};
-ghost use Rattle.columns.specs.Each.{laidEach};
-ghost use Rattle.speed_order.specs.Apart.{ColumnsApart};
 ghost use Rattle.speed_order.specs.OrderedSpeeds.{waiting, unheld, keptSpeeds, OrderedTidied};
 
 // The speed written last, and the entry that waits to be written, if one does.
@@ -289,7 +287,8 @@ fn fits(beats: &[f64], ratios: &[f64], delays: &[f64], units: &[u8], n: usize, r
     count_kept(beats, ratios, delays, units, n) <= room
 }
 
-fn tidy_in_order(
+// The kept entries of a list in order, each on its row; 7 where they have no room. Columns are read as far as the shortest goes.
+pub fn tidy_ordered(
     beats: &[f64],
     ratios: &[f64],
     delays: &[f64],
@@ -345,105 +344,4 @@ fn tidy_in_order(
         number: limits::TAKEN,
         count: count,
     }
-}
-
-// ---- the most common case: allowed beats, and ratios apart, column by column
-
-fn columns_apart(beats: &[f64], ratios: &[f64], delays: &[f64], units: &[u8]) -> bool
-    ensures { λ r. ⌜ (r ≡ true → ColumnsApart (now (beats .entry)) (now (ratios .entry)) (now (delays .entry)) (now (units .entry))) ⌝ }
-{
-    if ratios.len() != beats.len() {
-        return false;
-    }
-    if delays.len() != beats.len() {
-        return false;
-    }
-    if units.len() != beats.len() {
-        return false;
-    }
-    if by_rows::rise(beats) {
-        return keeping::all_apart(ratios);
-    }
-    false
-}
-
-// `columns::copy` of units.
-fn copy_units(from: &[u8], to: &mut [u8])
-    ensures { λ _. ⌜ now (to .exit) ≡ laidEach (λ (x : ℕ). x) (now (from .entry)) (now (to .entry)) ⌝ }
-{
-    let n = columns::room_of(from.len(), to.len());
-    let mut i = 0;
-    while i < n {
-        to[i] = from[i];
-        i += 1;
-    }
-}
-
-fn lay_columns(
-    beats: &[f64],
-    ratios: &[f64],
-    delays: &[f64],
-    units: &[u8],
-    out_beats: &mut [f64],
-    out_ratios: &mut [f64],
-    out_delays: &mut [f64],
-    out_units: &mut [u8],
-)
-    requires { ⌜ ColumnsApart (now beats) (now ratios) (now delays) (now units) ⌝ }
-    requires { ⌜ length (now beats) ≤ leastOf (length (now «out_beats»)) (length (now «out_ratios»)) (length (now «out_delays»)) (length (now «out_units»)) ⌝ }
-    ensures { λ _. ⌜ LaidRooms (map speedOnRow (speedEntries (now (beats .entry)) (now (ratios .entry)) (now (delays .entry)) (now (units .entry)))) (now («out_beats» .entry)) (now («out_beats» .exit)) (now («out_ratios» .entry)) (now («out_ratios» .exit)) (now («out_delays» .entry)) (now («out_delays» .exit)) (now («out_units» .entry)) (now («out_units» .exit)) ⌝ }
-{
-    by_rows::lay_on_rows(beats, out_beats);
-    columns::copy(ratios, out_ratios);
-    columns::copy(delays, out_delays);
-    copy_units(units, out_units);
-}
-
-// The kept entries of a list in order, each on its row; 7 where they have no room. Columns are read as far as the shortest goes.
-pub fn tidy_ordered(
-    beats: &[f64],
-    ratios: &[f64],
-    delays: &[f64],
-    units: &[u8],
-    out_beats: &mut [f64],
-    out_ratios: &mut [f64],
-    out_delays: &mut [f64],
-    out_units: &mut [u8],
-) -> Outcome
-    ensures { λ r. ⌜ OrderedTidied (now (beats .entry)) (now (ratios .entry)) (now (delays .entry)) (now (units .entry)) r (now («out_beats» .entry)) (now («out_beats» .exit)) (now («out_ratios» .entry)) (now («out_ratios» .exit)) (now («out_delays» .entry)) (now («out_delays» .exit)) (now («out_units» .entry)) (now («out_units» .exit)) ⌝ }
-{
-    let room = speeds::least_of(
-        out_beats.len(),
-        out_ratios.len(),
-        out_delays.len(),
-        out_units.len(),
-    );
-    if beats.len() <= room {
-        if columns_apart(beats, ratios, delays, units) {
-            lay_columns(
-                beats,
-                ratios,
-                delays,
-                units,
-                out_beats,
-                out_ratios,
-                out_delays,
-                out_units,
-            );
-            return Outcome {
-                number: limits::TAKEN,
-                count: beats.len(),
-            };
-        }
-    }
-    tidy_in_order(
-        beats,
-        ratios,
-        delays,
-        units,
-        out_beats,
-        out_ratios,
-        out_delays,
-        out_units,
-    )
 }

@@ -1,9 +1,10 @@
-// What both ways of speed tidying share: a speed, nearness of speeds, the room of four columns, and a column of units with a part replaced.
+// What both ways of speed tidying share: a speed, nearness of speeds, the room of four columns, and a column of units, copied or with a part replaced.
 ghost use mathlib.Core.Path.{_≡_};
 ghost use mathlib.Core.List.{_∷_, _++_};
-ghost use Prim.Native.Nat.{_≤_, _<_};
+ghost use Prim.Native.Nat.{ℕ, _≤_, _<_};
 ghost use lib.ListN.{length, take, drop};
 ghost use Rattle.order.specs.Order.{laid};
+ghost use Rattle.columns.specs.Each.{laidEach};
 ghost use Rattle.keeping.specs.Changing.{splicedIn};
 ghost use Rattle.speeds.specs.Speed.{valueOf, nearSpeed};
 ghost use Rattle.speeds.specs.LaidSpeeds.{leastOf};
@@ -39,6 +40,18 @@ pub fn least_of(first: usize, second: usize, third: usize, fourth: usize) -> usi
 }
 
 // ---- a column of units with a part replaced, as `keeping` has it for numbers
+
+// `columns::copy` of units.
+pub fn copy_units(from: &[u8], to: &mut [u8])
+    ensures { λ _. ⌜ now (to .exit) ≡ laidEach (λ (x : ℕ). x) (now (from .entry)) (now (to .entry)) ⌝ }
+{
+    let n = columns::room_of(from.len(), to.len());
+    let mut i = 0;
+    while i < n {
+        to[i] = from[i];
+        i += 1;
+    }
+}
 
 // A unit at a place of the first n, those behind it one place on.
 fn open_place(column: &mut [u8], n: usize, at: usize, x: u8)

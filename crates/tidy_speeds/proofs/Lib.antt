@@ -1,1 +1,3 @@
+pub mod ListTaken
 pub mod Outcomes
+pub mod Rising

@@ -1,30 +1,29 @@
 -- What the call is to answer and to lay, by the way that a list goes. Assumes nothing.
-use Prim.Native.Nat.{ℕ, _≤_, min}
-use mathlib.Core.Path.{_≡_, refl, sym, ap, _∙_}
+use Prim.Native.Nat.{ℕ, _≤_}
+use mathlib.Core.Path.{_≡_, ap, _∙_}
 use mathlib.Core.Bool.{Bool, true, false}
 use mathlib.Core.List.{List, [], map}
 use native.Mathlib.Omega.{arith}
 use lib.Dec.{ltb, eqb}
 use lib.ListN.{length}
 use lib.Ieee.{Float}
-use borrow.Author.Tests.{ltb-false, eqb-true}
 use Rattle.picks.specs.Pick.{pick}
 use Rattle.limits.specs.declared.Kind.the-variants.{Beat, Value}
 use Rattle.limits.specs.Numbers.{rangeOf, allIn, unitsIn}
 use Rattle.order.specs.Order.{run, neverFalls}
 use Rattle.columns.specs.Laying.{refusedBy}
 use Rattle.tidy_rows.specs.RowTidying.{rowKeyAt}
-use Rattle.keeping.specs.Keeping.{rowOf, placed, keptOf}
+use Rattle.keeping.specs.Keeping.{rowOf, placed}
 use Rattle.keeping.specs.Placing.{placingNumber}
 use Rattle.keeping.proofs.Answered as answered
 use Rattle.keeping.proofs.ColumnsPlaced.{never-falls-entries}
 use Rattle.speeds.specs.Speed.{SpeedEntry, nearSpeed, speedValues, speedEntries, speedOnRow}
-use Rattle.speeds.specs.LaidSpeeds.{leastOf}
 use Rattle.speeds.proofs.SpeedColumns.{many-values, many-speeds}
 use Rattle.speeds.proofs.Rooms.{refused-by-tests}
 use Rattle.speed_order.specs.OrderedSpeeds.{keptSpeeds}
 use Rattle.speed_order.proofs.KeptInOnePass.{kept-in-order}
 use Rattle.tidy_speeds.specs.SpeedTidying.{valuesNumber, speedListNumber, tidySpeeds, speedsNumber, SpeedsTidied}
+use Rattle.tidy_speeds.proofs.ListTaken.{speeds-taken}
 
 -- what the tests of a list answer, test by test
 abbrev answer : (long long′ long″ long‴ even even′ even″ beats ratios delays units : Bool) → ℕ
@@ -39,17 +38,6 @@ answer-few : (long long′ long″ long‴ even even′ even″ beats ratios del
 answer-few long long′ long″ long‴ even even′ even″ beats ratios delays units =
     pick-few long 1 _ (omega arith) (pick-few long′ 1 _ (omega arith) (pick-few long″ 1 _ (omega arith) (pick-few long‴ 1 _ (omega arith)
     (pick-few even _ 2 (pick-few even′ _ 2 (pick-few even″ _ 2 (pick-few beats _ 3 (pick-few ratios _ 4 (pick-few delays _ 4 (pick-few units 0 4 (omega arith) (omega arith)) (omega arith)) (omega arith)) (omega arith)) (omega arith)) (omega arith)) (omega arith)))))
-
-taken-so : (long long′ long″ long‴ even even′ even″ beats ratios delays units : Bool) → answer long long′ long″ long‴ even even′ even″ beats ratios delays units ≡ 0
-    → (long ≡ false) × (even ≡ true) × (even′ ≡ true) × (even″ ≡ true)
-taken-so false false false false true true true beats ratios delays units h = (refl, refl, refl, refl)
-taken-so true long′ long″ long‴ even even′ even″ beats ratios delays units h = absurd (omega arith)
-taken-so false true long″ long‴ even even′ even″ beats ratios delays units h = absurd (omega arith)
-taken-so false false true long‴ even even′ even″ beats ratios delays units h = absurd (omega arith)
-taken-so false false false true even even′ even″ beats ratios delays units h = absurd (omega arith)
-taken-so false false false false false even′ even″ beats ratios delays units h = absurd (omega arith)
-taken-so false false false false true false even″ beats ratios delays units h = absurd (omega arith)
-taken-so false false false false true true false beats ratios delays units h = absurd (omega arith)
 
 module _ (beats ratios delays : List Float) (units : List ℕ) where
   abbrev es : List SpeedEntry
@@ -72,18 +60,11 @@ module _ (beats ratios delays : List Float) (units : List ℕ) where
       rw (answered.tests-first rowKeyAt nearSpeed es tests h tests-few) (refused-by-tests tests (tidySpeeds beats ratios delays units) beatsOld ratiosOld delaysOld unitsOld h)
 
   module _ (none : tests ≡ 0) where
-    told : (ltb 1024 (length beats) ≡ false) × (eqb (length beats) (length ratios) ≡ true) × (eqb (length beats) (length delays) ≡ true) × (eqb (length beats) (length units) ≡ true)
-    unfolding speedListNumber valuesNumber
-    told =
-        taken-so (ltb 1024 (length beats)) (ltb 1024 (length ratios)) (ltb 1024 (length delays)) (ltb 1024 (length units)) (eqb (length beats) (length ratios)) (eqb (length beats) (length delays)) (eqb (length beats) (length units))
-        (allIn (rangeOf Beat) beats) (allIn (rangeOf Value) ratios) (allIn (rangeOf Value) delays) (unitsIn units) none
-
     even : length beats ≡ length (speedValues ratios delays units)
-    even =
-        omega (arith, many-values ratios delays units, eqb-true (length beats) (length ratios) (told .1), eqb-true (length beats) (length delays) (told .2), eqb-true (length beats) (length units) (told .3))
+    even = let taken = speeds-taken none in omega (arith, many-values ratios delays units, taken .ratiosEven, taken .delaysEven, taken .unitsEven)
 
     few : length es ≤ 1024
-    few = omega (arith, many-speeds ratios delays units beats, ltb-false 1024 (length beats) (told .0))
+    few = omega (arith, many-speeds ratios delays units beats, speeds-taken none .few)
 
     rows-so : neverFalls (rowOf rowKeyAt nearSpeed) es ≡ neverFalls rowKeyAt beats
     rows-so = never-falls-entries rowKeyAt nearSpeed beats (speedValues ratios delays units) even

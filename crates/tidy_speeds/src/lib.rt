@@ -2,8 +2,15 @@
 use columns::Outcome;
 use limits::Kind;
 ghost use mathlib.Core.Path.{_≡_};
-ghost use Rattle.order.specs.Order.{neverFalls};
-ghost use Rattle.tidy_rows.specs.RowTidying.{rowKeyAt};
+ghost use mathlib.Core.Bool.{true};
+ghost use mathlib.Core.List.{map};
+ghost use Prim.Native.Nat.{_≤_};
+ghost use lib.ListN.{length};
+ghost use Rattle.limits.specs.Neighbours.{everyTwo};
+ghost use Rattle.by_rows.specs.ByMarks.{rowRises};
+ghost use Rattle.speeds.specs.Speed.{speedEntries, speedOnRow};
+ghost use Rattle.speeds.specs.LaidSpeeds.{leastOf, LaidRooms};
+ghost use Rattle.speed_order.specs.Apart.{ColumnsApart};
 ghost use Rattle.tidy_speeds.specs.SpeedTidying.{valuesNumber, speedListNumber, SpeedsTidied};
 
 fn values_number(ratios: &[f64], delays: &[f64], units: &[u8]) -> u32
@@ -52,15 +59,78 @@ pub fn speed_list_number(beats: &[f64], ratios: &[f64], delays: &[f64], units: &
     values_number(ratios, delays, units)
 }
 
-// Whether no row is below the one before it: rows that rise are seen at a glance.
-fn in_row_order(beats: &[f64]) -> bool
-    ensures { λ r. ⌜ r ≡ neverFalls rowKeyAt (now (beats .entry)) ⌝ }
+// ---- the common case: rows that rise, and no ratio near the one before it, column by column
+
+fn lay_columns(
+    beats: &[f64],
+    ratios: &[f64],
+    delays: &[f64],
+    units: &[u8],
+    out_beats: &mut [f64],
+    out_ratios: &mut [f64],
+    out_delays: &mut [f64],
+    out_units: &mut [u8],
+)
+    requires { ⌜ ColumnsApart (now beats) (now ratios) (now delays) (now units) ⌝ }
+    requires { ⌜ length (now beats) ≤ leastOf (length (now «out_beats»)) (length (now «out_ratios»)) (length (now «out_delays»)) (length (now «out_units»)) ⌝ }
+    ensures { λ _. ⌜ LaidRooms (map speedOnRow (speedEntries (now (beats .entry)) (now (ratios .entry)) (now (delays .entry)) (now (units .entry)))) (now («out_beats» .entry)) (now («out_beats» .exit)) (now («out_ratios» .entry)) (now («out_ratios» .exit)) (now («out_delays» .entry)) (now («out_delays» .exit)) (now («out_units» .entry)) (now («out_units» .exit)) ⌝ }
 {
-    if by_rows::rise(beats) {
-        return true;
-    }
-    by_rows::in_order(beats)
+    by_rows::lay_on_rows(beats, out_beats);
+    columns::copy(ratios, out_ratios);
+    columns::copy(delays, out_delays);
+    speeds::copy_units(units, out_units);
 }
+
+fn tidy_rising(
+    beats: &[f64],
+    ratios: &[f64],
+    delays: &[f64],
+    units: &[u8],
+    out_beats: &mut [f64],
+    out_ratios: &mut [f64],
+    out_delays: &mut [f64],
+    out_units: &mut [u8],
+) -> Outcome
+    requires { ⌜ (speedListNumber (now beats) (now ratios) (now delays) (now units) ≡ 0) × (everyTwo rowRises (now beats) ≡ true) ⌝ }
+    ensures { λ r. ⌜ SpeedsTidied (now (beats .entry)) (now (ratios .entry)) (now (delays .entry)) (now (units .entry)) r (now («out_beats» .entry)) (now («out_beats» .exit)) (now («out_ratios» .entry)) (now («out_ratios» .exit)) (now («out_delays» .entry)) (now («out_delays» .exit)) (now («out_units» .entry)) (now («out_units» .exit)) ⌝ }
+{
+    let room = speeds::least_of(
+        out_beats.len(),
+        out_ratios.len(),
+        out_delays.len(),
+        out_units.len(),
+    );
+    if beats.len() <= room {
+        if keeping::all_apart(ratios) {
+            lay_columns(
+                beats,
+                ratios,
+                delays,
+                units,
+                out_beats,
+                out_ratios,
+                out_delays,
+                out_units,
+            );
+            return Outcome {
+                number: limits::TAKEN,
+                count: beats.len(),
+            };
+        }
+    }
+    speed_order::tidy_ordered(
+        beats,
+        ratios,
+        delays,
+        units,
+        out_beats,
+        out_ratios,
+        out_delays,
+        out_units,
+    )
+}
+
+// ---- the call
 
 pub fn tidy_speed_segments(
     beats: &[f64],
@@ -78,7 +148,19 @@ pub fn tidy_speed_segments(
     if number != 0 {
         return columns::refused(number);
     }
-    if in_row_order(beats) {
+    if by_rows::rise(beats) {
+        return tidy_rising(
+            beats,
+            ratios,
+            delays,
+            units,
+            out_beats,
+            out_ratios,
+            out_delays,
+            out_units,
+        );
+    }
+    if by_rows::in_order(beats) {
         return speed_order::tidy_ordered(
             beats,
             ratios,

@@ -1,13 +1,12 @@
--- `speed_order::tidy_ordered` lays columns that are apart, and else goes the longer way. Assumes nothing.
-use Prim.Native.Nat.{_≤_}
-use mathlib.Core.Path.{_≡_, sym, ap, _∙_}
+-- `speed_order::tidy_ordered` lays every entry where it can, refuses for want of room, or lays what is kept. Assumes nothing.
+use mathlib.Core.Path.{sym, ap, _∙_}
 use native.Mathlib.Omega.{arith}
 use lib.ListN.{length}
+use borrow.Author.Tests.{not-true, not-false, leb-true, leb-false}
 use Rattle.speeds.specs.Speed.{speedEntries}
 use Rattle.speeds.proofs.SpeedColumns.{many-speeds}
 use Rattle.speed_order.specs.OrderedSpeeds.{keptSpeeds}
-use Rattle.speed_order.proofs.ColumnsLaid.{apart-kept}
-use Rattle.speed_order.proofs.KeptInOnePass.{ordered-laid}
+use Rattle.speed_order.proofs.KeptInOnePass.{ordered-refused, ordered-laid}
 use borrow.Author.Needs.{needs}
 use Rattle.speed_order.proofs.tidy_ordered.Statement.{statement}
 use Rattle.speed_order.proofs.tidy_ordered.Tie as tie
@@ -15,11 +14,14 @@ use Rattle.speed_order.proofs.tidy_ordered.Tie as tie
 least-of-requires : tie.Need-least-of-requires
 least-of-requires c κs = search needs
 
-columns-apart-requires : tie.Need-columns-apart-requires
-columns-apart-requires c κs = search needs
+least-of-requires-2 : tie.Need-least-of-requires-2
+least-of-requires-2 c κs = search needs
 
-lay-columns-requires : tie.Need-lay-columns-requires
-lay-columns-requires c κs = (c .before .before .before .before .before .columns-apart .ensures (c .before .before .before .before .if2 .taken), omega (arith, c .before .before .before .before .before .before .if1 .taken, c .before .before .before .before .before .before .before .least-of .ensures))
+all-kept-requires : tie.Need-all-kept-requires
+all-kept-requires c κs = c .before .before .least-of .ensures
+
+lay-all-requires : tie.Need-lay-all-requires
+lay-all-requires c κs = (c .before .before .before .before .before .before .before .before .least-of .ensures, omega (arith, c .before .before .before .before .before .before .if1 .taken, c .before .before .before .before .before .before .before .least-of2 .ensures))
 
 same-length : tie.Need-same-length
 same-length c = search needs
@@ -35,19 +37,28 @@ same-length-4 c = search needs
 
 returns : tie.Need-returns
 returns c =
-    let s = c .before .before .before .before .before .before .before .before .before .before .before .before .before .before .before .before .before .before .before .before .before .before .before .before .before in
-    let beats = s .args .beats .now in
-    let ratios = s .args .ratios .now in
-    let delays = s .args .delays .now in
-    let units = s .args .units .now in
-    let list = speedEntries beats ratios delays units in
-    let apart = c .before .before .before .before .before .before .before .before .before .before .before .before .before .before .columns-apart .ensures (c .before .before .before .before .before .before .before .before .before .before .before .before .before .if2 .taken) in
-    let kept = apart-kept beats ratios delays units apart in
-    let many : length (keptSpeeds list) ≡ length beats = omega (arith, ap length kept, many-speeds ratios delays units beats, apart .ratiosEven, apart .delaysEven, apart .unitsEven) in
-    ordered-laid list (s .args .out-beats .now) (s .args .out-ratios .now) (s .args .out-delays .now) (s .args .out-units .now) _ _ _ _ _ (omega (arith, many, c .before .before .before .before .before .before .before .before .before .before .before .before .before .before .before .if1 .taken, c .before .before .before .before .before .before .before .before .before .before .before .before .before .before .before .before .least-of .ensures)) (omega (arith, many)) (rw kept (c .before .before .before .before .before .before .before .before .lay-columns .ensures))
+    let g = c .before .before .before .before .before .before .before .before .before .before .before .before .before .before .before .before .before .before .before .before .before .before .before .before .before .before in
+    let es = speedEntries (g .args .beats .now) (g .args .ratios .now) (g .args .delays .now) (g .args .units .now) in
+    let kept = c .before .before .before .before .before .before .before .before .before .before .before .before .before .before .all-kept .ensures (c .before .before .before .before .before .before .before .before .before .before .before .before .before .if2 .taken) in
+    ordered-laid es (g .args .out-beats .now) (g .args .out-ratios .now) (g .args .out-delays .now) (g .args .out-units .now) _ _ _ _ _ (omega (arith, ap length kept, many-speeds (g .args .ratios .now) (g .args .delays .now) (g .args .units .now) (g .args .beats .now), c .before .before .before .before .before .before .before .before .before .before .before .before .before .before .before .before .before .least-of .ensures, c .before .before .before .before .before .before .before .before .before .before .before .before .before .before .before .before .least-of2 .ensures, c .before .before .before .before .before .before .before .before .before .before .before .before .before .before .before .if1 .taken)) (omega (arith, ap length kept, many-speeds (g .args .ratios .now) (g .args .delays .now) (g .args .units .now) (g .args .beats .now), c .before .before .before .before .before .before .before .before .before .before .before .before .before .before .before .before .before .least-of .ensures)) (rw kept (c .before .before .before .before .before .before .before .before .lay-all .ensures))
 
-tidy-in-order-requires : tie.Need-tidy-in-order-requires
-tidy-in-order-requires c κs = search needs
+fits-requires : tie.Need-fits-requires
+fits-requires c κs = c .before .before .least-of .ensures
+
+refused-requires : tie.Need-refused-requires
+refused-requires c κs = search needs
+
+returns-2 : tie.Need-returns-2
+returns-2 c =
+    let g = c .before .before .before .before .before .before .before .before .before .before .before .before .before .before in
+    let es = speedEntries (g .args .beats .now) (g .args .ratios .now) (g .args .delays .now) (g .args .units .now) in
+    rw (c .refused .ensures) (ordered-refused es (g .args .out-beats .now) (g .args .out-ratios .now) (g .args .out-delays .now) (g .args .out-units .now) (omega (arith, leb-false (length (keptSpeeds es)) (c .before .before .before .before .least-of2 .result) (sym (c .before .before .fits2 .ensures) ∙ not-true _ (c .before .if3 .taken)), c .before .before .before .before .least-of2 .ensures)))
+
+lay-kept-requires : tie.Need-lay-kept-requires
+lay-kept-requires c κs =
+    let g = c .before .before .before .before .before .before .before .before .before .before .before .before .before .before .before .before .before in
+    let es = speedEntries (g .args .beats .now) (g .args .ratios .now) (g .args .delays .now) (g .args .units .now) in
+    (c .before .before .before .before .before .before .before .before .least-of .ensures, omega (arith, leb-true (length (keptSpeeds es)) (c .before .before .before .before .before .before .before .least-of2 .result) (sym (c .before .before .before .before .before .fits2 .ensures) ∙ not-false _ (c .before .before .before .before .if3 .left)), c .before .before .before .before .before .before .before .least-of2 .ensures))
 
 same-length-5 : tie.Need-same-length-5
 same-length-5 c = search needs
@@ -61,24 +72,31 @@ same-length-7 c = search needs
 same-length-8 : tie.Need-same-length-8
 same-length-8 c = search needs
 
-returns-2 : tie.Need-returns-2
-returns-2 c = c .before .before .before .before .before .before .before .before .tidy-in-order .ensures
+returns-3 : tie.Need-returns-3
+returns-3 c =
+    let g = c .before .before .before .before .before .before .before .before .before .before .before .before .before .before .before .before .before .before .before .before .before .before .before .before .before .before in
+    let es = speedEntries (g .args .beats .now) (g .args .ratios .now) (g .args .delays .now) (g .args .units .now) in
+    ordered-laid es (g .args .out-beats .now) (g .args .out-ratios .now) (g .args .out-delays .now) (g .args .out-units .now) _ _ _ _ _ (omega (arith, leb-true (length (keptSpeeds es)) (c .before .before .before .before .before .before .before .before .before .before .before .before .before .before .before .before .least-of2 .result) (sym (c .before .before .before .before .before .before .before .before .before .before .before .before .before .before .fits2 .ensures) ∙ not-false _ (c .before .before .before .before .before .before .before .before .before .before .before .before .before .if3 .left)), c .before .before .before .before .before .before .before .before .before .before .before .before .before .before .before .before .least-of2 .ensures)) (c .before .before .before .before .before .before .before .before .lay-kept .ensures .0) (c .before .before .before .before .before .before .before .before .lay-kept .ensures .1)
 
 pub tidy-ordered-spec : {M : Type 1} → statement M
 tidy-ordered-spec =
     tie.close
     (tie.spec
     least-of-requires
-    columns-apart-requires
-    lay-columns-requires
+    least-of-requires-2
+    all-kept-requires
+    lay-all-requires
     same-length
     same-length-2
     same-length-3
     same-length-4
     returns
-    tidy-in-order-requires
+    fits-requires
+    refused-requires
+    returns-2
+    lay-kept-requires
     same-length-5
     same-length-6
     same-length-7
     same-length-8
-    returns-2)
+    returns-3)

@@ -1,6 +1,7 @@
 -- `tidy_speeds::tidy_speed_segments` meets its contract. Assumes nothing.
 use native.Mathlib.Omega.{arith}
 use mathlib.Core.Path.{sym, _∙_}
+use Rattle.by_rows.proofs.ByMarks.{allowed-and-rising}
 use Rattle.tidy_speeds.proofs.Outcomes.{list-refused, ordered-number, ordered-list, placed-number, placed-list}
 use borrow.Author.Needs.{needs}
 use Rattle.tidy_speeds.proofs.tidy_speed_segments.Statement.{statement}
@@ -14,14 +15,14 @@ refused-requires c κs = search needs
 
 returns : tie.Need-returns
 returns c =
-    let g = c .before .before .before .before .before .before .before .before .before .before .before in
-    rw (c .refused .ensures, c .before .before .speed-list-number .ensures) (list-refused (g .args .beats .now) (g .args .ratios .now) (g .args .delays .now) (g .args .units .now) (g .args .out-beats .now) (g .args .out-ratios .now) (g .args .out-delays .now) (g .args .out-units .now) (λ e. omega (arith, c .before .if1 .taken, c .before .before .speed-list-number .ensures, e)))
+    let given = c .before .before .before .before .before .before .before .before .before .before .before .args in
+    rw (c .refused .ensures, c .before .before .speed-list-number .ensures) (list-refused (given .beats .now) (given .ratios .now) (given .delays .now) (given .units .now) (given .out-beats .now) (given .out-ratios .now) (given .out-delays .now) (given .out-units .now) (λ e. omega (arith, c .before .if1 .taken, c .before .before .speed-list-number .ensures, e)))
 
-in-row-order-requires : tie.Need-in-row-order-requires
-in-row-order-requires c κs = search needs
+rise-requires : tie.Need-rise-requires
+rise-requires c κs = search needs
 
-tidy-ordered-requires : tie.Need-tidy-ordered-requires
-tidy-ordered-requires c κs = search needs
+tidy-rising-requires : tie.Need-tidy-rising-requires
+tidy-rising-requires c κs = let given = c .before .before .before .before .before .before .before .before .before .before .before .before .before .before .before .before .args in ((sym (c .before .before .before .before .before .before .before .speed-list-number .ensures) ∙ c .before .before .before .before .before .before .if1 .left), allowed-and-rising (given .beats .now) (sym (c .before .before .before .before .before .rise .ensures) ∙ c .before .before .before .before .if2 .taken) .1)
 
 same-length : tie.Need-same-length
 same-length c = search needs
@@ -36,13 +37,13 @@ same-length-4 : tie.Need-same-length-4
 same-length-4 c = search needs
 
 returns-2 : tie.Need-returns-2
-returns-2 c =
-    let g = c .before .before .before .before .before .before .before .before .before .before .before .before .before .before .before .before .before .before .before .before .before .before .before .before .before in
-    let ordered = sym (c .before .before .before .before .before .before .before .before .before .before .before .before .before .before .in-row-order .ensures) ∙ c .before .before .before .before .before .before .before .before .before .before .before .before .before .if2 .taken in
-    rw (ordered-number (g .args .beats .now) (g .args .ratios .now) (g .args .delays .now) (g .args .units .now) (sym (c .before .before .before .before .before .before .before .before .before .before .before .before .before .before .before .before .speed-list-number .ensures) ∙ c .before .before .before .before .before .before .before .before .before .before .before .before .before .before .before .if1 .left) ordered, ordered-list (g .args .beats .now) (g .args .ratios .now) (g .args .delays .now) (g .args .units .now) (sym (c .before .before .before .before .before .before .before .before .before .before .before .before .before .before .before .before .speed-list-number .ensures) ∙ c .before .before .before .before .before .before .before .before .before .before .before .before .before .before .before .if1 .left) ordered) (c .before .before .before .before .before .before .before .before .tidy-ordered .ensures)
+returns-2 c = c .before .before .before .before .before .before .before .before .tidy-rising .ensures
 
-tidy-placed-requires : tie.Need-tidy-placed-requires
-tidy-placed-requires c κs = search needs
+in-order-requires : tie.Need-in-order-requires
+in-order-requires c κs = search needs
+
+tidy-ordered-requires : tie.Need-tidy-ordered-requires
+tidy-ordered-requires c κs = search needs
 
 same-length-5 : tie.Need-same-length-5
 same-length-5 c = search needs
@@ -58,9 +59,30 @@ same-length-8 c = search needs
 
 returns-3 : tie.Need-returns-3
 returns-3 c =
-    let g = c .before .before .before .before .before .before .before .before .before .before .before .before .before .before .before .before .before .before .before .before .before .before .before .before .before in
-    let unordered = sym (c .before .before .before .before .before .before .before .before .before .before .before .before .before .before .in-row-order .ensures) ∙ c .before .before .before .before .before .before .before .before .before .before .before .before .before .if2 .left in
-    rw (placed-number (g .args .beats .now) (g .args .ratios .now) (g .args .delays .now) (g .args .units .now) (sym (c .before .before .before .before .before .before .before .before .before .before .before .before .before .before .before .before .speed-list-number .ensures) ∙ c .before .before .before .before .before .before .before .before .before .before .before .before .before .before .before .if1 .left) unordered, placed-list (g .args .beats .now) (g .args .ratios .now) (g .args .delays .now) (g .args .units .now) (sym (c .before .before .before .before .before .before .before .before .before .before .before .before .before .before .before .before .speed-list-number .ensures) ∙ c .before .before .before .before .before .before .before .before .before .before .before .before .before .before .before .if1 .left) unordered) (c .before .before .before .before .before .before .before .before .tidy-placed .ensures)
+    let given = c .before .before .before .before .before .before .before .before .before .before .before .before .before .before .before .before .before .before .before .before .before .before .before .before .before .before .before .args in
+    let ordered = sym (c .before .before .before .before .before .before .before .before .before .before .before .before .before .before .in-order .ensures) ∙ c .before .before .before .before .before .before .before .before .before .before .before .before .before .if3 .taken in
+    rw (ordered-number (given .beats .now) (given .ratios .now) (given .delays .now) (given .units .now) (sym (c .before .before .before .before .before .before .before .before .before .before .before .before .before .before .before .before .before .before .speed-list-number .ensures) ∙ c .before .before .before .before .before .before .before .before .before .before .before .before .before .before .before .before .before .if1 .left) ordered, ordered-list (given .beats .now) (given .ratios .now) (given .delays .now) (given .units .now) (sym (c .before .before .before .before .before .before .before .before .before .before .before .before .before .before .before .before .before .before .speed-list-number .ensures) ∙ c .before .before .before .before .before .before .before .before .before .before .before .before .before .before .before .before .before .if1 .left) ordered) (c .before .before .before .before .before .before .before .before .tidy-ordered .ensures)
+
+tidy-placed-requires : tie.Need-tidy-placed-requires
+tidy-placed-requires c κs = search needs
+
+same-length-9 : tie.Need-same-length-9
+same-length-9 c = search needs
+
+same-length-10 : tie.Need-same-length-10
+same-length-10 c = search needs
+
+same-length-11 : tie.Need-same-length-11
+same-length-11 c = search needs
+
+same-length-12 : tie.Need-same-length-12
+same-length-12 c = search needs
+
+returns-4 : tie.Need-returns-4
+returns-4 c =
+    let given = c .before .before .before .before .before .before .before .before .before .before .before .before .before .before .before .before .before .before .before .before .before .before .before .before .before .before .before .args in
+    let unordered = sym (c .before .before .before .before .before .before .before .before .before .before .before .before .before .before .in-order .ensures) ∙ c .before .before .before .before .before .before .before .before .before .before .before .before .before .if3 .left in
+    rw (placed-number (given .beats .now) (given .ratios .now) (given .delays .now) (given .units .now) (sym (c .before .before .before .before .before .before .before .before .before .before .before .before .before .before .before .before .before .before .speed-list-number .ensures) ∙ c .before .before .before .before .before .before .before .before .before .before .before .before .before .before .before .before .before .if1 .left) unordered, placed-list (given .beats .now) (given .ratios .now) (given .delays .now) (given .units .now) (sym (c .before .before .before .before .before .before .before .before .before .before .before .before .before .before .before .before .before .before .speed-list-number .ensures) ∙ c .before .before .before .before .before .before .before .before .before .before .before .before .before .before .before .before .before .if1 .left) unordered) (c .before .before .before .before .before .before .before .before .tidy-placed .ensures)
 
 pub tidy-speed-segments-spec : {M : Type 1} → statement M
 tidy-speed-segments-spec =
@@ -69,16 +91,23 @@ tidy-speed-segments-spec =
     speed-list-number-requires
     refused-requires
     returns
-    in-row-order-requires
-    tidy-ordered-requires
+    rise-requires
+    tidy-rising-requires
     same-length
     same-length-2
     same-length-3
     same-length-4
     returns-2
-    tidy-placed-requires
+    in-order-requires
+    tidy-ordered-requires
     same-length-5
     same-length-6
     same-length-7
     same-length-8
-    returns-3)
+    returns-3
+    tidy-placed-requires
+    same-length-9
+    same-length-10
+    same-length-11
+    same-length-12
+    returns-4)

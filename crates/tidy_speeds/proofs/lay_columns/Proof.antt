@@ -1,4 +1,4 @@
--- `speed_order::lay_columns` lays each column. Assumes nothing.
+-- `tidy_speeds::lay_columns` lays each column. Assumes nothing.
 use Prim.Native.Nat.{ℕ, _≤_}
 use mathlib.Core.Path.{_≡_, sym, ap, _∙_}
 use mathlib.Core.List.{List}
@@ -8,10 +8,10 @@ use lib.Ieee.{Float}
 use Rattle.order.specs.Order.{laid}
 use Rattle.columns.proofs.EachOverFront.{copied-over-front}
 use Rattle.by_rows.proofs.ByMarks.{marked-over-front}
 use Rattle.speed_order.proofs.ColumnsLaid.{apart-columns}
 use borrow.Author.Needs.{needs}
-use Rattle.speed_order.proofs.lay_columns.Statement.{statement}
-use Rattle.speed_order.proofs.lay_columns.Tie as tie
+use Rattle.tidy_speeds.proofs.lay_columns.Statement.{statement}
+use Rattle.tidy_speeds.proofs.lay_columns.Tie as tie
 
 lay-on-rows-requires : tie.Need-lay-on-rows-requires
 lay-on-rows-requires c κs = search needs

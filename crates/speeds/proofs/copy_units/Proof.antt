@@ -1,14 +1,14 @@
--- `assembled_speeds::copy_units` writes each unit, as far as both columns go. Assumes nothing.
-use Prim.Native.Nat.{ℕ, _-_}
+-- `speeds::copy_units` writes each unit, as far as both columns go. Assumes nothing.
 use mathlib.Core.Path.{refl}
+use Prim.Native.Nat.{ℕ, _-_}
 use native.Mathlib.Omega.{arith}
 use Rattle.columns.proofs.LaidEach.{LayingEach, begun, turned, ended}
 use borrow.Author.Needs.{needs}
-use Rattle.assembled_speeds.proofs.copy_units.Statement.{statement}
-use Rattle.assembled_speeds.proofs.copy_units.Tie as tie
+use Rattle.speeds.proofs.copy_units.Statement.{statement}
+use Rattle.speeds.proofs.copy_units.Tie as tie
 
 abbrev Inv-loop : tie.InvT-loop
-Inv-loop from to₀ n i₀ to i = LayingEach (λ (unit : ℕ). unit) from to₀ n to i
+Inv-loop from to₀ n i₀ to i = LayingEach (λ (x : ℕ). x) from to₀ n to i
 
 abbrev μ-loop : tie.MeasureT-loop
 μ-loop from to₀ n i₀ to i = n - i
