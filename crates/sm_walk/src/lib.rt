@@ -11,7 +11,7 @@ ghost use mathlib.Core.List.{map};
 ghost use Prim.Native.Nat.{_<_, _+_, _≤_, _^_, max};
 ghost use lib.ListN.{length, getD, drop};
 ghost use lib.Ieee.{nan};
-ghost use Rattle.limits.specs.Numbers.{every, miss};
+ghost use Rattle.limits.specs.Numbers.{every};
 ghost use Rattle.order.specs.Entries.{entries, first, second};
 ghost use Rattle.sm_machine.specs.Machine.{naught, fits, met};
 ghost use Rattle.sm_walk.specs.Changes.{headOf, left, advanced};
@@ -551,22 +551,22 @@ fn walk_chart(
 
 // ---- the call
 
-fn one_nan(x: f32) -> usize
-    ensures { λ r. ⌜ r ≡ miss isNumber x ⌝ }
+fn is_number(x: f32) -> bool
+    ensures { λ r. ⌜ r ≡ isNumber x ⌝ }
 {
-    if x == x { 0 } else { 1 }
+    x == x
 }
 
 fn all_numbers(values: &[f32]) -> bool
     ensures { λ r. ⌜ r ≡ every isNumber (now (values .entry)) ⌝ }
 {
-    let mut nans: usize = 0;
+    let mut so_far = true;
     let mut i = 0;
     while i < values.len() {
-        nans += one_nan(values[i]);
+        so_far = both(so_far, is_number(values[i]));
         i += 1;
     }
-    nans == 0
+    so_far
 }
 
 fn chart_number(
