@@ -13,4 +13,5 @@ pub mod StaysWithin
 pub mod TimeOfTheEnd
 pub mod QuietRows
 pub mod HeadsAhead
+pub mod LaterBeats
 pub mod OneTempo

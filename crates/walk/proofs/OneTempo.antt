@@ -3,18 +3,19 @@ use Prim.Native.Nat.{ℕ, _+_, _≤_}
 use mathlib.Core.Bool.{Bool, true, false}
 use mathlib.Core.Path.{_≡_, refl, sym, ap, _∙_}
 use native.Mathlib.Omega.{arith}
+use borrow.Author.Tests.{lt-ltb, ltb-false}
 use mathlib.Core.List.{List}
 use lib.Dec.{ltb, eqb}
-use lib.IntN.{ℤ}
+use lib.IntN.{ℤ, pos, negsuc, _+ℤ_}
 use lib.Signed.{ltZ}
 use lib.ListN.{length, getD}
 use lib.Ieee.{Float, nan, binary64, add}
 use Rattle.picks.specs.Pick.{pick}
-use Rattle.rows.specs.Rows.{row}
+use Rattle.rows.specs.Rows.{row, beatOf}
 use Rattle.walk.specs.Events.{Timing, next}
 use Rattle.walk.specs.Passing.{noTime, earlyTempo, timeTo, passed, step, afterTempo}
-use Rattle.walk.specs.Quiet.{farthest, rowAt, endRow, onlyTempos}
-use Rattle.walk.specs.Heads.{headsOf, nextOf}
+use Rattle.walk.specs.Quiet.{farthest, rowAt, endRow, isLater, onlyTempos}
+use Rattle.walk.specs.Heads.{headsOf}
 use Rattle.walk.specs.Soon.{tempoPassed, soonOf, walkedSoon}
 use Rattle.walk.specs.Walk.{timeAt, due, isEvent, walkOn, walk}
 use Rattle.walk.specs.declared.State.{State}
@@ -24,7 +25,8 @@ use Rattle.walk.specs.declared.Event.the-variants.{Tempo, Asked}
 use Rattle.walk.proofs.EventByEvent.{walk-on, walk-end}
 use Rattle.walk.proofs.HeadsAhead.{next-by-heads, tempo-next}
 use Rattle.walk.proofs.QuietRows.{none-before, quiet-end}
-use Rattle.walk.proofs.RowOrder.{no, le-lt, lt-not, lt-not-self}
+use Rattle.walk.proofs.LaterBeats.{later-row}
+use Rattle.walk.proofs.RowOrder.{no, le-lt, lt-not-self}
 
 -- a row that is not the greatest i32 is that of an entry
 listed : (beats : List Float) (place : ℕ) → ltZ (rowAt beats place) farthest ≡ true → ltb place (length beats) ≡ true
@@ -98,18 +100,28 @@ module _ (t : Timing) (r : ℤ) (s : State) where
         ∙ walk-end noTime t r s′ 1 (ap (λ (n : Next). isEvent (n .kind)) asked)
         ∙ rw asked
 
-both : (b x : Bool) → pick b x false ≡ true → (b ≡ true) × (x ≡ true)
-both true x e = (refl, e)
-both false x e = no e
+all-but-two : (a b c d e f : Bool) → pick a false (pick b false (pick c (pick d (pick e f false) false) false)) ≡ true → (b ≡ false) × (c ≡ true) × (d ≡ true) × (e ≡ true) × (f ≡ true)
+all-but-two false false true true true f h = (refl, refl, refl, refl, h)
+all-but-two false false true true false f h = no h
+all-but-two false false true false e f h = no h
+all-but-two false false false d e f h = no h
+all-but-two false true c d e f h = no h
+all-but-two true b c d e f h = no h
 
 pub only-tempos : (t : Timing) (r : ℤ) (s : State) → onlyTempos (t .stopBeats) (t .delayBeats) (t .warpBeats) s r ≡ true → Others t r s
 unfolding onlyTempos
-only-tempos t r s only =
-    let stop = both _ _ only in
-    let delay = both _ _ (stop .1) in
-    let warp = both _ _ (delay .1) in
-    let end = both _ _ (warp .1) in
-    record { ofAll = end .1; ofEnd = end .0; ofDelay = delay .0; ofStop = stop .0; ofWarp = warp .0 }
+only-tempos t (negsuc n) s only = no only
+only-tempos t (pos n) s only =
+    let after = beatOf binary64 (pos n +ℤ pos 1) in
+    let are = all-but-two (ltZ (pos n) (pos 0)) (ltZ (pos 3145727) (pos n)) (ltZ (pos n) (endRow (s .warping) (s .end))) (isLater (t .stopBeats) (s .stops) after) (isLater (t .delayBeats) (s .delays) after) (isLater (t .warpBeats) (s .warps) after) only in
+    let small : n ≤ 3145727 = ltb-false 3145727 n (are .0) in
+    record {
+      ofAll = lt-ltb n 2147483647 (omega arith);
+      ofEnd = are .1;
+      ofDelay = later-row n small (t .delayBeats) (s .delays) (are .3);
+      ofStop = later-row n small (t .stopBeats) (s .stops) (are .2);
+      ofWarp = later-row n small (t .warpBeats) (s .warps) (are .4);
+    }
 
 module _ (t : Timing) (r : ℤ) (s : State) where
   abbrev pub soon : Soon

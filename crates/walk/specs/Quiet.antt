@@ -1,14 +1,14 @@
 -- The row of the next entry of a list and of a warp's end, and whether nothing but tempos is due by a row. Definitions only.
 use Prim.Native.Nat.{ℕ}
-use mathlib.Core.Bool.{Bool, false}
+use mathlib.Core.Bool.{Bool, true, false}
 use mathlib.Core.List.{List}
 use lib.Dec.{ltb}
-use lib.IntN.{ℤ, pos}
+use lib.IntN.{ℤ, pos, _+ℤ_}
 use lib.Signed.{ltZ}
 use lib.ListN.{length, getD}
-use lib.Ieee.{Float, nan, binary64}
+use lib.Ieee.{Float, fin, nan, binary64, le}
 use Rattle.picks.specs.Pick.{pick}
-use Rattle.rows.specs.Rows.{row}
+use Rattle.rows.specs.Rows.{row, beatOf}
 use Rattle.walk.specs.declared.State.{State}
 
 -- where nothing is ahead: the greatest i32
@@ -21,13 +21,21 @@ rowAt beats place = pick (ltb place (length beats)) (row binary64 (getD beats pl
 unfoldable pub endRow : Bool → Float → ℤ
 endRow warping end = pick warping (row binary64 end) farthest
 
--- a row by which nothing but tempos is due is before the next entry of each other list, before the warp's end, and before the greatest i32
+-- no entry is at a place, or one that is allowed and not before a beat
+unfoldable pub isLater : List Float → ℕ → Float → Bool
+isLater beats place beat =
+    pick (ltb place (length beats))
+    (pick (le (getD beats place nan) (fin false 1 (pos 16))) (pick (le (fin true 1 (pos 16)) (getD beats place nan)) (le beat (getD beats place nan)) false) false)
+    true
+
+-- An allowed row from 0 on, by which nothing but tempos is due: it is before the warp's end, and the next entry of each other list is not before the beat of
+-- the row after it.
 unfoldable pub onlyTempos : (stopBeats delayBeats warpBeats : List Float) → State → ℤ → Bool
 onlyTempos stopBeats delayBeats warpBeats s asked =
-    pick (ltZ asked (rowAt stopBeats (s .stops)))
-    (pick (ltZ asked (rowAt delayBeats (s .delays)))
-    (pick (ltZ asked (rowAt warpBeats (s .warps)))
-    (pick (ltZ asked (endRow (s .warping) (s .end))) (ltZ asked farthest) false)
+    pick (ltZ asked (pos 0)) false
+    (pick (ltZ (pos 3145727) asked) false
+    (pick (ltZ asked (endRow (s .warping) (s .end)))
+    (pick (isLater stopBeats (s .stops) (beatOf binary64 (asked +ℤ pos 1)))
+    (pick (isLater delayBeats (s .delays) (beatOf binary64 (asked +ℤ pos 1))) (isLater warpBeats (s .warps) (beatOf binary64 (asked +ℤ pos 1))) false)
     false)
-    false)
-    false
+    false))

@@ -9,7 +9,7 @@ ghost use Rattle.rows.specs.Rows.{beatOf};
 ghost use Rattle.walk.specs.Events.{timing, sooner};
 ghost use Rattle.walk.specs.Heads.{headsOf, headsAfter, nextOf};
 ghost use Rattle.walk.specs.Passing.{noTime, tempoAt, earlyTempo, inForce, timeTo, larger, afterWarpEnd, afterTempo, afterDelay, afterStop, afterWarp, CanMove, passed as Passing·passed, firstOr, lastUpTo, sixty};
-ghost use Rattle.walk.specs.Quiet.{rowAt, endRow, onlyTempos};
+ghost use Rattle.walk.specs.Quiet.{rowAt, endRow, isLater, onlyTempos};
 ghost use Rattle.walk.specs.Soon.{tempoPassed, soonOf};
 ghost use Rattle.walk.specs.declared.Event.the-variants.{Tempo};
 ghost use Rattle.walk.specs.Walk.{isEvent, isNothing, timeAt, walk};
@@ -496,7 +496,25 @@ fn time_at(state: State, next: Next, early: f64, tempo_values: &[f32]) -> f64
 
 // ---- walks that pass nothing, or one tempo
 
-// Whether by the row no event but a tempo is due.
+// True where no entry is at the place, or one that is allowed and not before the beat.
+fn is_later(beats: &[f32], place: usize, beat: f64) -> bool
+    ensures { λ r. ⌜ r ≡ isLater (now (beats .entry)) place beat ⌝ }
+{
+    if place < beats.len() {
+        let head = beats[place];
+        if head <= 65536.0 {
+            if -65536.0 <= head {
+                return beat <= (head as f64);
+            }
+            return false;
+        }
+        return false;
+    }
+    true
+}
+
+// Whether by the row no event but a tempo is due, of rows that are allowed and from 0 on: entries are held against the beat of the row after it, which is
+// quicker than their rows, and may say no of that row itself.
 pub fn is_only_tempos(
     state: State,
     asked: i32,
@@ -506,13 +524,17 @@ pub fn is_only_tempos(
 ) -> bool
     ensures { λ r. ⌜ r ≡ onlyTempos (now («stop_beats» .entry)) (now («delay_beats» .entry)) (now («warp_beats» .entry)) state asked ⌝ }
 {
-    if asked < row_at(stop_beats, state.stops) {
-        if asked < row_at(delay_beats, state.delays) {
-            if asked < row_at(warp_beats, state.warps) {
-                if asked < end_row(state.warping, state.end) {
-                    return asked < 2147483647;
-                }
-                return false;
+    if asked < 0 {
+        return false;
+    }
+    if 3145727 < asked {
+        return false;
+    }
+    let beat = rows::note_row_to_beat(asked + 1);
+    if asked < end_row(state.warping, state.end) {
+        if is_later(stop_beats, state.stops, beat) {
+            if is_later(delay_beats, state.delays, beat) {
+                return is_later(warp_beats, state.warps, beat);
             }
             return false;
         }

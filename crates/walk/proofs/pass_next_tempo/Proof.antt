@@ -1,7 +1,6 @@
 -- `walk::pass_next_tempo` is `tempoPassed`. Assumes nothing.
 use lib.Ieee.{ofBits}
 use borrow.Author.Tests.{lt-ltb, le-ltb}
-use native.Mathlib.Omega.{arith}
 use Rattle.walk.specs.Soon.{tempoPassed}
 use Rattle.walk.proofs.BackFromBits.{back}
 use borrow.Author.Needs.{needs}

@@ -1,5 +1,4 @@
 -- `walk::walk_to` walks event by event. Assumes nothing.
-use Rattle.walk.specs.Passing.{passed as Passing·passed}
 use Prim.Native.Nat.{_+_, _<_}
 use mathlib.Core.Path.{_≡_, refl, sym, ap, _∙_}
 use mathlib.Core.Bool.{true, false}
@@ -9,7 +8,7 @@ use mir.Syntax.{w32}
 use mir.Val.{toZ, ofZ}
 use native.Mathlib.Omega.{arith}
 use Rattle.walk.specs.Events.{Timing, timing, next}
-use Rattle.walk.specs.Walk.{isEvent, left, ended, walkOn, walk}
+use Rattle.walk.specs.Walk.{isEvent, left, walkOn, walk}
 use Rattle.walk.specs.Heads.{headsOf, nextOf}
 use Rattle.walk.specs.declared.Next.{Next}
 use Rattle.walk.specs.declared.Heads.{Heads}
