@@ -1,3 +1,4 @@
+pub mod OnRows
 pub mod RowsFit
 pub mod Ends
 pub mod ProcessedColumns

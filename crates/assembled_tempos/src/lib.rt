@@ -1,9 +1,18 @@
 // Assembly of tempos, stops and warps: processed by format, the made warps behind the given ones, tidied, and written as f32.
 use by_format::TimingFormat;
+use columns::Outcome;
 ghost use mathlib.Core.Path.{_≡_};
+ghost use mathlib.Core.Bool.{false};
+ghost use mathlib.Core.List.{map};
 ghost use Prim.Native.Nat.{_≤_, min};
 ghost use lib.ListN.{length};
-ghost use lib.Ieee.{Float};
+ghost use lib.Ieee.{Float, lt};
+ghost use Rattle.rows.specs.Rows.{quantized};
+ghost use Rattle.limits.specs.Numbers.{miss};
+ghost use Rattle.limits.specs.Neighbours.{everyTwo};
+ghost use Rattle.columns.specs.Each.{laidEach};
+ghost use Rattle.tidy_rows.specs.RowTidying.{rowsNumber};
+ghost use Rattle.assembled_rows.specs.AssembledRows.{RowsUntested};
 ghost use Rattle.picks.specs.Pick.{pick};
 ghost use Rattle.limits.specs.Refusals.{lower};
 ghost use Rattle.merged_warps.specs.MergedWarps.{threeNumber, mergedLists};
@@ -61,6 +70,66 @@ fn rooms_number(
     limits::lower_of(limits::lower_of(tempos, stops), warps)
 }
 
+// ---- stops, whose beats are on rows: each is an f32 already
+
+fn not_below(beat: f64, next: f64) -> usize
+    ensures { λ r. ⌜ r ≡ miss (λ (e : Float × Float). lt (e .0) (e .1)) (beat, next) ⌝ }
+{
+    if beat < next { 0 } else { 1 }
+}
+
+// Whether each beat is below the next: a loop that counts those that are not has no branch.
+fn rise(beats: &[f64]) -> bool
+    ensures { λ r. ⌜ r ≡ everyTwo lt (now (beats .entry)) ⌝ }
+{
+    let mut fail: usize = 0;
+    let mut i = 0;
+    while i + 1 < beats.len() {
+        fail += not_below(beats[i], beats[i + 1]);
+        i += 1;
+    }
+    fail == 0
+}
+
+// Each beat as an f32, in which it loses nothing.
+fn cast_column(from: &[f64], to: &mut [f32])
+    requires { ⌜ map quantized (now from) ≡ now from ⌝ }
+    ensures { λ _. ⌜ now (to .exit) ≡ laidEach (λ (x : Float). x) (now (from .entry)) (now (to .entry)) ⌝ }
+{
+    let n = columns::room_of(from.len(), to.len());
+    let mut i = 0;
+    while i < n {
+        to[i] = from[i] as f32;
+        i += 1;
+    }
+}
+
+// As `assembled_rows::assemble_untested`, which quantises.
+fn assemble_stops(
+    beats: &[f64],
+    values: &[f64],
+    out_beats: &mut [f32],
+    out_values: &mut [f32],
+) -> Outcome
+    requires { ⌜ (rowsNumber (now beats) (now values) ≡ 0) × (map quantized (now beats) ≡ now beats) ⌝ }
+    ensures { λ r. ⌜ RowsUntested false (now (beats .entry)) (now (values .entry)) r (now («out_beats» .entry)) (now («out_beats» .exit)) (now («out_values» .entry)) (now («out_values» .exit)) ⌝ }
+{
+    if beats.len() > columns::room_of(out_beats.len(), out_values.len()) {
+        return assembled_rows::assemble_untested(beats, values, false, out_beats, out_values);
+    }
+    if rise(beats) {
+        cast_column(beats, out_beats);
+        assembled_rows::narrow_column(values, out_values);
+        return Outcome {
+            number: limits::TAKEN,
+            count: beats.len(),
+        };
+    }
+    assembled_rows::assemble_untested(beats, values, false, out_beats, out_values)
+}
+
+// ---- the three lists
+
 // Every test before anything is written.
 fn lay_lists(
     later: u32,
@@ -108,13 +177,7 @@ fn lay_lists(
         out_tempo_beats,
         out_tempo_values,
     );
-    let stops = assembled_rows::assemble_untested(
-        stop_beats,
-        stop_values,
-        false,
-        out_stop_beats,
-        out_stop_values,
-    );
+    let stops = assemble_stops(stop_beats, stop_values, out_stop_beats, out_stop_values);
     let warps = assembled_rows::assemble_untested(
         warp_beats,
         warp_lengths,
