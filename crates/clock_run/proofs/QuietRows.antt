@@ -14,7 +14,7 @@ use Rattle.walk.specs.Events.{Timing}
 use Rattle.walk.specs.Passing.{noTime, sixty, inForce, timeTo, passed, afterTempo}
 use Rattle.walk.specs.Walk.{walk}
 use Rattle.walk.specs.Quiet.{farthest, rowAt, endRow}
-use Rattle.walk.specs.Soon.{tempoPassed}
+use Rattle.walk.specs.Soon.{tempoPassed, rowAfter}
 use Rattle.walk.specs.declared.State.{State}
 use Rattle.walk.specs.declared.Walked.{Walked}
 use Rattle.walk.specs.declared.Event.the-variants.{Tempo}
@@ -193,17 +193,20 @@ module _ (t : Timing) (offset global : Float) (c : Cursor) (beat : Float) (ahead
   abbrev on : Ahead
   on = lookOn (t .tempoBeats) (t .tempoValues) moved (ahead .rest)
 
-  at-tempo : isBefore (ahead .known) (ahead .rest) (c .asked) beat (row binary64 beat) ≡ true → isBefore (on .known) (on .row) (c .asked) beat (row binary64 beat) ≡ true
+  abbrev until : ℤ
+  until = least (rowAfter (t .tempoBeats) (c .state .tempos)) (ahead .rest)
+
+  at-tempo : isBefore (ahead .known) until (c .asked) beat (row binary64 beat) ≡ true → isBefore (on .known) (on .row) (c .asked) beat (row binary64 beat) ≡ true
       → (quietly t offset global c beat 1 moved (on .rate) ≡ asking t c offset global beat) × Sees t moved on
   at-tempo h reached =
       let r = row binary64 beat in
       let s = c .state in
       let tempo = rowAt (t .tempoBeats) (s .tempos) in
-      let asked = before-is (ahead .known) (ahead .rest) (c .asked) beat r h in
+      let asked = before-is (ahead .known) until (c .asked) beat r h in
       let sight = all-seen t s ahead sees (asked .1) in
       let isRest : ahead .rest ≡ restOf t s = ap (λ (a : Ahead). a .rest) (sight .whole) in
       let isRow : ahead .row ≡ least tempo (restOf t s) = ap (λ (a : Ahead). a .row) (sight .whole) in
-      let before : ltZ r (restOf t s) ≡ true = ap (λ (z : ℤ). ltZ r z) (sym isRest) ∙ asked .3 in
+      let before : ltZ r (restOf t s) ≡ true = ap (λ (z : ℤ). ltZ r z) (sym isRest) ∙ below-right r (rowAfter (t .tempoBeats) (s .tempos)) (ahead .rest) (asked .3) in
       let notRow : ltZ r (ahead .row) ≡ false = not-before (ahead .known) (ahead .row) (c .asked) beat r behind (asked .0) (asked .1) (asked .2) in
       let isTempo : ahead .row ≡ tempo = isRow ∙ is-tempo r tempo (restOf t s) before (ap (λ (z : ℤ). ltZ r z) (sym isRow) ∙ notRow) in
       let isMoved : moved ≡ past t s tempo = ap (λ (z : ℤ). past t s z) isTempo in
@@ -225,12 +228,12 @@ module _ (t : Timing) (offset global : Float) (c : Cursor) (beat : Float) (ahead
 
   pub past-answer : passing .reached ≡ true → (quietly t offset global c beat 1 (passing .state) (passing .ahead .rate) ≡ asking t c offset global beat) × Sees t (passing .state) (passing .ahead)
   unfolding pastTempo
-  past-answer h = go (isBefore (ahead .known) (ahead .rest) (c .asked) beat (row binary64 beat)) refl h
+  past-answer h = go (isBefore (ahead .known) until (c .asked) beat (row binary64 beat)) refl h
     where
       picked : Bool → Past
       picked b = pick b (reachedAt (t .tempoBeats) (t .tempoValues) (ahead .rest) (c .asked) beat (row binary64 beat) moved) (record { reached = false; state = c .state; ahead = ahead })
 
-      go : (b : Bool) → isBefore (ahead .known) (ahead .rest) (c .asked) beat (row binary64 beat) ≡ b → picked b .reached ≡ true
+      go : (b : Bool) → isBefore (ahead .known) until (c .asked) beat (row binary64 beat) ≡ b → picked b .reached ≡ true
           → (quietly t offset global c beat 1 (picked b .state) (picked b .ahead .rate) ≡ asking t c offset global beat) × Sees t (picked b .state) (picked b .ahead)
       go true e h = at-tempo e h
       go false e h = no h

@@ -12,7 +12,7 @@ use Rattle.rows.specs.Rows.{beatOf}
 use Rattle.walk.specs.Events.{Timing}
 use Rattle.walk.specs.Quiet.{farthest, rowAt, endRow}
 use Rattle.walk.specs.Passing.{noTime, sixty}
-use Rattle.walk.specs.Soon.{tempoPassed}
+use Rattle.walk.specs.Soon.{tempoPassed, rowAfter}
 use Rattle.walk.specs.declared.State.{State}
 use Rattle.timing_tests.specs.TimingNumbers.{beatNumber}
 use Rattle.clock.specs.declared.Cursor.{Cursor}
@@ -63,9 +63,9 @@ reachedAt tempoBeats tempoValues rest last beat asked s = record {
   ahead = lookOn tempoBeats tempoValues s rest;
 }
 
--- the next tempo passed, where by the beat only tempos are due
+-- the next tempo passed, where by the beat it is due and no other event
 unfoldable pub pastTempo : (tempoBeats tempoValues stopValues delayValues warpBeats warpLengths : List Float) → Ahead → Cursor → Float → ℤ → Past
 pastTempo tempoBeats tempoValues stopValues delayValues warpBeats warpLengths ahead c beat asked =
-    pick (isBefore (ahead .known) (ahead .rest) (c .asked) beat asked)
+    pick (isBefore (ahead .known) (least (rowAfter tempoBeats (c .state .tempos)) (ahead .rest)) (c .asked) beat asked)
     (reachedAt tempoBeats tempoValues (ahead .rest) (c .asked) beat asked (tempoPassed tempoBeats tempoValues stopValues delayValues warpBeats warpLengths (c .state) (ahead .row)))
     (record { reached = false; state = c .state; ahead = ahead })

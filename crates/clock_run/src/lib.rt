@@ -167,7 +167,9 @@ fn past_tempo(
     ensures { λ r. ⌜ r ≡ pastTempo (now («tempo_beats» .entry)) (now («tempo_values» .entry)) (now («stop_values» .entry)) (now («delay_values» .entry)) (now («warp_beats» .entry)) (now («warp_lengths» .entry)) ahead at beat row ⌝ }
 {
     let state = at.state;
-    if is_before(ahead.known, ahead.rest, at.asked, beat, row) {
+    let after = walk::row_after(tempo_beats, state.tempos);
+    let until = least_of(after, ahead.rest);
+    if is_before(ahead.known, until, at.asked, beat, row) {
         let moved = walk::pass_next_tempo(
             state,
             ahead.row,

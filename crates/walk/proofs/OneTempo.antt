@@ -16,7 +16,7 @@ use Rattle.walk.specs.Events.{Timing, next}
 use Rattle.walk.specs.Passing.{noTime, earlyTempo, timeTo, passed, step, afterTempo}
 use Rattle.walk.specs.Quiet.{farthest, rowAt, endRow, isLater, onlyTempos}
 use Rattle.walk.specs.Heads.{headsOf}
-use Rattle.walk.specs.Soon.{tempoPassed, soonOf, walkedSoon}
+use Rattle.walk.specs.Soon.{tempoPassed, rowAfter, soonOf, walkedSoon}
 use Rattle.walk.specs.Walk.{timeAt, due, isEvent, walkOn, walk}
 use Rattle.walk.specs.declared.State.{State}
 use Rattle.walk.specs.declared.Next.{Next}
@@ -83,6 +83,11 @@ module _ (t : Timing) (r : ℤ) (s : State) where
     unfolding tempoPassed passed afterTempo
     others-stay = rw there (record { ofAll = o .ofAll; ofEnd = o .ofEnd; ofDelay = o .ofDelay; ofStop = o .ofStop; ofWarp = o .ofWarp })
 
+    -- the row of the tempo after the next is that of the next one, once one is passed
+    pub before-after : ltZ r (rowAfter (t .tempoBeats) (s .tempos)) ≡ true → ltZ r (rowAt (t .tempoBeats) (past t s (rowAt (t .tempoBeats) (s .tempos)) .tempos)) ≡ true
+    unfolding tempoPassed passed afterTempo rowAfter
+    before-after h = rw there (rw there at h)
+
     -- one is due, and no other
     pub one-soon : eqb (s .tempos) 0 ≡ false → ltZ r (rowAt (t .tempoBeats) (past t s (rowAt (t .tempoBeats) (s .tempos)) .tempos)) ≡ true
         → let s′ = past t s (rowAt (t .tempoBeats) (s .tempos)) in
@@ -127,27 +132,30 @@ module _ (t : Timing) (r : ℤ) (s : State) where
   abbrev pub soon : Soon
   soon = soonOf (t .tempoBeats) (t .tempoValues) (t .stopValues) (t .delayValues) (t .warpBeats) (t .warpLengths) s r
 
-  abbrev picked : Bool → Soon
-  picked b = pick b (record { state = s; passed = 0; whole = true }) (record { state = past t s (rowAt (t .tempoBeats) (s .tempos)); passed = 1; whole = ltZ r (rowAt (t .tempoBeats) (past t s (rowAt (t .tempoBeats) (s .tempos)) .tempos)) })
+  abbrev picked : Bool → Bool → Soon
+  picked b d =
+      pick b (record { state = s; passed = 0; whole = true }) (pick d (record { state = past t s (rowAt (t .tempoBeats) (s .tempos)); passed = 1; whole = true }) (record { state = s; passed = 0; whole = false }))
 
   pub soon-few : soon .passed ≤ 1
   unfolding soonOf
-  soon-few = go (ltZ r (rowAt (t .tempoBeats) (s .tempos)))
+  soon-few = go (ltZ r (rowAt (t .tempoBeats) (s .tempos))) (ltZ r (rowAfter (t .tempoBeats) (s .tempos)))
     where
-      go : (b : Bool) → picked b .passed ≤ 1
-      go true = omega arith
-      go false = omega arith
+      go : (b d : Bool) → picked b d .passed ≤ 1
+      go true d = omega arith
+      go false true = omega arith
+      go false false = omega arith
 
   -- a walk that is soon at its end is that walk
   pub soon-walk : eqb (s .tempos) 0 ≡ false → onlyTempos (t .stopBeats) (t .delayBeats) (t .warpBeats) s r ≡ true → soon .whole ≡ true
       → walk t r s ≡ walkedSoon (t .tempoValues) r soon
   unfolding soonOf
-  soon-walk e only whole = go (ltZ r (rowAt (t .tempoBeats) (s .tempos))) refl whole
+  soon-walk e only whole = go (ltZ r (rowAt (t .tempoBeats) (s .tempos))) (ltZ r (rowAfter (t .tempoBeats) (s .tempos))) refl refl whole
     where
       o : Others t r s
       o = only-tempos t r s only
 
-      go : (b : Bool) → ltZ r (rowAt (t .tempoBeats) (s .tempos)) ≡ b → picked b .whole ≡ true
-          → walk t r s ≡ walkedSoon (t .tempoValues) r (picked b)
-      go true f w = none-soon t r s e o f
-      go false f w = one-soon t r s o f e w
+      go : (b d : Bool) → ltZ r (rowAt (t .tempoBeats) (s .tempos)) ≡ b → ltZ r (rowAfter (t .tempoBeats) (s .tempos)) ≡ d → picked b d .whole ≡ true
+          → walk t r s ≡ walkedSoon (t .tempoValues) r (picked b d)
+      go true d f g w = none-soon t r s e o f
+      go false true f g w = one-soon t r s o f e (before-after t r s o f g)
+      go false false f g w = no w

@@ -1,5 +1,6 @@
 -- A walk that passes nothing, or one tempo. Definitions only.
-use mathlib.Core.Bool.{true}
+use Prim.Native.Nat.{ℕ, _+_}
+use mathlib.Core.Bool.{true, false}
 use mathlib.Core.List.{List}
 use lib.Dec.{ltb}
 use lib.IntN.{ℤ}
@@ -8,7 +9,7 @@ use lib.ListN.{length}
 use lib.Ieee.{Float, binary64, add}
 use Rattle.picks.specs.Pick.{pick}
 use Rattle.walk.specs.Passing.{noTime, timeTo, passed}
-use Rattle.walk.specs.Quiet.{rowAt}
+use Rattle.walk.specs.Quiet.{farthest, rowAt}
 use Rattle.walk.specs.declared.State.{State}
 use Rattle.walk.specs.declared.Soon.{Soon}
 use Rattle.walk.specs.declared.Walked.{Walked}
@@ -19,16 +20,22 @@ unfoldable pub tempoPassed : (tempoBeats tempoValues stopValues delayValues warp
 tempoPassed tempoBeats tempoValues stopValues delayValues warpBeats warpLengths s at =
     pick (ltb (s .tempos) (length tempoBeats)) (passed noTime tempoValues stopValues delayValues warpBeats warpLengths s (record { row = at; kind = Tempo })) s
 
--- before the next tempo the state as it is; else the state past it, which is the whole walk where the row is before the tempo after that
+-- the row of the entry after the one at a place
+unfoldable pub rowAfter : List Float → ℕ → ℤ
+rowAfter beats place = pick (ltb place (length beats)) (rowAt beats (place + 1)) farthest
+
+-- before the next tempo the state as it is, and before the one after that the state past one tempo; further on nothing is passed, and it is not the whole walk
 unfoldable pub soonOf : (tempoBeats tempoValues stopValues delayValues warpBeats warpLengths : List Float) → State → ℤ → Soon
 soonOf tempoBeats tempoValues stopValues delayValues warpBeats warpLengths s asked =
     pick (ltZ asked (rowAt tempoBeats (s .tempos)))
     (record { state = s; passed = 0; whole = true })
+    (pick (ltZ asked (rowAfter tempoBeats (s .tempos)))
     (record {
       state = tempoPassed tempoBeats tempoValues stopValues delayValues warpBeats warpLengths s (rowAt tempoBeats (s .tempos));
       passed = 1;
-      whole = ltZ asked (rowAt tempoBeats (tempoPassed tempoBeats tempoValues stopValues delayValues warpBeats warpLengths s (rowAt tempoBeats (s .tempos)) .tempos));
+      whole = true;
     })
+    (record { state = s; passed = 0; whole = false }))
 
 -- what such a walk comes to at the row
 abbrev pub walkedSoon : List Float → ℤ → Soon → Walked

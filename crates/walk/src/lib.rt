@@ -10,7 +10,7 @@ ghost use Rattle.walk.specs.Events.{timing, sooner};
 ghost use Rattle.walk.specs.Heads.{headsOf, headsAfter, nextOf};
 ghost use Rattle.walk.specs.Passing.{noTime, tempoAt, earlyTempo, inForce, timeTo, larger, afterWarpEnd, afterTempo, afterDelay, afterStop, afterWarp, CanMove, passed as Passing·passed, firstOr, lastUpTo, sixty};
 ghost use Rattle.walk.specs.Quiet.{rowAt, endRow, isLater, onlyTempos};
-ghost use Rattle.walk.specs.Soon.{tempoPassed, soonOf};
+ghost use Rattle.walk.specs.Soon.{tempoPassed, rowAfter, soonOf};
 ghost use Rattle.walk.specs.declared.Event.the-variants.{Tempo};
 ghost use Rattle.walk.specs.Walk.{isEvent, isNothing, timeAt, walk};
 
@@ -543,7 +543,17 @@ pub fn is_only_tempos(
     false
 }
 
-// A walk up to its first tempo and past it: the state, how many were passed, and whether by the row no other is due.
+// The row of the entry after the one at a place, and the greatest i32 where there is none.
+pub fn row_after(beats: &[f32], place: usize) -> i32
+    ensures { λ r. ⌜ r ≡ rowAfter (now (beats .entry)) place ⌝ }
+{
+    if place < beats.len() {
+        return row_at(beats, place + 1);
+    }
+    2147483647
+}
+
+// A walk that passes nothing or its first tempo: the state, how many were passed, and whether that is the whole walk; where it is not, nothing is passed.
 pub struct Soon {
     pub state: State,
     pub passed: usize,
@@ -570,21 +580,27 @@ pub fn walk_soon(
             whole: true,
         };
     }
-    let moved = pass_next_tempo(
-        state,
-        first,
-        tempo_beats,
-        tempo_values,
-        stop_values,
-        delay_values,
-        warp_beats,
-        warp_lengths,
-    );
-    let second = row_at(tempo_beats, moved.tempos);
+    if asked < row_after(tempo_beats, state.tempos) {
+        let moved = pass_next_tempo(
+            state,
+            first,
+            tempo_beats,
+            tempo_values,
+            stop_values,
+            delay_values,
+            warp_beats,
+            warp_lengths,
+        );
+        return Soon {
+            state: moved,
+            passed: 1,
+            whole: true,
+        };
+    }
     Soon {
-        state: moved,
-        passed: 1,
-        whole: asked < second,
+        state,
+        passed: 0,
+        whole: false,
     }
 }
 

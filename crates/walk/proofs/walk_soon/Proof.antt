@@ -15,28 +15,36 @@ returns c =
     let s = c .before .before .before .before .before .before .before .before in
     rw (test-is (s .args .asked) (c .before .row-at .result) _ true (s .fits .asked) (record { sfits = c .before .row-at .ok }) (c .if1 .taken) (c .before .row-at .ensures))
 
+row-after-requires : tie.Need-row-after-requires
+row-after-requires c κs = search needs
+
 pass-next-tempo-requires : tie.Need-pass-next-tempo-requires
 pass-next-tempo-requires c κs = search needs
-
-row-at-requires-2 : tie.Need-row-at-requires-2
-row-at-requires-2 c κs = search needs
 
 returns-2 : tie.Need-returns-2
 unfolding soonOf
 returns-2 c =
-    let s = c .before .before .before .before .before .before .before .before .before .before in
-    let first = c .before .before .before .row-at in
+    let s = c .before .before .before .before .before .before .before .before .before .before .before in
+    let first = c .before .before .before .before .row-at in
+    let second = c .before .before .row-after in
     rw (
-      test-is (s .args .asked) (first .result) _ false (s .fits .asked) (record { sfits = first .ok }) (c .before .before .if1 .left) (first .ensures),
-      back (c .row-at2 .result) (record { sfits = c .row-at2 .ok }),
-      c .row-at2 .ensures,
-      c .before .pass-next-tempo .ensures,
+      test-is (s .args .asked) (first .result) _ false (s .fits .asked) (record { sfits = first .ok }) (c .before .before .before .if1 .left) (first .ensures),
+      test-is (s .args .asked) (second .result) _ true (s .fits .asked) (record { sfits = second .ok }) (c .before .if2 .taken) (second .ensures),
+      c .pass-next-tempo .ensures,
       back (first .result) (record { sfits = first .ok }),
       first .ensures,
-      back (s .args .asked) (s .fits .asked),
+    )
+
+returns-3 : tie.Need-returns-3
+unfolding soonOf
+returns-3 c =
+    let s = c .before .before .before .before .before .before .before .before .before .before in
+    let first = c .before .before .before .row-at in
+    let second = c .before .row-after in
+    rw (
+      test-is (s .args .asked) (first .result) _ false (s .fits .asked) (record { sfits = first .ok }) (c .before .before .if1 .left) (first .ensures),
+      test-is (s .args .asked) (second .result) _ false (s .fits .asked) (record { sfits = second .ok }) (c .if2 .left) (second .ensures),
     )
 
 pub walk-soon-spec : {M : Type 1} → statement M
-walk-soon-spec =
-    tie.close
-    (tie.spec row-at-requires returns pass-next-tempo-requires row-at-requires-2 returns-2)
+walk-soon-spec = tie.close (tie.spec row-at-requires returns row-after-requires pass-next-tempo-requires returns-2 returns-3)
