@@ -23,13 +23,15 @@ use Rattle.raw_lists.proofs.BothTaken.{both-taken}
 use Rattle.by_format.specs.declared.TimingFormat.{TimingFormat}
 use Rattle.by_format.specs.ByFormat.{Lists, ListsLaid, processedLists}
 use Rattle.format_laws.proofs.ListsTaken.{ListsTaken, lists-taken}
+use Rattle.format_laws.proofs.TidiedOnGrid.{tempos-on-rows}
+use Rattle.format_laws.proofs.ValuesF32.{values-f32}
 use Rattle.merged_warps.specs.MergedWarps.{warpsNumber, threeNumber, mergedLists}
 use Rattle.assembled_rows.proofs.Outcomes.{number-with-room}
 use Rattle.assembled_rows.proofs.NarrowedFront.{front-laid}
 use Rattle.assembled_rows.proofs.QuantizedTaken.{list-passes}
 use Rattle.assembled_tempos.specs.declared.AssembledTempos.{AssembledTempos}
 use Rattle.assembled_tempos.specs.AssembledTempos.{ThreeLaid}
-use Rattle.assembled_tempos.specs.Inside.{Processed, listsOf, WorkRooms}
+use Rattle.assembled_tempos.specs.Inside.{Held, Processed, listsOf, WorkRooms}
 
 -- ---- read back
 
@@ -152,11 +154,23 @@ module _ (format : TimingFormat) (tempoBeats tempoValues stopBeats stopValues wa
       let merged = mergedLists format tempoBeats tempoValues stopBeats stopValues warpBeats warpLengths .warps in
       record {
         tempos = rw (f .tempoBeatsAre, f .tempoValuesAre) (same-columns (processedLists format tempoBeats tempoValues stopBeats stopValues .tempos));
+        temposOnRows = rw (f .tempoBeatsAre) (tempos-on-rows format tempoBeats tempoValues stopBeats stopValues (two-taken .0));
         stops = rw (f .stopBeatsAre, f .stopValuesAre) merged-stops;
         onRows = rw (f .stopBeatsAre) stops-on-rows;
         even = rw (f .warpBeatsAre, f .warpLengthsAre) (same-columns merged);
         warps = λ few. rw (f .warpBeatsAre, f .warpLengthsAre) (merged-warps (rw (f .warpBeatsAre) at few));
       }
+
+  -- SM's values are f32s
+  pub tempos-held : {outcome : raw.Processed} {workTempoBeats workTempoValues workStopBeats workStopValues workWarpBeats workWarpLengths : List Float}
+      → Fronts (mergedLists format tempoBeats tempoValues stopBeats stopValues warpBeats warpLengths) outcome workTempoBeats workTempoValues workStopBeats workStopValues workWarpBeats workWarpLengths
+      → Held format (take (outcome .tempos) workTempoValues)
+  tempos-held f is = rw (f .tempoValuesAre, is) (values-f32 tempoBeats tempoValues stopBeats stopValues (two-taken .0) .0)
+
+  pub stops-held : {outcome : raw.Processed} {workTempoBeats workTempoValues workStopBeats workStopValues workWarpBeats workWarpLengths : List Float}
+      → Fronts (mergedLists format tempoBeats tempoValues stopBeats stopValues warpBeats warpLengths) outcome workTempoBeats workTempoValues workStopBeats workStopValues workWarpBeats workWarpLengths
+      → Held format (take (outcome .stops) workStopValues)
+  stops-held f is = rw (f .stopValuesAre, is) (values-f32 tempoBeats tempoValues stopBeats stopValues (two-taken .0) .1)
 
 -- lists that are taken are short
 pub lengths-few : (tempoBeats tempoValues stopBeats stopValues warpBeats warpLengths : List Float) → threeNumber tempoBeats tempoValues stopBeats stopValues warpBeats warpLengths ≡ 0 → (length tempoBeats ≤ 1024) × (length stopBeats ≤ 1024) × (length warpBeats ≤ 1024)

@@ -1,18 +1,31 @@
 -- What the functions inside ask of each other. Definitions only.
 use Prim.Native.Nat.{ℕ, _≤_}
+use mathlib.Core.Bool.{Bool, true, not, _&&_}
 use mathlib.Core.List.{List, map}
 use mathlib.Core.Path.{_≡_}
 use lib.ListN.{length}
-use lib.Ieee.{Float}
+use lib.Ieee.{Float, binary32, fits, isNan}
 use Rattle.rows.specs.Rows.{quantized}
+use Rattle.limits.specs.Numbers.{every}
 use Rattle.order.specs.Entries.{entries}
 use Rattle.tidy_rows.specs.RowTidying.{rowsNumber}
 use Rattle.raw_lists.specs.RawLists.{roomFor}
+use Rattle.by_format.specs.declared.TimingFormat.{TimingFormat}
+use Rattle.by_format.specs.declared.TimingFormat.the-variants.{Sm}
 use Rattle.by_format.specs.ByFormat.{Lists}
 
--- processed columns: of one length each, stops taken and on rows, and as many warps as a list may have are taken
+-- an f32, and no NaN
+abbrev pub heldF32 : Float → Bool
+heldF32 x = fits binary32 x && not (isNan x)
+
+-- of SM each is
+abbrev pub Held : TimingFormat → List Float → Type 0
+Held format values = format ≡ Sm → every heldF32 values ≡ true
+
+-- processed columns: of one length each, tempos on rows, stops taken and on rows, and as many warps as a list may have are taken
 pub record Processed (tempoBeats tempoValues stopBeats stopValues warpBeats warpLengths : List Float) : Type 0 where
   pub tempos : length tempoBeats ≡ length tempoValues
+  pub temposOnRows : map quantized tempoBeats ≡ tempoBeats
   pub stops : rowsNumber stopBeats stopValues ≡ 0
   pub onRows : map quantized stopBeats ≡ stopBeats
   pub even : length warpBeats ≡ length warpLengths

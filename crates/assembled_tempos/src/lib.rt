@@ -2,13 +2,14 @@
 use by_format::TimingFormat;
 use columns::Outcome;
 ghost use mathlib.Core.Path.{_≡_};
-ghost use mathlib.Core.Bool.{false};
+ghost use mathlib.Core.Bool.{true, false};
 ghost use mathlib.Core.List.{map};
 ghost use Prim.Native.Nat.{_≤_, min};
 ghost use lib.ListN.{length};
 ghost use lib.Ieee.{Float, lt};
 ghost use Rattle.rows.specs.Rows.{quantized};
-ghost use Rattle.limits.specs.Numbers.{miss};
+ghost use Rattle.ieee.specs.Narrowing.{narrow};
+ghost use Rattle.limits.specs.Numbers.{miss, every};
 ghost use Rattle.limits.specs.Neighbours.{everyTwo};
 ghost use Rattle.columns.specs.Each.{laidEach};
 ghost use Rattle.tidy_rows.specs.RowTidying.{rowsNumber};
@@ -17,7 +18,7 @@ ghost use Rattle.picks.specs.Pick.{pick};
 ghost use Rattle.limits.specs.Refusals.{lower};
 ghost use Rattle.merged_warps.specs.MergedWarps.{threeNumber, mergedLists};
 ghost use Rattle.assembled_tempos.specs.AssembledTempos.{threeRooms, ThreeLaid, nothingAssembled};
-ghost use Rattle.assembled_tempos.specs.Inside.{Processed, listsOf, WorkRooms};
+ghost use Rattle.assembled_tempos.specs.Inside.{heldF32, Held, Processed, listsOf, WorkRooms};
 
 // The refusal number of all lists, 0 where they are taken, how many entries of each list were written, and the seconds that beat 0 is moved by.
 #[repr(C)]
@@ -70,7 +71,7 @@ fn rooms_number(
     limits::lower_of(limits::lower_of(tempos, stops), warps)
 }
 
-// ---- stops, whose beats are on rows: each is an f32 already
+// ---- tempos and stops: beats are on rows, each an f32 already, and so are SM's values
 
 fn not_below(beat: f64, next: f64) -> usize
     ensures { λ r. ⌜ r ≡ miss (λ (e : Float × Float). lt (e .0) (e .1)) (beat, next) ⌝ }
@@ -91,9 +92,9 @@ fn rise(beats: &[f64]) -> bool
     fail == 0
 }
 
-// Each beat as an f32, in which it loses nothing.
+// Each number as an f32, in which it loses nothing.
 fn cast_column(from: &[f64], to: &mut [f32])
-    requires { ⌜ map quantized (now from) ≡ now from ⌝ }
+    requires { ⌜ every heldF32 (now from) ≡ true ⌝ }
     ensures { λ _. ⌜ now (to .exit) ≡ laidEach (λ (x : Float). x) (now (from .entry)) (now (to .entry)) ⌝ }
 {
     let n = columns::room_of(from.len(), to.len());
@@ -104,14 +105,26 @@ fn cast_column(from: &[f64], to: &mut [f32])
     }
 }
 
+// Each value as an f32.
+fn narrow_values(format: TimingFormat, from: &[f64], to: &mut [f32])
+    requires { ⌜ Held format (now from) ⌝ }
+    ensures { λ _. ⌜ now (to .exit) ≡ laidEach narrow (now (from .entry)) (now (to .entry)) ⌝ }
+{
+    match format {
+        TimingFormat::Sm => cast_column(from, to),
+        TimingFormat::Ssc => assembled_rows::narrow_column(from, to),
+    }
+}
+
 // As `assembled_rows::assemble_untested`, which quantises.
 fn assemble_stops(
+    format: TimingFormat,
     beats: &[f64],
     values: &[f64],
     out_beats: &mut [f32],
     out_values: &mut [f32],
 ) -> Outcome
-    requires { ⌜ (rowsNumber (now beats) (now values) ≡ 0) × (map quantized (now beats) ≡ now beats) ⌝ }
+    requires { ⌜ (rowsNumber (now beats) (now values) ≡ 0) × (map quantized (now beats) ≡ now beats) × Held format (now values) ⌝ }
     ensures { λ r. ⌜ RowsUntested false (now (beats .entry)) (now (values .entry)) r (now («out_beats» .entry)) (now («out_beats» .exit)) (now («out_values» .entry)) (now («out_values» .exit)) ⌝ }
 {
     if beats.len() > columns::room_of(out_beats.len(), out_values.len()) {
@@ -119,7 +132,7 @@ fn assemble_stops(
     }
     if rise(beats) {
         cast_column(beats, out_beats);
-        assembled_rows::narrow_column(values, out_values);
+        narrow_values(format, values, out_values);
         return Outcome {
             number: limits::TAKEN,
             count: beats.len(),
@@ -132,6 +145,7 @@ fn assemble_stops(
 
 // Every test before anything is written.
 fn lay_lists(
+    format: TimingFormat,
     later: u32,
     most_warps: usize,
     offset: f64,
@@ -148,7 +162,7 @@ fn lay_lists(
     out_warp_beats: &mut [f32],
     out_warp_lengths: &mut [f32],
 ) -> AssembledTempos
-    requires { ⌜ Processed (now «tempo_beats») (now «tempo_values») (now «stop_beats») (now «stop_values») (now «warp_beats») (now «warp_lengths») ⌝ }
+    requires { ⌜ Processed (now «tempo_beats») (now «tempo_values») (now «stop_beats») (now «stop_values») (now «warp_beats») (now «warp_lengths») × Held format (now «tempo_values») × Held format (now «stop_values») ⌝ }
     ensures { λ r. ⌜ ThreeLaid 0 later «most_warps» (listsOf (now («tempo_beats» .entry)) (now («tempo_values» .entry)) (now («stop_beats» .entry)) (now («stop_values» .entry)) (now («warp_beats» .entry)) (now («warp_lengths» .entry)) offset) r (now («out_tempo_beats» .entry)) (now («out_tempo_beats» .exit)) (now («out_tempo_values» .entry)) (now («out_tempo_values» .exit)) (now («out_stop_beats» .entry)) (now («out_stop_beats» .exit)) (now («out_stop_values» .entry)) (now («out_stop_values» .exit)) (now («out_warp_beats» .entry)) (now («out_warp_beats» .exit)) (now («out_warp_lengths» .entry)) (now («out_warp_lengths» .exit)) ⌝ }
 {
     if warp_beats.len() > columns::room_of(most_warps, limits::MOST_ENTRIES) {
@@ -169,15 +183,15 @@ fn lay_lists(
     if number != limits::TAKEN {
         return refused(number);
     }
-    let tempos = assembled_rows::lay_narrowed(
-        limits::TAKEN,
-        tempo_beats.len(),
-        tempo_beats,
-        tempo_values,
-        out_tempo_beats,
-        out_tempo_values,
+    cast_column(tempo_beats, out_tempo_beats);
+    narrow_values(format, tempo_values, out_tempo_values);
+    let stops = assemble_stops(
+        format,
+        stop_beats,
+        stop_values,
+        out_stop_beats,
+        out_stop_values,
     );
-    let stops = assemble_stops(stop_beats, stop_values, out_stop_beats, out_stop_values);
     let warps = assembled_rows::assemble_untested(
         warp_beats,
         warp_lengths,
@@ -187,7 +201,7 @@ fn lay_lists(
     );
     AssembledTempos {
         number: limits::TAKEN,
-        tempos: tempos.count,
+        tempos: tempo_beats.len(),
         stops: stops.count,
         warps: warps.count,
         offset: ieee::narrow_f64(offset),
@@ -246,6 +260,7 @@ fn assemble_in(
     let stops = processed.stops;
     let warps = processed.warps;
     lay_lists(
+        format,
         later,
         most_warps,
         processed.offset,

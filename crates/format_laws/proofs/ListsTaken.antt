@@ -1,13 +1,11 @@
 -- Of raw lists that are taken, the processed ones are no longer than they may be, and are taken further on: stops by row tidying, made warps by their beats and lengths. Assumes nothing.
 use Prim.Native.Nat.{ℕ, _+_, _≤_, max}
 use mathlib.Core.Path.{_≡_, refl, _∙_}
-use mathlib.Core.Bool.{Bool, true, false}
+use mathlib.Core.Bool.{true}
 use mathlib.Core.List.{List, [], _∷_, map}
 use native.Mathlib.Omega.{arith}
 use lib.ListN.{length, length-map}
-use lib.Ieee.{Float, le, lt, eq, neg}
-use borrow.Author.Tests.{ne-eqb}
-use Rattle.picks.specs.Pick.{pick}
+use lib.Ieee.{Float}
 use Rattle.ieee.proofs.Magnitude.{sized-within}
 use Rattle.rows.specs.Rows.{quantized}
 use Rattle.limits.specs.declared.Range.{Range}
@@ -21,7 +19,6 @@ use Rattle.limits.proofs.TempoSizes.{tempo-at-most}
 use Rattle.order.specs.Entries.{entries, first, second}
 use Rattle.order.proofs.EachEntry.{each-so}
 use Rattle.columns.proofs.KeptLaid.{few-kept}
-use Rattle.tidy_tempos.specs.TempoTidying.{beatZero, sixty}
 use Rattle.raw_lists.specs.RawLists.{rawNumber, rawNumbers}
 use Rattle.raw_lists.proofs.BothTaken.{both-taken}
 use Rattle.process_ssc.specs.Ssc.{staysSsc, onRow, stayed}
@@ -41,7 +38,9 @@ use Rattle.sm_lent.specs.Sm.{written}
 use Rattle.process_sm.proofs.FewTidied.{entries-few, few-tidied}
 use Rattle.by_format.specs.declared.TimingFormat.{TimingFormat}
 use Rattle.by_format.specs.declared.TimingFormat.the-variants.{Sm, Ssc}
-use Rattle.by_format.specs.ByFormat.{Lists, noneGiven, tempoBeatsOf, tempoValuesOf, listsBy, processedLists}
+use Rattle.by_format.specs.ByFormat.{Lists, tempoBeatsOf, tempoValuesOf, listsBy, processedLists}
+use Rattle.format_laws.proofs.NoneGiven.{given-number, given-length}
+use Rattle.format_laws.proofs.ChangesF32.{changes-f32, all-f32}
 use Rattle.format_laws.proofs.StopsOnRows.{sm-on-rows, ssc-on-rows}
 
 -- what is true of processed lists
@@ -99,7 +98,7 @@ module _ (tempoBeats tempoValues stopBeats stopValues : List Float) (t : rawNumb
         fewStops = omega (arith, few .stops);
         fewWarps = omega (arith, few .warps);
         stops = sm-stops-taken tempoBeats tempoValues stopBeats stopValues both;
-        onRows = sm-on-rows T S (each-so changeKey {P = GoodChange} {Q = λ (change : Change). beats.Beat (beatAt change)} (λ e g. g .0) (left T S (openingPlaces T S)) good);
+        onRows = sm-on-rows T S (each-so changeKey {P = GoodChange} {Q = λ (change : Change). beats.Beat (beatAt change)} (λ e g. g .0) (left T S (openingPlaces T S)) good) (all-f32 T S (changes-f32 tempoBeats tempoValues) (changes-f32 stopBeats stopValues));
         warpBeats = sm-warps-taken tempoBeats tempoValues stopBeats stopValues both .0;
         warpLengths = sm-warps-taken tempoBeats tempoValues stopBeats stopValues both .1;
       }
@@ -109,24 +108,6 @@ by-format Sm tempoBeats tempoValues stopBeats stopValues h = sm-taken tempoBeats
 by-format Ssc tempoBeats tempoValues stopBeats stopValues h = ssc-taken tempoBeats tempoValues stopBeats stopValues (both-taken h .tempos) (both-taken h .stops) h
 
 -- ---- with 60 at beat 0 where no tempo is given
-
-sixty-taken : rawNumber (beatZero ∷ []) (sixty ∷ []) ≡ rawNumber [] []
-unfolding listNumber every inRange le lt eq neg
-sixty-taken = refl
-
-given-number : (beats values stopBeats stopValues : List Float) → rawNumbers (tempoBeatsOf beats values) (tempoValuesOf beats values) stopBeats stopValues ≡ rawNumbers beats values stopBeats stopValues
-unfolding tempoBeatsOf tempoValuesOf
-given-number [] [] stopBeats stopValues = rw sixty-taken
-given-number [] (v ∷ values) stopBeats stopValues = rw (ne-eqb (length (v ∷ values)) 0 (λ e. omega arith))
-given-number (b ∷ beats) values stopBeats stopValues = rw (ne-eqb (length (b ∷ beats)) 0 (λ e. omega arith))
-
-given-length : (beats values : List Float) → length (tempoBeatsOf beats values) ≤ max (length beats) 1
-unfolding tempoBeatsOf
-given-length beats values = go (noneGiven beats values)
-  where
-    go : (t : Bool) → length (pick t (beatZero ∷ []) beats) ≤ max (length beats) 1
-    go true = omega arith
-    go false = omega arith
 
 pub lists-taken : (format : TimingFormat) (tempoBeats tempoValues stopBeats stopValues : List Float) → rawNumbers tempoBeats tempoValues stopBeats stopValues ≡ 0
     → ListsTaken (max (length tempoBeats) 1) (length stopBeats) (processedLists format tempoBeats tempoValues stopBeats stopValues)

@@ -1,4 +1,4 @@
--- Stops that are processed lie on rows: quantising their beats again changes nothing. Assumes nothing.
+-- Stops that are processed lie on rows: quantising their beats again changes nothing. In SM their lengths are f32s. Assumes nothing.
 use mathlib.Core.Path.{_≡_, refl, sym, ap, _∙_, subst}
 use mathlib.Core.Bool.{Bool, true, false, _&&_}
 use mathlib.Core.List.{List, [], _∷_, _++_, map}
@@ -6,8 +6,8 @@ use Prim.Native.Nat.{ℕ}
 use native.Mathlib.Omega.{arith}
 use lib.Dec.{T}
 use lib.IntN.{pos}
-use lib.Ieee.{Float, nan, inf, fin, binary32, ofInt, lt, add, le}
-use lib.Ieee.Fits.{div-fits}
+use lib.Ieee.{Float, nan, inf, fin, binary32, ofInt, lt, add}
+use lib.Ieee.Fits.{div-fits, add-fits}
 use lib.Ieee.Scale.{finite}
 use Rattle.picks.specs.Pick.{pick}
 use Rattle.ieee.proofs.Narrow.{narrow-own}
@@ -28,9 +28,8 @@ use Rattle.sm_machine.specs.declared.Warp.{Warp}
 use Rattle.sm_machine.specs.declared.Warp.the-variants.{Closed, Open}
 use Rattle.sm_machine.specs.declared.State.{State}
 use Rattle.sm_machine.specs.declared.Written.{Written}
-use Rattle.sm_machine.specs.declared.Written.the-variants.{Nothing, One}
 use Rattle.sm_machine.specs.declared.Moved.{Moved}
-use Rattle.sm_machine.specs.Machine.{naught, fits, entryAt, still, openChart, owedAt, keepWarp, closeByTime, passInWarp, passBy, pass, tempoOutside, tempoBy, meetTempo, stopOutside, closeByStop, beginAgain, stopInWarp, stopBy, meetStop, beatAt, meet, passed, met, finishWarp, finishBy, finish}
+use Rattle.sm_machine.specs.Machine.{naught, fits, entryAt, openChart, owedAt, keepWarp, closeByTime, passInWarp, passBy, pass, tempoOutside, tempoBy, meetTempo, stopOutside, closeByStop, beginAgain, stopInWarp, stopBy, meetStop, beatAt, meet, passed, met, finishWarp, finishBy, finish}
 use Rattle.sm_machine.proofs.Either.{either}
 use Rattle.sm_machine.proofs.Reached.{pass-reaches}
 use Rattle.sm_walk.specs.Chart.{listOf, walk, processed, openingTempo, openingPlaces}
@@ -38,22 +37,26 @@ use Rattle.sm_walk.specs.Changes.{left}
 use Rattle.sm_laws.specs.Beats.{Beat, beatKey}
 use Rattle.sm_laws.proofs.Segments.{each-append}
 use Rattle.sm_laws.proofs.ChangesInOrder.{changeKey}
+use Rattle.format_laws.proofs.ChangesF32.{F32, ValueF32, ChangeF32}
 
-abbrev OnItsRow : Float × Float → Type 0
+abbrev pub OnItsRow : Float × Float → Type 0
 OnItsRow e = quantized (e .0) ≡ e .0
 
 -- an f32 beat that is quantised
-on-its-row : (beat : Float) → T (allowedBeat beat) → quantized (quantized32 beat) ≡ quantized32 beat
+pub on-its-row : (beat : Float) → T (allowedBeat beat) → quantized (quantized32 beat) ≡ quantized32 beat
 on-its-row beat h =
     ap (λ (x : Float). quantized32 x) (narrow-own (quantized32 beat) (div-fits binary32 (ofInt binary32 (row binary32 beat)) (ofInt binary32 (pos 48)))) ∙ quantized32-twice beat h
 
--- ---- SM: a stop is written at the beat that is reached, on its row
+-- ---- SM: a stop is written at the beat that is reached, on its row, with a length that is given or a sum
+
+abbrev SmStop : Float × Float → Type 0
+SmStop e = OnItsRow e × ValueF32 e
 
 abbrev On : Written → Type 0
-On w = Each (beatKey binary32) OnItsRow (listOf w)
+On w = Each (beatKey binary32) SmStop (listOf w)
 
-entry-on : (beat value : Float) → Beat beat → On (entryAt beat value)
-entry-on beat value b = (on-its-row beat (b .allowed), tt)
+entry-on : (beat value : Float) → Beat beat → F32 value → On (entryAt beat value)
+entry-on beat value b v = ((on-its-row beat (b .allowed), v), tt)
 
 none-in-passing : (state : State) (beat : Float) → On (pass state beat .stop)
 unfolding pass passInWarp closeByTime keepWarp
@@ -63,15 +66,15 @@ none-in-passing state beat = go (state .warp)
     go Closed = tt
     go (Open warp) = either (λ (m : Moved). On (m .stop)) (fits (state .tempo) && lt naught (owedAt (state .tempo) (state .beat) (warp .owed) beat)) _ _ tt tt
 
-stop-on : (state : State) (length : Float) → Beat (state .beat) → On (meetStop state length .stop)
+stop-on : (state : State) (length : Float) → Beat (state .beat) → F32 length → On (meetStop state length .stop)
 unfolding meetStop stopOutside stopInWarp closeByStop beginAgain keepWarp
-stop-on state length b = go (state .warp)
+stop-on state length b v = go (state .warp)
   where
     go : (warp : Warp) → On (stopBy warp (state .tempo) (state .beat) length .stop)
-    go Closed = either (λ (m : Moved). On (m .stop)) (lt length naught) _ _ tt (entry-on (state .beat) length b)
+    go Closed = either (λ (m : Moved). On (m .stop)) (lt length naught) _ _ tt (entry-on (state .beat) length b v)
     go (Open warp) =
         either (λ (m : Moved). On (m .stop)) (lt naught length && lt naught (add binary32 (warp .owed) length)) _ _
-        (either (λ (m : Moved). On (m .stop)) (fits (state .tempo)) _ _ (entry-on (state .beat) (add binary32 (warp .owed) length) b) (entry-on (state .beat) (add binary32 (warp .owed) length) b)) tt
+        (either (λ (m : Moved). On (m .stop)) (fits (state .tempo)) _ _ (entry-on (state .beat) (add binary32 (warp .owed) length) b (add-fits binary32 (warp .owed) length)) (entry-on (state .beat) (add binary32 (warp .owed) length) b (add-fits binary32 (warp .owed) length))) tt
 
 none-at-tempo : (state : State) (tempo : Float) → On (meetTempo state tempo .stop)
 unfolding meetTempo tempoOutside
@@ -81,9 +84,9 @@ none-at-tempo state tempo = go (state .warp)
     go Closed = either (λ (m : Moved). On (m .stop)) (fits tempo) _ _ tt tt
     go (Open warp) = tt
 
-meet-on : (state : State) (change : Change) → Beat (state .beat) → On (meet state change .stop)
-meet-on state (Tempo entry) b = none-at-tempo state (entry .value)
-meet-on state (Stop entry) b = stop-on state (entry .value) b
+meet-on : (state : State) (change : Change) → Beat (state .beat) → ChangeF32 change → On (meet state change .stop)
+meet-on state (Tempo entry) b v = none-at-tempo state (entry .value)
+meet-on state (Stop entry) b v = stop-on state (entry .value) b v
 
 none-at-the-end : (state : State) → On (finish state .stop)
 unfolding finish finishWarp
@@ -93,26 +96,29 @@ none-at-the-end state = go (state .warp)
     go Closed = tt
     go (Open warp) = tt
 
-walk-on : (changes : List Change) (state : State) → Each changeKey (λ (change : Change). Beat (beatAt change)) changes → Each (beatKey binary32) OnItsRow (walk changes state .stops)
+walk-on : (changes : List Change) (state : State) → Each changeKey (λ (change : Change). Beat (beatAt change)) changes → Each changeKey ChangeF32 changes → Each (beatKey binary32) SmStop (walk changes state .stops)
 unfolding walk
-walk-on [] state b = none-at-the-end state
-walk-on (change ∷ changes) state b =
+walk-on [] state b v = none-at-the-end state
+walk-on (change ∷ changes) state b v =
     let here : Beat (passed state change .state .beat) = subst Beat (sym (pass-reaches state (beatAt change))) (b .0) in
-    each-append (beatKey binary32) OnItsRow (listOf (passed state change .stop) ++ listOf (met state change .stop)) (walk changes (met state change .state) .stops)
-    (each-append (beatKey binary32) OnItsRow (listOf (passed state change .stop)) (listOf (met state change .stop)) (none-in-passing state (beatAt change)) (meet-on (passed state change .state) change here))
-    (walk-on changes (met state change .state) (b .1))
+    each-append (beatKey binary32) SmStop (listOf (passed state change .stop) ++ listOf (met state change .stop)) (walk changes (met state change .state) .stops)
+    (each-append (beatKey binary32) SmStop (listOf (passed state change .stop)) (listOf (met state change .stop)) (none-in-passing state (beatAt change)) (meet-on (passed state change .state) change here (v .0)))
+    (walk-on changes (met state change .state) (b .1) (v .1))
 
-module _ (tempos stops : List (Float × Float)) (beats : Each changeKey (λ (change : Change). Beat (beatAt change)) (left tempos stops (openingPlaces tempos stops))) where
-  stops-on : Each (beatKey binary32) OnItsRow (processed tempos stops .stops)
+module _ (tempos stops : List (Float × Float)) (beats : Each changeKey (λ (change : Change). Beat (beatAt change)) (left tempos stops (openingPlaces tempos stops))) (values : Each changeKey ChangeF32 (left tempos stops (openingPlaces tempos stops))) where
+  stops-on : Each (beatKey binary32) SmStop (processed tempos stops .stops)
   unfolding openChart
-  stops-on = walk-on (left tempos stops (openingPlaces tempos stops)) (openChart (openingTempo tempos) .state) beats
+  stops-on = walk-on (left tempos stops (openingPlaces tempos stops)) (openChart (openingTempo tempos) .state) beats values
 
   pub sm-on-rows : map quantized (map first (processed tempos stops .stops)) ≡ map first (processed tempos stops .stops)
   sm-on-rows = go (processed tempos stops .stops) stops-on
     where
-      go : (list : List (Float × Float)) → Each (beatKey binary32) OnItsRow list → map quantized (map first list) ≡ map first list
+      go : (list : List (Float × Float)) → Each (beatKey binary32) SmStop list → map quantized (map first list) ≡ map first list
       go [] h = refl
-      go (e ∷ list) h = rw (h .0, go list (h .1))
+      go (e ∷ list) h = rw (h .0 .0, go list (h .1))
+
+  pub sm-lengths-f32 : Each (beatKey binary32) ValueF32 (processed tempos stops .stops)
+  sm-lengths-f32 = each-so (beatKey binary32) (λ e h. h .1) (processed tempos stops .stops) stops-on
 
 -- ---- SSC: what stays is quantised
 

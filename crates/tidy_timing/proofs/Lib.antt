@@ -1,6 +1,5 @@
 pub mod RowLists
 pub mod TidiedTempos
-pub mod TemposOnGrid
 pub mod ProcessedTempos
 pub mod FlatStops
 pub mod TidyTiming

@@ -3,7 +3,7 @@ use Prim.Native.Nat.{_≤_, min}
 use mathlib.Core.Path.{sym, _∙_}
 use native.Mathlib.Omega.{arith}
 use lib.ListN.{length}
-use Rattle.assembled_tempos.proofs.OnRows.{laid-as-they-are}
+use Rattle.assembled_tempos.proofs.OnRows.{on-row-held, laid-as-they-are}
 use borrow.Author.Needs.{needs}
 use Rattle.assembled_tempos.proofs.assemble_stops.Statement.{statement}
 use Rattle.assembled_tempos.proofs.assemble_stops.Tie as tie
@@ -27,10 +27,10 @@ rise-requires : tie.Need-rise-requires
 rise-requires c κs = search needs
 
 cast-column-requires : tie.Need-cast-column-requires
-cast-column-requires c κs = c .before .before .before .before .before .before .before .before .before .pre .1
+cast-column-requires c κs = on-row-held (c .before .before .before .before .before .before .before .before .before .args .beats .now) (c .before .before .before .before .before .before .before .before .before .pre .1)
 
-narrow-column-requires : tie.Need-narrow-column-requires
-narrow-column-requires c κs = search needs
+narrow-values-requires : tie.Need-narrow-values-requires
+narrow-values-requires c κs = c .before .before .before .before .before .before .before .before .before .before .before .before .before .pre .2
 
 same-length-3 : tie.Need-same-length-3
 same-length-3 c = search needs
@@ -43,7 +43,7 @@ returns-2 c =
     let given = c .before .before .before .before .before .before .before .before .before .before .before .before .before .before .before .before .args in
     let room : length (given .beats .now) ≤ min (length (given .out-beats .now)) (length (given .out-values .now)) = omega (arith, c .before .before .before .before .before .before .before .before .before .before .if1 .left, c .before .before .before .before .before .before .before .before .before .before .before .room-of .ensures) in
     let laid = laid-as-they-are (given .beats .now) (given .values .now) (given .out-beats .now) (given .out-values .now) (c .before .before .before .before .before .before .before .before .before .before .before .before .before .before .before .before .pre .0) (c .before .before .before .before .before .before .before .before .before .before .before .before .before .before .before .before .pre .1) (sym (c .before .before .before .before .before .before .before .before .before .rise .ensures) ∙ c .before .before .before .before .before .before .before .before .if2 .taken) room in
-    record { number = laid .number; count = laid .count; firstIs = c .before .before .before .before .before .before .cast-column .ensures ∙ laid .firstIs; secondIs = c .before .before .narrow-column .ensures ∙ laid .secondIs }
+    record { number = laid .number; count = laid .count; firstIs = c .before .before .before .before .before .before .cast-column .ensures ∙ laid .firstIs; secondIs = c .before .before .narrow-values .ensures ∙ laid .secondIs }
 
 assemble-untested-requires-2 : tie.Need-assemble-untested-requires-2
 assemble-untested-requires-2 c κs = search needs
@@ -68,7 +68,7 @@ assemble-stops-spec =
     returns
     rise-requires
     cast-column-requires
-    narrow-column-requires
+    narrow-values-requires
     same-length-3
     same-length-4
     returns-2

@@ -4,7 +4,7 @@ use mathlib.Core.Path.{refl}
 use native.Mathlib.Omega.{arith}
 use lib.Ieee.{Float, nan}
 use Rattle.columns.proofs.LaidEach.{LayingEach, begun, turned, ended}
-use Rattle.assembled_tempos.proofs.OnRows.{on-row-f32}
+use Rattle.assembled_tempos.proofs.OnRows.{held-at}
 use borrow.Author.Needs.{needs}
 use Rattle.assembled_tempos.proofs.cast_column.Statement.{statement}
 use Rattle.assembled_tempos.proofs.cast_column.Tie as tie
@@ -28,7 +28,7 @@ shared-slice-read-to : tie.Need-shared-slice-read-to Inv-loop μ-loop
 shared-slice-read-to c = search needs
 
 float-to-float-to : tie.Need-float-to-float-to Inv-loop μ-loop
-float-to-float-to c = on-row-f32 (c .before .before .before .before .before .before .before .args .from .now) (c .before .before .before .before .before .before .before .pre) (c .before .before .before .loop .i) (omega (arith, c .before .before .before .loop .inv .long, c .before .before .before .before .room-of .ensures, c .before .before .loop-test .taken))
+float-to-float-to c = held-at (c .before .before .before .before .before .before .before .args .from .now) (c .before .before .before .before .before .before .before .pre) (c .before .before .before .loop .i) (omega (arith, c .before .before .before .loop .inv .long, c .before .before .before .before .room-of .ensures, c .before .before .loop-test .taken))
 
 mul-to-2 : tie.Need-mul-to-2 Inv-loop μ-loop
 mul-to-2 c = search needs

@@ -2,36 +2,36 @@
 use Prim.Native.Nat.{ℕ, _*_, _≤_}
 use mathlib.Core.Path.{_≡_, refl, sym, ap, _∙_, subst}
 use mathlib.Core.Bool.{Bool, true, false, _&&_}
-use mathlib.Core.List.{List, [], _∷_, _++_, map}
+use mathlib.Core.List.{List, [], _∷_, _++_}
 use native.Mathlib.Omega.{arith}
 use borrow.Author.Tests.{ne-eqb, ltb-true, leb-true}
-use lib.Dec.{T, eqb, leb}
-use lib.IntN.{pos}
-use lib.Ieee.{Float, nan, inf, fin, binary32, binary64, ofInt, ofBits, lt, le, eq, neg, add, fits, up, down, below, level}
+use lib.Dec.{T}
+use lib.IntN.{ℤ}
+use lib.Ieee.{Float, nan, inf, fin, binary32, binary64, ofInt, ofBits, lt, le, eq, neg, add, div, fits, up, down}
 use lib.Ieee.Bits.{is-true}
-use lib.Ieee.Fits.{div-fits}
 use lib.Ieee.Scale.{finite}
 use Rattle.picks.specs.Pick.{pick}
 use Rattle.ieee.specs.Narrowing.{narrow}
+use Rattle.ieee.specs.Magnitude.{withinPower}
 use Rattle.ieee.proofs.Narrow.{narrow-own, narrow-fits, narrow-keeps-order}
-use Rattle.rows.specs.Rows.{row, quantized, quantized32, allowedBeat}
-use Rattle.rows.proofs.Quantizing.{narrow-allowed, quantized32-twice, quantized-twice, quantized-allowed}
+use Rattle.rows.specs.Rows.{beatOf, quantized, quantized32, allowedBeat}
+use Rattle.rows.proofs.RowOfZero.{row-of-zero}
+use Rattle.rows.proofs.Quantizing.{narrow-allowed, quantized-twice, quantized-allowed}
 use Rattle.limits.specs.declared.Kind.the-variants as kind
 use Rattle.limits.specs.declared.Kind.the-variants.{RawBeat, RawTempo}
 use Rattle.limits.specs.Numbers.{rangeOf, inRange, allIn, every, upTo}
 use Rattle.limits.proofs.Every.{every-rest}
 use Rattle.limits.proofs.TakenWithin.{taken-within, finite-taken}
-use Rattle.order.specs.Order.{From, NeverFalls}
-use Rattle.order.specs.Entries.{entries, first, second}
+use Rattle.order.specs.Order.{From}
+use Rattle.order.specs.Entries.{entries}
 use Rattle.order.specs.FloatKey.{floatKey}
-use Rattle.order.proofs.OrderedList.{Each, each-ordered}
+use Rattle.order.proofs.OrderedList.{Each}
 use Rattle.columns.specs.Kept.{kept}
 use Rattle.tidy_tempos.specs.TempoTidying.{beatKeyOf, beatZero}
 use Rattle.process_ssc.specs.Ssc as ssc
 use Rattle.raw_lists.specs.RawLists.{rawNumber}
-use Rattle.limits.proofs.ListTaken.{list-taken}
 use Rattle.sm_changes.specs.SmChanges as changes
-use Rattle.sm_changes.proofs.Narrowed.{stays-says, value-taken}
+use Rattle.sm_changes.proofs.Narrowed.{value-taken}
 use Rattle.sm_machine.specs.declared.Change.{Change}
 use Rattle.sm_machine.specs.declared.Change.the-variants.{Tempo, Stop}
 use Rattle.sm_machine.specs.declared.Opened.{Opened}
@@ -49,14 +49,34 @@ use Rattle.sm_walk.specs.Changes.{left}
 use Rattle.sm_laws.proofs.Segments.{each-append}
 use Rattle.sm_laws.proofs.ArrowsKeepOrder.{OneOf}
 use Rattle.sm_laws.proofs.WrittenInOrder.{all-behind}
-use Rattle.sm_bounds.proofs.ChangesTaken.{changes-good, changes-most, in-order, on-beats}
+use Rattle.sm_bounds.proofs.ChangesTaken.{changes-good, changes-most, in-order, on-beats, tempos-in}
 use Rattle.sm_bounds.proofs.ArrowsKeepBounds.{WarpWithin, Within}
 use Rattle.sm_bounds.proofs.WalkWithin.{Along, all-states}
 use Rattle.sm_laws.specs.Beats.{Beat, beatKey, at, spot}
 use Rattle.sm_laws.proofs.BeatsOnRows.{at-le, spot-mono}
-use Rattle.tidy_timing.proofs.TidiedTempos.{OnGrid, zero-on-row, zero-allowed}
+use Rattle.format_laws.proofs.ChangesF32.{F32, ValueF32, changes-f32}
+use Rattle.format_laws.proofs.StopsOnRows.{OnItsRow, on-its-row}
+
+-- an f32 beat on its row, not before 0, with a tempo of a kind
+pub record OnGrid (Kind : Float → Type 0) (e : Float × Float) : Type 0 where
+  pub onRow : quantized (e .0) ≡ e .0
+  pub allowed : T (allowedBeat (e .0))
+  pub forth : floatKey binary64 beatZero ≤ floatKey binary64 (e .0)
+  pub tempo : Kind (e .1)
+
+-- one that the clock takes, narrowed or not
+abbrev pub Narrowed : Float → Type 0
+Narrowed v = inRange (rangeOf kind.Tempo) (narrow v) ≡ true
 
 -- ---- beats from 0 on
+
+pub zero-on-row : quantized beatZero ≡ beatZero
+unfolding div ofInt narrow
+zero-on-row = ap (λ (r : ℤ). beatOf binary32 r) (row-of-zero binary32 (narrow beatZero) (unfold eq in refl))
+
+pub zero-allowed : T (allowedBeat beatZero)
+unfolding withinPower le
+zero-allowed = tt
 
 zero-beat : Beat beatZero
 unfolding fits
@@ -90,14 +110,14 @@ above-nothing (inf s) h = refl
 above-nothing (fin true m e) h = let z : _≡_ {A = ℕ} 0 1 = cc in absurd (omega arith)
 above-nothing (fin false m e) h = rw (ne-eqb (m * up e * 1) (0 * 1 * down e) (λ z. omega (arith, ltb-true (0 * 1 * down e) (m * up e * 1) h)))
 
-ssc-one : (beat value : Float) → ssc.staysSsc (beat, value) ≡ true → inRange (rangeOf RawBeat) beat ≡ true → inRange (rangeOf RawTempo) value ≡ true → OnGrid (quantized beat, value)
+ssc-one : (beat value : Float) → ssc.staysSsc (beat, value) ≡ true → inRange (rangeOf RawBeat) beat ≡ true → inRange (rangeOf RawTempo) value ≡ true → OnGrid Narrowed (quantized beat, value)
 unfolding ssc.staysSsc
 ssc-one beat value h b v =
     let says = four (finite beat) (finite value) (le ssc.zero beat) (lt ssc.zero value) h in
     let allowed : T (allowedBeat beat) = taken-within 16 beat (sym (finite-taken (upTo 16) beat (says .0)) ∙ b) in
     record { onRow = quantized-twice beat allowed; allowed = quantized-allowed beat allowed; forth = forth-of beat allowed (says .2); tempo = value-taken false value (says .1) (above-nothing value (says .3)) v }
 
-pub ssc-grid : (beats values : List Float) → allIn (rangeOf RawBeat) beats ≡ true → allIn (rangeOf RawTempo) values ≡ true → Each beatKeyOf OnGrid (ssc.stayed beats values)
+pub ssc-grid : (beats values : List Float) → allIn (rangeOf RawBeat) beats ≡ true → allIn (rangeOf RawTempo) values ≡ true → Each beatKeyOf (OnGrid Narrowed) (ssc.stayed beats values)
 unfolding entries kept every
 ssc-grid [] values b v = tt
 ssc-grid (beat ∷ beats) [] b v = tt
@@ -106,22 +126,18 @@ ssc-grid (beat ∷ beats) (value ∷ values) b v =
     let vs = every-rest (inRange (rangeOf RawTempo)) value values v in
     go (ssc.staysSsc (beat, value)) refl (ssc-grid beats values (bs .1) (vs .1)) (λ h. ssc-one beat value h (bs .0) (vs .0))
   where
-    go : (t : Bool) → ssc.staysSsc (beat, value) ≡ t → Each beatKeyOf OnGrid (ssc.stayed beats values) → (ssc.staysSsc (beat, value) ≡ true → OnGrid (quantized beat, value))
-        → Each beatKeyOf OnGrid (pick t (ssc.onRow (beat, value) ∷ ssc.stayed beats values) (ssc.stayed beats values))
+    go : (t : Bool) → ssc.staysSsc (beat, value) ≡ t → Each beatKeyOf (OnGrid Narrowed) (ssc.stayed beats values) → (ssc.staysSsc (beat, value) ≡ true → OnGrid Narrowed (quantized beat, value))
+        → Each beatKeyOf (OnGrid Narrowed) (pick t (ssc.onRow (beat, value) ∷ ssc.stayed beats values) (ssc.stayed beats values))
     go true e rest one = (one e, rest)
     go false e rest one = rest
 
 -- ---- SM: a tempo is written at the beat that is reached, or where a warp starts, on its row
 
-abbrev OnItsRow : Float × Float → Type 0
-OnItsRow e = quantized (e .0) ≡ e .0
-
 abbrev On : Written → Type 0
 On w = Each (beatKey binary64) OnItsRow (listOf w)
 
 entry-on : (beat value : Float) → Beat beat → On (entryAt beat value)
-entry-on beat value b =
-    (ap (λ (x : Float). quantized32 x) (narrow-own (quantized32 beat) (div-fits binary32 (ofInt binary32 (row binary32 beat)) (ofInt binary32 (pos 48)))) ∙ quantized32-twice beat (b .allowed), tt)
+entry-on beat value b = (on-its-row beat (b .allowed), tt)
 
 after-warp : (warp : Opened) (tempo : Float) → Beat (warp .start) → On (tempoAfter warp tempo)
 unfolding tempoAfter
@@ -175,32 +191,24 @@ module _ (n : ℕ) where
       (walk-on changes (met state change .state) (a .2))
 
 -- all that is said of each tempo
-abbrev Narrowed : Float → Type 0
-Narrowed v = inRange (rangeOf kind.Tempo) (narrow v) ≡ true
+together : (Kind : Float → Type 0) (list : List (Float × Float)) → Each (beatKey binary64) OnItsRow list → Each (beatKey binary64) (OneOf binary64 Kind) list → From (beatKey binary64) (floatKey binary64 beatZero) list → Each beatKeyOf (OnGrid Kind) list
+together Kind [] a b f = tt
+together Kind (e ∷ list) a b f = (record { onRow = a .0; allowed = b .0 .0; forth = f .0; tempo = b .0 .1 }, together Kind list (a .1) (b .1) (f .1))
 
-together : (list : List (Float × Float)) → Each (beatKey binary64) OnItsRow list → Each (beatKey binary64) (OneOf binary64 Narrowed) list → From (beatKey binary64) (floatKey binary64 beatZero) list → Each beatKeyOf OnGrid list
-together [] a b f = tt
-together (e ∷ list) a b f = (record { onRow = a .0; allowed = b .0 .0; forth = f .0; tempo = b .0 .1 }, together list (a .1) (b .1) (f .1))
+-- SM's tempos are f32s that the clock takes
+abbrev pub SmTempo : Float → Type 0
+SmTempo v = (inRange (rangeOf kind.Tempo) v ≡ true) × F32 v
 
-given-values : (beats values : List Float) → allIn (rangeOf RawBeat) beats ≡ true → allIn (rangeOf RawTempo) values ≡ true → Each changes.beatKey32 (λ (e : Float × Float). Narrowed (e .1)) (changes.stayed beats values)
-unfolding entries kept every
-given-values [] values b v = tt
-given-values (beat ∷ beats) [] b v = tt
-given-values (beat ∷ beats) (value ∷ values) b v =
-    let bs = every-rest (inRange (rangeOf RawBeat)) beat beats b in
-    let vs = every-rest (inRange (rangeOf RawTempo)) value values v in
-    go (changes.staysSm (beat, value)) refl (given-values beats values (bs .1) (vs .1)) (vs .0)
-  where
-    go : (t : Bool) → changes.staysSm (beat, value) ≡ t → Each changes.beatKey32 (λ (e : Float × Float). Narrowed (e .1)) (changes.stayed beats values) → inRange (rangeOf RawTempo) value ≡ true
-        → Each changes.beatKey32 (λ (e : Float × Float). Narrowed (e .1)) (pick t (changes.narrowed (beat, value) ∷ changes.stayed beats values) (changes.stayed beats values))
-    go true h rest v =
-        let says = stays-says beat value h in
-        (subst (λ (x : Float). inRange (rangeOf kind.Tempo) x ≡ true) (sym (narrow-own (narrow value) (narrow-fits value))) (value-taken false value (says .valueFinite) (says .other) v), rest)
-    go false h rest v = rest
+pub sixty-taken : SmTempo sixty
+unfolding inRange ofBits lt le neg eq fits
+sixty-taken = (refl, tt)
 
-sixty-narrowed : Narrowed sixty
-unfolding inRange ofBits narrow lt le neg eq
-sixty-narrowed = refl
+pub sm-narrowed : (v : Float) → SmTempo v → Narrowed v
+sm-narrowed v h = subst (λ (x : Float). inRange (rangeOf kind.Tempo) x ≡ true) (sym (narrow-own v (h .1))) (h .0)
+
+sm-tempos : (list : List (Float × Float)) → Each changes.beatKey32 (λ (e : Float × Float). inRange (rangeOf kind.Tempo) (e .1) ≡ true) list → Each changes.beatKey32 ValueF32 list → Each changes.beatKey32 (λ (e : Float × Float). SmTempo (e .1)) list
+sm-tempos [] a b = tt
+sm-tempos (e ∷ list) a b = ((a .0, b .0), sm-tempos list (a .1) (b .1))
 
 module _ (tempoBeats tempoValues stopBeats stopValues : List Float) (t : rawNumber tempoBeats tempoValues ≡ 0) (s : rawNumber stopBeats stopValues ≡ 0) where
   abbrev T′ : List (Float × Float)
@@ -220,14 +228,11 @@ module _ (tempoBeats tempoValues stopBeats stopValues : List Float) (t : rawNumb
       naught-beat : Beat naught
       naught-beat = zero-beat
 
-  values-in : Each (beatKey binary32) (λ (e : Float × Float). Narrowed (e .1)) T′
-  values-in = let raw = list-taken t in each-ordered changes.beatKey32 (λ (e : Float × Float). Narrowed (e .1)) (changes.stayed tempoBeats tempoValues) (given-values tempoBeats tempoValues (raw .beatsIn) (raw .valuesIn))
-
-  pub sm-grid : Each beatKeyOf OnGrid (processed T′ S′ .tempos)
+  pub sm-grid : Each beatKeyOf (OnGrid SmTempo) (processed T′ S′ .tempos)
   unfolding openChart ofBits
   sm-grid =
-      let all = all-behind binary64 Narrowed T′ S′ (on-beats tempoBeats tempoValues t) (in-order tempoBeats tempoValues t) (on-beats stopBeats stopValues s) (in-order stopBeats stopValues s) sixty-narrowed values-in in
-      together (processed T′ S′ .tempos) on-rows (all .temposAre) (from-zero (processed T′ S′ .tempos) (all .tempoOrder .from))
+      let all = all-behind binary64 SmTempo T′ S′ (on-beats tempoBeats tempoValues t) (in-order tempoBeats tempoValues t) (on-beats stopBeats stopValues s) (in-order stopBeats stopValues s) sixty-taken (sm-tempos T′ (tempos-in tempoBeats tempoValues t) (changes-f32 tempoBeats tempoValues)) in
+      together SmTempo (processed T′ S′ .tempos) on-rows (all .temposAre) (from-zero (processed T′ S′ .tempos) (all .tempoOrder .from))
     where
       from-zero : (list : List (Float × Float)) → From (beatKey binary64) (spot binary64 naught) list → From (beatKey binary64) (floatKey binary64 beatZero) list
       from-zero list f = subst (λ (x : Float). From (beatKey binary64) (floatKey binary64 x) list) zero-row f
