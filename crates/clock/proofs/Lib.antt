@@ -1,2 +1,3 @@
 pub mod FilledTempos
 pub mod SoonReply
+pub mod PlayerNumber

@@ -7,6 +7,8 @@ ghost use Prim.Native.Nat.{_+_, _<_, _≤_, _^_};
 ghost use lib.ListN.{length};
 ghost use lib.Dec.{eqb};
 ghost use Rattle.picks.specs.Pick.{pick};
+ghost use lib.Ieee.{binary64};
+ghost use Rattle.timing_tests.specs.TimingNumbers.{beatNumber};
 ghost use Rattle.timing_tests.specs.CursorNumbers.{cursorNumber};
 ghost use lib.Signed.{ltZ};
 ghost use mathlib.Core.Bool.{true, false};
@@ -106,6 +108,14 @@ fn answered_soon(soon: Soon, row: i32, tempo_values: &[f32], global: f64) -> Ans
         time: time,
     };
     answered(walked, row, global)
+}
+
+// The row of a beat that is taken: of such a size the sum rounds, and its pattern counts on from that of row 0.
+fn row_of_taken(beat: f64) -> i32
+    requires { ⌜ beatNumber beat ≡ 0 ⌝ }
+    ensures { λ r. ⌜ r ≡ row binary64 beat ⌝ }
+{
+    ((f64::to_bits(rows::row_mark(beat)) as i64) - 0x4338_0000_0000_0000) as i32
 }
 
 // The tempos of a timing; where it has none, the one of 60 counts.
@@ -365,39 +375,41 @@ impl Cursor {
         ensures { λ r. ⌜ r ≡ playerQuestion (timing (now («tempo_beats» .entry)) (now («tempo_values» .entry)) (now («stop_beats» .entry)) (now («stop_values» .entry)) (now («delay_beats» .entry)) (now («delay_values» .entry)) (now («warp_beats» .entry)) (now («warp_lengths» .entry))) self offset global beat ⌝ }
     {
         let asked = timing_tests::beat_number(beat);
-        let lent = self.refusal(tempo_beats, stop_beats, delay_beats, warp_beats);
-        let number = limits::lower_of(asked, lent);
-        if number == 0 {
-            let row = rows::beat_to_note_row(beat);
-            let soon = self.soon(
-                row,
-                tempo_beats,
-                tempo_values,
-                stop_beats,
-                stop_values,
-                delay_beats,
-                delay_values,
-                warp_beats,
-                warp_lengths,
-            );
-            if soon.whole {
-                return answered_soon(soon, row, tempo_values, global);
-            }
-            return self.reply(
-                tempo_beats,
-                tempo_values,
-                stop_beats,
-                stop_values,
-                delay_beats,
-                delay_values,
-                warp_beats,
-                warp_lengths,
-                offset,
-                global,
-                beat,
-            );
+        if asked != 0 {
+            return refused(asked, self);
         }
-        refused(number, self)
+        let lent = self.refusal(tempo_beats, stop_beats, delay_beats, warp_beats);
+        if lent != 0 {
+            return refused(lent, self);
+        }
+        let row = row_of_taken(beat);
+        let soon = self.soon(
+            row,
+            tempo_beats,
+            tempo_values,
+            stop_beats,
+            stop_values,
+            delay_beats,
+            delay_values,
+            warp_beats,
+            warp_lengths,
+        );
+        if soon.whole {
+            return answered_soon(soon, row, tempo_values, global);
+        }
+        self.reply(
+            tempo_beats,
+            tempo_values,
+            stop_beats,
+            stop_values,
+            delay_beats,
+            delay_values,
+            warp_beats,
+            warp_lengths,
+            offset,
+            global,
+            beat,
+        )
     }
 
     // At what time is this beat? Everything is tested: the timing, its offsets, the beat, the cursor.

@@ -11,3 +11,4 @@ pub mod BeatBySum
 pub mod WholeF32
 pub mod RowByHalves
 pub mod Quantizing
+pub mod RowBySum

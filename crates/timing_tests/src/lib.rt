@@ -159,11 +159,15 @@ pub fn check_timing(
 
 // ---- the asked beat
 
+// By both ends, which is quicker than by size.
 pub fn beat_number(beat: f64) -> u32
     ensures { λ r. ⌜ r ≡ beatNumber beat ⌝ }
 {
-    if limits::taken(Kind::Beat, beat) {
-        return limits::TAKEN;
+    if -65536.0 <= beat {
+        if beat <= 65536.0 {
+            return limits::TAKEN;
+        }
+        return limits::BAD_BEAT;
     }
     limits::BAD_BEAT
 }

@@ -19,7 +19,7 @@ use Rattle.rows.specs.Rows.{row, beatOf, allowedBeat, mostRow}
 use Rattle.rows.proofs.RowOfBeat.{row-of-beat}
 use Rattle.rows.proofs.RowsKeepOrder.{row-mono}
 use Rattle.rows.proofs.BeatsRise.{beat-allowed}
-use Rattle.walk.specs.Quiet.{farthest, rowAt, isLater}
+use Rattle.walk.specs.Quiet.{farthest, rowAt, notBefore, isLater}
 use Rattle.walk.proofs.RowOrder.{no}
 
 held : (b : Bool) → b ≡ true → T b
@@ -45,16 +45,16 @@ unfolding withinPower
 allowed h below above = and-i (le (fin true 1 (pos 16)) h) (le h (fin false 1 (pos 16))) (held _ above) (held _ below)
 
 module _ (n : ℕ) (small : n ≤ 3145727) where
-  pub row-after : (h : Float) → le h (fin false 1 (pos 16)) ≡ true → le (fin true 1 (pos 16)) h ≡ true → le (beatOf binary64 (pos (n + 1))) h ≡ true → ltZ (pos n) (row binary64 h) ≡ true
+  row-after : (h : Float) → le h (fin false 1 (pos 16)) ≡ true → le (fin true 1 (pos 16)) h ≡ true → le (beatOf binary64 (pos (n + 1))) h ≡ true → ltZ (pos n) (row binary64 h) ≡ true
   row-after h below above later =
       let within : natAbs (pos (n + 1)) ≤ mostRow = omega arith in
       after n (row binary64 h)
       (subst (λ (z : ℤ). T (leZ z (row binary64 h))) (row-of-beat binary64 binary64 (pos (n + 1)) within)
       (row-mono binary64 (beatOf binary64 (pos (n + 1))) h (beat-allowed binary64 (pos (n + 1)) within) (allowed h below above) (held _ later)))
 
-  pub later-row : (beats : List Float) (place : ℕ) → isLater beats place (beatOf binary64 (pos n +ℤ pos 1)) ≡ true → ltZ (pos n) (rowAt beats place) ≡ true
-  unfolding isLater rowAt
-  later-row beats place h = go (ltb place (length beats)) h
+  later-entry : (beats : List Float) (place : ℕ) → notBefore beats place (beatOf binary64 (pos n +ℤ pos 1)) ≡ true → ltZ (pos n) (rowAt beats place) ≡ true
+  unfolding notBefore rowAt
+  later-entry beats place h = go (ltb place (length beats)) h
     where
       at : Float
       at = getD beats place nan
@@ -68,3 +68,14 @@ module _ (n : ℕ) (small : n ≤ 3145727) where
       go : (x : Bool) → pick x (pick (le at (fin false 1 (pos 16))) (pick (le (fin true 1 (pos 16)) at) (le (beatOf binary64 (pos n +ℤ pos 1)) at) false) false) true ≡ true → ltZ (pos n) (pick x (row binary64 at) farthest) ≡ true
       go true h = inside (le at (fin false 1 (pos 16))) (le (fin true 1 (pos 16)) at) (le (beatOf binary64 (pos n +ℤ pos 1)) at) refl refl refl h
       go false h = lt-ltb n 2147483647 (omega arith)
+
+-- so what is later is on a later row, and the row is before the greatest i32
+pub later-row : (r : ℤ) (beats : List Float) (place : ℕ) → isLater beats place r ≡ true → (ltZ r farthest ≡ true) × (ltZ r (rowAt beats place) ≡ true)
+unfolding isLater
+later-row (negsuc n) beats place h = no h
+later-row (pos n) beats place h = go (ltZ (pos n) (pos 0)) (ltZ (pos 3145727) (pos n)) refl h
+  where
+    go : (x y : Bool) → ltZ (pos 3145727) (pos n) ≡ y → pick x false (pick y false (notBefore beats place (beatOf binary64 (pos n +ℤ pos 1)))) ≡ true → (ltZ (pos n) farthest ≡ true) × (ltZ (pos n) (rowAt beats place) ≡ true)
+    go true y e h = no h
+    go false true e h = no h
+    go false false e h = let small = ltb-false 3145727 n e in (lt-ltb n 2147483647 (omega arith), later-entry n small beats place h)

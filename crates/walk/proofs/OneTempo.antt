@@ -14,9 +14,9 @@ use Rattle.picks.specs.Pick.{pick}
 use Rattle.rows.specs.Rows.{row, beatOf}
 use Rattle.walk.specs.Events.{Timing, next}
 use Rattle.walk.specs.Passing.{noTime, earlyTempo, timeTo, passed, step, afterTempo}
-use Rattle.walk.specs.Quiet.{farthest, rowAt, endRow, isLater, onlyTempos}
+use Rattle.walk.specs.Quiet.{farthest, rowAt, endRow, isLater, isNextLater, onlyTempos}
 use Rattle.walk.specs.Heads.{headsOf}
-use Rattle.walk.specs.Soon.{tempoPassed, rowAfter, soonOf, walkedSoon}
+use Rattle.walk.specs.Soon.{tempoPassed, soonOf, walkedSoon}
 use Rattle.walk.specs.Walk.{timeAt, due, isEvent, walkOn, walk}
 use Rattle.walk.specs.declared.State.{State}
 use Rattle.walk.specs.declared.Next.{Next}
@@ -83,10 +83,10 @@ module _ (t : Timing) (r : ℤ) (s : State) where
     unfolding tempoPassed passed afterTempo
     others-stay = rw there (record { ofAll = o .ofAll; ofEnd = o .ofEnd; ofDelay = o .ofDelay; ofStop = o .ofStop; ofWarp = o .ofWarp })
 
-    -- the row of the tempo after the next is that of the next one, once one is passed
-    pub before-after : ltZ r (rowAfter (t .tempoBeats) (s .tempos)) ≡ true → ltZ r (rowAt (t .tempoBeats) (past t s (rowAt (t .tempoBeats) (s .tempos)) .tempos)) ≡ true
-    unfolding tempoPassed passed afterTempo rowAfter
-    before-after h = rw there (rw there at h)
+    -- the tempo after the next is later, once one is passed
+    before-next : isNextLater (t .tempoBeats) (s .tempos) r ≡ true → ltZ r (rowAt (t .tempoBeats) (past t s (rowAt (t .tempoBeats) (s .tempos)) .tempos)) ≡ true
+    unfolding tempoPassed passed afterTempo isNextLater
+    before-next h = rw there (later-row r (t .tempoBeats) (s .tempos + 1) (rw there at h) .1)
 
     -- one is due, and no other
     pub one-soon : eqb (s .tempos) 0 ≡ false → ltZ r (rowAt (t .tempoBeats) (past t s (rowAt (t .tempoBeats) (s .tempos)) .tempos)) ≡ true
@@ -105,57 +105,56 @@ module _ (t : Timing) (r : ℤ) (s : State) where
         ∙ walk-end noTime t r s′ 1 (ap (λ (n : Next). isEvent (n .kind)) asked)
         ∙ rw asked
 
-all-but-two : (a b c d e f : Bool) → pick a false (pick b false (pick c (pick d (pick e f false) false) false)) ≡ true → (b ≡ false) × (c ≡ true) × (d ≡ true) × (e ≡ true) × (f ≡ true)
-all-but-two false false true true true f h = (refl, refl, refl, refl, h)
-all-but-two false false true true false f h = no h
-all-but-two false false true false e f h = no h
-all-but-two false false false d e f h = no h
-all-but-two false true c d e f h = no h
-all-but-two true b c d e f h = no h
+all-four : (a b c d : Bool) → pick a (pick b (pick c d false) false) false ≡ true → (a ≡ true) × (b ≡ true) × (c ≡ true) × (d ≡ true)
+all-four true true true d h = (refl, refl, refl, h)
+all-four true true false d h = no h
+all-four true false c d h = no h
+all-four false b c d h = no h
 
 pub only-tempos : (t : Timing) (r : ℤ) (s : State) → onlyTempos (t .stopBeats) (t .delayBeats) (t .warpBeats) s r ≡ true → Others t r s
 unfolding onlyTempos
-only-tempos t (negsuc n) s only = no only
-only-tempos t (pos n) s only =
-    let after = beatOf binary64 (pos n +ℤ pos 1) in
-    let are = all-but-two (ltZ (pos n) (pos 0)) (ltZ (pos 3145727) (pos n)) (ltZ (pos n) (endRow (s .warping) (s .end))) (isLater (t .stopBeats) (s .stops) after) (isLater (t .delayBeats) (s .delays) after) (isLater (t .warpBeats) (s .warps) after) only in
-    let small : n ≤ 3145727 = ltb-false 3145727 n (are .0) in
+only-tempos t r s only =
+    let are = all-four (ltZ r (endRow (s .warping) (s .end))) (isLater (t .stopBeats) (s .stops) r) (isLater (t .delayBeats) (s .delays) r) (isLater (t .warpBeats) (s .warps) r) only in
+    let stop = later-row r (t .stopBeats) (s .stops) (are .1) in
     record {
-      ofAll = lt-ltb n 2147483647 (omega arith);
-      ofEnd = are .1;
-      ofDelay = later-row n small (t .delayBeats) (s .delays) (are .3);
-      ofStop = later-row n small (t .stopBeats) (s .stops) (are .2);
-      ofWarp = later-row n small (t .warpBeats) (s .warps) (are .4);
+      ofAll = stop .0;
+      ofEnd = are .0;
+      ofDelay = later-row r (t .delayBeats) (s .delays) (are .2) .1;
+      ofStop = stop .1;
+      ofWarp = later-row r (t .warpBeats) (s .warps) (are .3) .1;
     }
 
 module _ (t : Timing) (r : ℤ) (s : State) where
   abbrev pub soon : Soon
   soon = soonOf (t .tempoBeats) (t .tempoValues) (t .stopValues) (t .delayValues) (t .warpBeats) (t .warpLengths) s r
 
-  abbrev picked : Bool → Bool → Soon
-  picked b d =
-      pick b (record { state = s; passed = 0; whole = true }) (pick d (record { state = past t s (rowAt (t .tempoBeats) (s .tempos)); passed = 1; whole = true }) (record { state = s; passed = 0; whole = false }))
+  abbrev picked : Bool → Bool → Bool → Soon
+  picked a b d =
+      pick a (record { state = s; passed = 0; whole = true })
+      (pick b (record { state = s; passed = 0; whole = true }) (pick d (record { state = past t s (rowAt (t .tempoBeats) (s .tempos)); passed = 1; whole = true }) (record { state = s; passed = 0; whole = false })))
 
   pub soon-few : soon .passed ≤ 1
   unfolding soonOf
-  soon-few = go (ltZ r (rowAt (t .tempoBeats) (s .tempos))) (ltZ r (rowAfter (t .tempoBeats) (s .tempos)))
+  soon-few = go (isLater (t .tempoBeats) (s .tempos) r) (ltZ r (rowAt (t .tempoBeats) (s .tempos))) (isNextLater (t .tempoBeats) (s .tempos) r)
     where
-      go : (b d : Bool) → picked b d .passed ≤ 1
-      go true d = omega arith
-      go false true = omega arith
-      go false false = omega arith
+      go : (a b d : Bool) → picked a b d .passed ≤ 1
+      go true b d = omega arith
+      go false true d = omega arith
+      go false false true = omega arith
+      go false false false = omega arith
 
   -- a walk that is soon at its end is that walk
   pub soon-walk : eqb (s .tempos) 0 ≡ false → onlyTempos (t .stopBeats) (t .delayBeats) (t .warpBeats) s r ≡ true → soon .whole ≡ true
       → walk t r s ≡ walkedSoon (t .tempoValues) r soon
   unfolding soonOf
-  soon-walk e only whole = go (ltZ r (rowAt (t .tempoBeats) (s .tempos))) (ltZ r (rowAfter (t .tempoBeats) (s .tempos))) refl refl whole
+  soon-walk e only whole = go (isLater (t .tempoBeats) (s .tempos) r) (ltZ r (rowAt (t .tempoBeats) (s .tempos))) (isNextLater (t .tempoBeats) (s .tempos) r) refl refl refl whole
     where
       o : Others t r s
       o = only-tempos t r s only
 
-      go : (b d : Bool) → ltZ r (rowAt (t .tempoBeats) (s .tempos)) ≡ b → ltZ r (rowAfter (t .tempoBeats) (s .tempos)) ≡ d → picked b d .whole ≡ true
-          → walk t r s ≡ walkedSoon (t .tempoValues) r (picked b d)
-      go true d f g w = none-soon t r s e o f
-      go false true f g w = one-soon t r s o f e (before-after t r s o f g)
-      go false false f g w = no w
+      go : (a b d : Bool) → isLater (t .tempoBeats) (s .tempos) r ≡ a → ltZ r (rowAt (t .tempoBeats) (s .tempos)) ≡ b → isNextLater (t .tempoBeats) (s .tempos) r ≡ d → picked a b d .whole ≡ true
+          → walk t r s ≡ walkedSoon (t .tempoValues) r (picked a b d)
+      go true b d l f g w = none-soon t r s e o (later-row r (t .tempoBeats) (s .tempos) l .1)
+      go false true d l f g w = none-soon t r s e o f
+      go false false true l f g w = one-soon t r s o f e (before-next t r s o f g)
+      go false false false l f g w = no w

@@ -1,5 +1,5 @@
 -- The row of the next entry of a list and of a warp's end, and whether nothing but tempos is due by a row. Definitions only.
-use Prim.Native.Nat.{ℕ}
+use Prim.Native.Nat.{ℕ, _+_}
 use mathlib.Core.Bool.{Bool, true, false}
 use mathlib.Core.List.{List}
 use lib.Dec.{ltb}
@@ -22,20 +22,24 @@ unfoldable pub endRow : Bool → Float → ℤ
 endRow warping end = pick warping (row binary64 end) farthest
 
 -- no entry is at a place, or one that is allowed and not before a beat
-unfoldable pub isLater : List Float → ℕ → Float → Bool
-isLater beats place beat =
+unfoldable pub notBefore : List Float → ℕ → Float → Bool
+notBefore beats place beat =
     pick (ltb place (length beats))
     (pick (le (getD beats place nan) (fin false 1 (pos 16))) (pick (le (fin true 1 (pos 16)) (getD beats place nan)) (le beat (getD beats place nan)) false) false)
     true
 
--- An allowed row from 0 on, by which nothing but tempos is due: it is before the warp's end, and the next entry of each other list is not before the beat of
--- the row after it.
+-- of an allowed row from 0 on: no entry is at a place, or one that is not before the beat of the row after it
+unfoldable pub isLater : List Float → ℕ → ℤ → Bool
+isLater beats place asked =
+    pick (ltZ asked (pos 0)) false (pick (ltZ (pos 3145727) asked) false (notBefore beats place (beatOf binary64 (asked +ℤ pos 1))))
+
+-- an entry is at a place, and the one after it is later
+unfoldable pub isNextLater : List Float → ℕ → ℤ → Bool
+isNextLater beats place asked = pick (ltb place (length beats)) (isLater beats (place + 1) asked) false
+
+-- By a row nothing but tempos is due: it is before the warp's end, and the next entry of each other list is later.
 unfoldable pub onlyTempos : (stopBeats delayBeats warpBeats : List Float) → State → ℤ → Bool
 onlyTempos stopBeats delayBeats warpBeats s asked =
-    pick (ltZ asked (pos 0)) false
-    (pick (ltZ (pos 3145727) asked) false
-    (pick (ltZ asked (endRow (s .warping) (s .end)))
-    (pick (isLater stopBeats (s .stops) (beatOf binary64 (asked +ℤ pos 1)))
-    (pick (isLater delayBeats (s .delays) (beatOf binary64 (asked +ℤ pos 1))) (isLater warpBeats (s .warps) (beatOf binary64 (asked +ℤ pos 1))) false)
-    false)
-    false))
+    pick (ltZ asked (endRow (s .warping) (s .end)))
+    (pick (isLater stopBeats (s .stops) asked) (pick (isLater delayBeats (s .delays) asked) (isLater warpBeats (s .warps) asked) false) false)
+    false

@@ -9,7 +9,7 @@ use lib.ListN.{length}
 use lib.Ieee.{Float, binary64, add}
 use Rattle.picks.specs.Pick.{pick}
 use Rattle.walk.specs.Passing.{noTime, timeTo, passed}
-use Rattle.walk.specs.Quiet.{farthest, rowAt}
+use Rattle.walk.specs.Quiet.{farthest, rowAt, isLater, isNextLater}
 use Rattle.walk.specs.declared.State.{State}
 use Rattle.walk.specs.declared.Soon.{Soon}
 use Rattle.walk.specs.declared.Walked.{Walked}
@@ -24,18 +24,21 @@ tempoPassed tempoBeats tempoValues stopValues delayValues warpBeats warpLengths 
 unfoldable pub rowAfter : List Float → ℕ → ℤ
 rowAfter beats place = pick (ltb place (length beats)) (rowAt beats (place + 1)) farthest
 
--- before the next tempo the state as it is, and before the one after that the state past one tempo; further on nothing is passed, and it is not the whole walk
+-- Before the next tempo, by its beat or by its row, the state as it is; before the one after that the state past one tempo; further on nothing is passed, and
+-- it is not the whole walk.
 unfoldable pub soonOf : (tempoBeats tempoValues stopValues delayValues warpBeats warpLengths : List Float) → State → ℤ → Soon
 soonOf tempoBeats tempoValues stopValues delayValues warpBeats warpLengths s asked =
-    pick (ltZ asked (rowAt tempoBeats (s .tempos)))
+    pick (isLater tempoBeats (s .tempos) asked)
     (record { state = s; passed = 0; whole = true })
-    (pick (ltZ asked (rowAfter tempoBeats (s .tempos)))
+    (pick (ltZ asked (rowAt tempoBeats (s .tempos)))
+    (record { state = s; passed = 0; whole = true })
+    (pick (isNextLater tempoBeats (s .tempos) asked)
     (record {
       state = tempoPassed tempoBeats tempoValues stopValues delayValues warpBeats warpLengths s (rowAt tempoBeats (s .tempos));
       passed = 1;
       whole = true;
     })
-    (record { state = s; passed = 0; whole = false }))
+    (record { state = s; passed = 0; whole = false })))
 
 -- what such a walk comes to at the row
 abbrev pub walkedSoon : List Float → ℤ → Soon → Walked

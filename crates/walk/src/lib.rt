@@ -9,7 +9,7 @@ ghost use Rattle.rows.specs.Rows.{beatOf};
 ghost use Rattle.walk.specs.Events.{timing, sooner};
 ghost use Rattle.walk.specs.Heads.{headsOf, headsAfter, nextOf};
 ghost use Rattle.walk.specs.Passing.{noTime, tempoAt, earlyTempo, inForce, timeTo, larger, afterWarpEnd, afterTempo, afterDelay, afterStop, afterWarp, CanMove, passed as Passing·passed, firstOr, lastUpTo, sixty};
-ghost use Rattle.walk.specs.Quiet.{rowAt, endRow, isLater, onlyTempos};
+ghost use Rattle.walk.specs.Quiet.{rowAt, endRow, notBefore, isLater, isNextLater, onlyTempos};
 ghost use Rattle.walk.specs.Soon.{tempoPassed, rowAfter, soonOf};
 ghost use Rattle.walk.specs.declared.Event.the-variants.{Tempo};
 ghost use Rattle.walk.specs.Walk.{isEvent, isNothing, timeAt, walk};
@@ -496,9 +496,24 @@ fn time_at(state: State, next: Next, early: f64, tempo_values: &[f32]) -> f64
 
 // ---- walks that pass nothing, or one tempo
 
+// True only where the entry at a place, if there is one, is on a later row. Of rows that are allowed and from 0 on: the entry is held against the beat of
+// the row after it, which is quicker than the entry's row, and may say no of that row itself.
+fn is_later(beats: &[f32], place: usize, asked: i32) -> bool
+    ensures { λ r. ⌜ r ≡ isLater (now (beats .entry)) place asked ⌝ }
+{
+    if asked < 0 {
+        return false;
+    }
+    if 3145727 < asked {
+        return false;
+    }
+    let beat = rows::note_row_to_beat(asked + 1);
+    not_before(beats, place, beat)
+}
+
 // True where no entry is at the place, or one that is allowed and not before the beat.
-fn is_later(beats: &[f32], place: usize, beat: f64) -> bool
-    ensures { λ r. ⌜ r ≡ isLater (now (beats .entry)) place beat ⌝ }
+fn not_before(beats: &[f32], place: usize, beat: f64) -> bool
+    ensures { λ r. ⌜ r ≡ notBefore (now (beats .entry)) place beat ⌝ }
 {
     if place < beats.len() {
         let head = beats[place];
@@ -513,8 +528,17 @@ fn is_later(beats: &[f32], place: usize, beat: f64) -> bool
     true
 }
 
-// Whether by the row no event but a tempo is due, of rows that are allowed and from 0 on: entries are held against the beat of the row after it, which is
-// quicker than their rows, and may say no of that row itself.
+// The same of the entry after the one at a place, which is there.
+fn is_next_later(beats: &[f32], place: usize, asked: i32) -> bool
+    ensures { λ r. ⌜ r ≡ isNextLater (now (beats .entry)) place asked ⌝ }
+{
+    if place < beats.len() {
+        return is_later(beats, place + 1, asked);
+    }
+    false
+}
+
+// True only where by the row no event but a tempo is due.
 pub fn is_only_tempos(
     state: State,
     asked: i32,
@@ -524,17 +548,10 @@ pub fn is_only_tempos(
 ) -> bool
     ensures { λ r. ⌜ r ≡ onlyTempos (now («stop_beats» .entry)) (now («delay_beats» .entry)) (now («warp_beats» .entry)) state asked ⌝ }
 {
-    if asked < 0 {
-        return false;
-    }
-    if 3145727 < asked {
-        return false;
-    }
-    let beat = rows::note_row_to_beat(asked + 1);
     if asked < end_row(state.warping, state.end) {
-        if is_later(stop_beats, state.stops, beat) {
-            if is_later(delay_beats, state.delays, beat) {
-                return is_later(warp_beats, state.warps, beat);
+        if is_later(stop_beats, state.stops, asked) {
+            if is_later(delay_beats, state.delays, asked) {
+                return is_later(warp_beats, state.warps, asked);
             }
             return false;
         }
@@ -572,6 +589,13 @@ pub fn walk_soon(
 ) -> Soon
     ensures { λ r. ⌜ r ≡ soonOf (now («tempo_beats» .entry)) (now («tempo_values» .entry)) (now («stop_values» .entry)) (now («delay_values» .entry)) (now («warp_beats» .entry)) (now («warp_lengths» .entry)) state asked ⌝ }
 {
+    if is_later(tempo_beats, state.tempos, asked) {
+        return Soon {
+            state,
+            passed: 0,
+            whole: true,
+        };
+    }
     let first = row_at(tempo_beats, state.tempos);
     if asked < first {
         return Soon {
@@ -580,7 +604,7 @@ pub fn walk_soon(
             whole: true,
         };
     }
-    if asked < row_after(tempo_beats, state.tempos) {
+    if is_next_later(tempo_beats, state.tempos, asked) {
         let moved = pass_next_tempo(
             state,
             first,

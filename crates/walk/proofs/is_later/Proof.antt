@@ -1,43 +1,68 @@
--- `walk::is_later` is `isLater`. Assumes nothing.
-use mathlib.Core.Bool.{not}
-use borrow.Author.Tests.{lt-ltb, le-ltb}
-use lib.ListN.{getD}
-use lib.Ieee.{nan, binary64, fits, isNan, ofBits, neg}
-use lib.Ieee.Fits.{and-i, fits-widens}
-use Rattle.walk.specs.Quiet.{isLater}
-use Rattle.walk.proofs.LaterBeats.{number}
+-- `walk::is_later` is `isLater`, test by test. Assumes nothing.
+use mathlib.Core.Bool.{Bool, true, false}
+use mathlib.Core.Path.{_≡_, ap, _∙_}
+use mathlib.Core.List.{List}
+use Prim.Native.Nat.{ℕ}
+use lib.IntN.{ℤ, pos, _+ℤ_}
+use lib.Signed.{ltZ}
+use lib.Ieee.{Float, binary64}
+use mir.Syntax.{w32}
+use mir.Val.{SFits, toZ, ofZ}
+use Rattle.rows.specs.Rows.{beatOf}
+use Rattle.walk.specs.Quiet.{notBefore, isLater}
+use Rattle.walk.proofs.BackFromBits.{back}
+use Rattle.walk.proofs.LaterBeats.{next-fits}
 use borrow.Author.Needs.{needs}
 use Rattle.walk.proofs.is_later.Statement.{statement}
 use Rattle.walk.proofs.is_later.Tie as tie
 
-mul-head : tie.Need-mul-head
-mul-head c = search needs
+not-below : (z : ℤ) (found : Bool) → SFits w32 z → ltZ (toZ w32 (ofZ w32 z)) (pos 0) ≡ found → ltZ z (pos 0) ≡ found
+not-below z found f h = rw (back z f) at h
 
-shared-slice-read-head : tie.Need-shared-slice-read-head
-shared-slice-read-head c = search needs
+not-above : (z : ℤ) (found : Bool) → SFits w32 z → ltZ (pos 3145727) (toZ w32 (ofZ w32 z)) ≡ found → ltZ (pos 3145727) z ≡ found
+not-above z found f h = rw (back z f) at h
 
-float-to-float-result : tie.Need-float-to-float-result
-unfolding ofBits
-float-to-float-result c =
-    let s = c .before .before .before .before .before in
-    let head = getD (s .args .beats .now) (s .args .place) nan in
-    and-i (fits binary64 head) (not (isNan head)) (fits-widens head (c .row-known .given)) (number head _ (c .before .before .if2 .taken))
+-- the beat of the row after
+beat-after : (z : ℤ) → SFits w32 z → ltZ (toZ w32 (ofZ w32 z)) (pos 0) ≡ false → ltZ (pos 3145727) (toZ w32 (ofZ w32 z)) ≡ false
+    → beatOf binary64 (toZ w32 (ofZ w32 (toZ w32 (ofZ w32 z) +ℤ pos 1))) ≡ beatOf binary64 (z +ℤ pos 1)
+beat-after z f h k = ap (beatOf binary64) (back (toZ w32 (ofZ w32 z) +ℤ pos 1) (next-fits (toZ w32 (ofZ w32 z)) h k) ∙ ap (λ (x : ℤ). x +ℤ pos 1) (back z f))
+
+-- both tests passed
+inside : (beats : List Float) (place : ℕ) (z : ℤ) (found : Bool) → ltZ z (pos 0) ≡ false → ltZ (pos 3145727) z ≡ false
+    → found ≡ notBefore beats place (beatOf binary64 (z +ℤ pos 1)) → found ≡ isLater beats place z
+unfolding isLater
+inside beats place z found h k e = rw (h, k) e
 
 returns : tie.Need-returns
-unfolding isLater ofBits neg
-returns c = rw (lt-ltb _ _ (c .before .before .before .before .if1 .taken), c .before .before .if2 .taken, c .before .if3 .taken)
+unfolding isLater
+returns c =
+    let s = c .before .before in
+    rw (not-below (s .args .asked) true (s .fits .asked) (c .if1 .taken))
 
 returns-2 : tie.Need-returns-2
-unfolding isLater ofBits neg
-returns-2 c = rw (lt-ltb _ _ (c .before .before .before .if1 .taken), c .before .if2 .taken, c .if3 .left)
+unfolding isLater
+returns-2 c =
+    let s = c .before .before .before in
+    rw (not-below (s .args .asked) false (s .fits .asked) (c .before .if1 .left), not-above (s .args .asked) true (s .fits .asked) (c .if2 .taken))
+
+add-note-row-to-beat : tie.Need-add-note-row-to-beat
+add-note-row-to-beat c = next-fits (toZ w32 (ofZ w32 (c .before .before .before .args .asked))) (c .before .if1 .left) (c .if2 .left)
+
+note-row-to-beat-requires : tie.Need-note-row-to-beat-requires
+note-row-to-beat-requires c κs = search needs
+
+not-before-requires : tie.Need-not-before-requires
+not-before-requires c κs = search needs
 
 returns-3 : tie.Need-returns-3
-unfolding isLater ofBits neg
-returns-3 c = rw (lt-ltb _ _ (c .before .before .if1 .taken), c .if2 .left)
-
-returns-4 : tie.Need-returns-4
-unfolding isLater
-returns-4 c = rw (le-ltb _ _ (c .if1 .left))
+returns-3 c =
+    let s = c .before .before .before .before .before in
+    let a = s .args in
+    let f = s .fits .asked in
+    let below = c .before .before .before .if1 .left in
+    let above = c .before .before .if2 .left in
+    inside (a .beats .now) (a .place) (a .asked) (c .not-before .result) (not-below (a .asked) false f below) (not-above (a .asked) false f above)
+    (c .not-before .ensures ∙ ap (notBefore (a .beats .now) (a .place)) (c .before .note-row-to-beat .ensures ∙ beat-after (a .asked) f below above))
 
 pub is-later-spec : {M : Type 1} → statement M
-is-later-spec = tie.close (tie.spec mul-head shared-slice-read-head float-to-float-result returns returns-2 returns-3 returns-4)
+is-later-spec = tie.close (tie.spec returns returns-2 add-note-row-to-beat note-row-to-beat-requires not-before-requires returns-3)

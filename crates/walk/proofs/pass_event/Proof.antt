@@ -1,11 +1,25 @@
 -- `walk::pass_event` passes an event of any kind. Assumes nothing.
 use mathlib.Core.Path.{_≡_, subst}
+use mathlib.Core.List.{List}
+use lib.IntN.{ℤ}
+use lib.Ieee.{Float, binary64, add}
+use Rattle.walk.specs.declared.State.{State}
+use Rattle.walk.specs.declared.Next.{Next}
 use Rattle.walk.specs.declared.Event.{Event}
-use Rattle.walk.specs.Passing.{CanMove, passed as Passing·passed}
+use Rattle.walk.specs.declared.Event.the-variants.{WarpEnd, Tempo, Delay, Stop, Warp}
+use Rattle.walk.specs.Passing.{CanMove, timeTo, arrived, passed as Passing·passed}
 use Rattle.walk.proofs.BackFromBits.{back}
 use borrow.Author.Needs.{needs}
 use Rattle.walk.proofs.pass_event.Statement.{statement}
 use Rattle.walk.proofs.pass_event.Tie as tie
+
+-- an event of a kind that was passed on a row, at the time up to it
+arrives : (early : Float) (tempoValues stopValues delayValues warpBeats warpLengths : List Float) (s : State) (n : Next) (kind : Event) (r : State) (at : ℤ) (time : Float)
+    → at ≡ n .row → time ≡ timeTo early tempoValues s at → n .kind ≡ kind
+    → r ≡ arrived stopValues delayValues warpBeats warpLengths s at (add binary64 (s .time) time) kind
+    → r ≡ Passing·passed early tempoValues stopValues delayValues warpBeats warpLengths s n
+unfolding Passing·passed
+arrives early tempoValues stopValues delayValues warpBeats warpLengths s n kind r at time e f g h = rw (g, ← e, ← f) h
 
 time-to-requires : tie.Need-time-to-requires
 time-to-requires c κs = search needs
@@ -55,39 +69,39 @@ enum-told-7 : tie.Need-enum-told-7
 enum-told-7 c = search needs
 
 returns : tie.Need-returns
-unfolding Passing·passed
 returns c =
     let s = c .before .before .before .before .before .before .before .before .before .before .before in
-    rw (c .before .enum-told .given .1)
-    (cc (back (s .args .next .row) (record { sfits = c .before .before .before .before .before .struct-told .given .0 .1 }), c .pass-warp-end .ensures, c .before .before .before .before .time-to .ensures))
+    let a = s .args in
+    arrives (a .early) (a .tempo-values .now) (a .stop-values .now) (a .delay-values .now) (a .warp-beats .now) (a .warp-lengths .now) (a .state) (a .next) WarpEnd (c .pass-warp-end .result) _ _
+    (back (a .next .row) (record { sfits = c .before .before .before .before .before .struct-told .given .0 .1 })) (c .before .before .before .before .time-to .ensures) (c .before .enum-told .given .1) (c .pass-warp-end .ensures)
 
 returns-2 : tie.Need-returns-2
-unfolding Passing·passed
 returns-2 c =
     let s = c .before .before .before .before .before .before .before .before .before .before .before in
-    rw (c .before .enum-told2 .given .1)
-    (cc (back (s .args .next .row) (record { sfits = c .before .before .before .before .before .struct-told .given .0 .1 }), c .pass-tempo .ensures, c .before .before .before .before .time-to .ensures))
+    let a = s .args in
+    arrives (a .early) (a .tempo-values .now) (a .stop-values .now) (a .delay-values .now) (a .warp-beats .now) (a .warp-lengths .now) (a .state) (a .next) Tempo (c .pass-tempo .result) _ _
+    (back (a .next .row) (record { sfits = c .before .before .before .before .before .struct-told .given .0 .1 })) (c .before .before .before .before .time-to .ensures) (c .before .enum-told2 .given .1) (c .pass-tempo .ensures)
 
 returns-3 : tie.Need-returns-3
-unfolding Passing·passed
 returns-3 c =
     let s = c .before .before .before .before .before .before .before .before .before .before .before in
-    rw (c .before .enum-told3 .given .1)
-    (cc (back (s .args .next .row) (record { sfits = c .before .before .before .before .before .struct-told .given .0 .1 }), c .pass-delay .ensures, c .before .before .before .before .time-to .ensures))
+    let a = s .args in
+    arrives (a .early) (a .tempo-values .now) (a .stop-values .now) (a .delay-values .now) (a .warp-beats .now) (a .warp-lengths .now) (a .state) (a .next) Delay (c .pass-delay .result) _ _
+    (back (a .next .row) (record { sfits = c .before .before .before .before .before .struct-told .given .0 .1 })) (c .before .before .before .before .time-to .ensures) (c .before .enum-told3 .given .1) (c .pass-delay .ensures)
 
 returns-4 : tie.Need-returns-4
-unfolding Passing·passed
 returns-4 c =
     let s = c .before .before .before .before .before .before .before .before .before .before .before in
-    rw (c .before .enum-told4 .given .1)
-    (cc (back (s .args .next .row) (record { sfits = c .before .before .before .before .before .struct-told .given .0 .1 }), c .pass-stop .ensures, c .before .before .before .before .time-to .ensures))
+    let a = s .args in
+    arrives (a .early) (a .tempo-values .now) (a .stop-values .now) (a .delay-values .now) (a .warp-beats .now) (a .warp-lengths .now) (a .state) (a .next) Stop (c .pass-stop .result) _ _
+    (back (a .next .row) (record { sfits = c .before .before .before .before .before .struct-told .given .0 .1 })) (c .before .before .before .before .time-to .ensures) (c .before .enum-told4 .given .1) (c .pass-stop .ensures)
 
 returns-5 : tie.Need-returns-5
-unfolding Passing·passed
 returns-5 c =
     let s = c .before .before .before .before .before .before .before .before .before .before .before in
-    rw (c .before .enum-told5 .given .1)
-    (cc (back (s .args .next .row) (record { sfits = c .before .before .before .before .before .struct-told .given .0 .1 }), c .pass-warp .ensures, c .before .before .before .before .time-to .ensures))
+    let a = s .args in
+    arrives (a .early) (a .tempo-values .now) (a .stop-values .now) (a .delay-values .now) (a .warp-beats .now) (a .warp-lengths .now) (a .state) (a .next) Warp (c .pass-warp .result) _ _
+    (back (a .next .row) (record { sfits = c .before .before .before .before .before .struct-told .given .0 .1 })) (c .before .before .before .before .time-to .ensures) (c .before .enum-told5 .given .1) (c .pass-warp .ensures)
 
 returns-6 : tie.Need-returns-6
 unfolding Passing·passed
