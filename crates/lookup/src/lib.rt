@@ -370,7 +370,7 @@ fn judgable_after(
 fn rising_number(value_kind: Kind, beats: &[f32], values: &[f32]) -> u32
     ensures { λ r. ⌜ r ≡ risingNumber (rangeOf «value_kind») (now (beats .entry)) (now (values .entry)) ⌝ }
 {
-    let number = limits::list_number_f32(Kind::Beat, value_kind, beats, values);
+    let number = timing_limits::list_number_f32(Kind::Beat, value_kind, beats, values);
     if number == limits::TAKEN {
         if rows_rise(beats) {
             return limits::TAKEN;

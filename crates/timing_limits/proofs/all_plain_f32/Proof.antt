@@ -1,14 +1,14 @@
--- `limits::all_plain_f32` keeps the worst of a column, and that is none. Assumes nothing.
+-- `timing_limits::all_plain_f32` keeps the worst of a column, and that is none. Assumes nothing.
 use Prim.Native.Nat.{_+_, _-_}
 use mathlib.Core.Path.{_≡_, refl, ap, _∙_}
 use lib.Ieee.{nan}
 use lib.ListN.{length, drop, getD}
 use Rattle.limits.specs.Numbers.{every, miss}
 use Rattle.limits.specs.Plain.{plain}
 use Rattle.limits.proofs.WorstSoFar.{passing, worst-turn, worst-last, every-parts, every-none}
 use borrow.Author.Needs.{needs}
-use Rattle.limits.proofs.all_plain_f32.Statement.{statement}
-use Rattle.limits.proofs.all_plain_f32.Tie as tie
+use Rattle.timing_limits.proofs.all_plain_f32.Statement.{statement}
+use Rattle.timing_limits.proofs.all_plain_f32.Tie as tie
 
 abbrev Inv-loop : tie.InvT-loop
 Inv-loop range column worst₀ i₀ worst i = passing worst (every (plain range) (drop i column)) ≡ every (plain range) column

@@ -1,13 +1,13 @@
--- `limits::column_taken_f32`: a column that is plain is taken, and of another each number is tested in full. Assumes nothing.
+-- `timing_limits::column_taken_f32`: a column that is plain is taken, and of another each number is tested in full. Assumes nothing.
 use mathlib.Core.Path.{_≡_, sym, ap, _∙_}
 use mathlib.Core.Bool.{Bool, true}
 use Rattle.limits.specs.declared.Range.{Range}
 use Rattle.limits.specs.Numbers.{every, allIn}
 use Rattle.limits.specs.Plain.{plain}
 use Rattle.limits.proofs.PlainTaken.{all-plain-taken}
 use borrow.Author.Needs.{needs}
-use Rattle.limits.proofs.column_taken_f32.Statement.{statement}
-use Rattle.limits.proofs.column_taken_f32.Tie as tie
+use Rattle.timing_limits.proofs.column_taken_f32.Statement.{statement}
+use Rattle.timing_limits.proofs.column_taken_f32.Tie as tie
 
 range-of-requires : tie.Need-range-of-requires
 range-of-requires c κs = search needs

@@ -1,9 +1,9 @@
--- `limits::list_number_f32` is `listNumber`, test by test. Assumes nothing.
+-- `timing_limits::list_number_f32` is `listNumber`, test by test. Assumes nothing.
 use borrow.Author.Needs.{needs}
 use Rattle.picks.proofs.Rules.{flags}
 use Rattle.limits.specs.Refusals.{listNumber}
-use Rattle.limits.proofs.list_number_f32.Statement.{statement}
-use Rattle.limits.proofs.list_number_f32.Tie as tie
+use Rattle.timing_limits.proofs.list_number_f32.Statement.{statement}
+use Rattle.timing_limits.proofs.list_number_f32.Tie as tie
 
 returns : tie.Need-returns
 unfolding listNumber

@@ -1,14 +1,14 @@
--- `limits::all_in_f32` counts the numbers of a column that are not in the range, and there are none. Assumes nothing.
+-- `timing_limits::all_in_f32` counts the numbers of a column that are not in the range, and there are none. Assumes nothing.
 use Prim.Native.Nat.{_+_, _-_, _≤_}
 use mathlib.Core.Path.{ap, _∙_}
 use native.Mathlib.Omega.{arith}
 use lib.ListN.{length, getD}
 use lib.Ieee.{Float, nan}
 use Rattle.limits.specs.Numbers.{inRange, miss}
 use Rattle.limits.proofs.Every.{Counted, miss-few, counted-start, counted-turn, counted-end}
 use borrow.Author.Needs.{needs}
-use Rattle.limits.proofs.all_in_f32.Statement.{statement}
-use Rattle.limits.proofs.all_in_f32.Tie as tie
+use Rattle.timing_limits.proofs.all_in_f32.Statement.{statement}
+use Rattle.timing_limits.proofs.all_in_f32.Tie as tie
 
 abbrev Inv-loop : tie.InvT-loop
 Inv-loop range column outside₀ i₀ outside i = Counted (inRange range) column i outside
