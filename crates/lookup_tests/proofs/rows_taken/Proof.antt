@@ -1,4 +1,4 @@
--- `lookup::rows_taken` counts the rows beyond the limit, and there are none. Assumes nothing.
+-- `lookup_tests::rows_taken` counts the rows beyond the limit, and there are none. Assumes nothing.
 use mir.Syntax.{w32}
 use mir.ValLaws.{toZ-ofZ}
 use native.Mathlib.Omega.{arith}
@@ -9,8 +9,8 @@ use lib.ListN.{length, getD}
 use Rattle.limits.proofs.Every.{Counted, miss-few, counted-start, counted-turn, counted-end}
 use Rattle.limits.specs.Numbers.{rowIn, miss}
 use borrow.Author.Needs.{needs}
-use Rattle.lookup.proofs.rows_taken.Statement.{statement}
-use Rattle.lookup.proofs.rows_taken.Tie as tie
+use Rattle.lookup_tests.proofs.rows_taken.Statement.{statement}
+use Rattle.lookup_tests.proofs.rows_taken.Tie as tie
 
 abbrev Inv-loop : tie.InvT-loop
 Inv-loop rows beyond₀ i₀ beyond i = Counted rowIn rows i beyond

@@ -1,12 +1,12 @@
--- `lookup::rows_rise` counts the rows that do not rise, and there are none. Assumes nothing.
+-- `lookup_tests::rows_rise` counts the rows that do not rise, and there are none. Assumes nothing.
 use native.Mathlib.Omega.{arith}
 use mathlib.Core.Path.{sym}
 use Prim.Native.Nat.{_-_, _≤_}
 use lib.ListN.{length}
-use Rattle.lookup.proofs.RowsRise.{Falls, falls-first, few-fall, falls-turn, falls-last, rise-end}
+use Rattle.lookup_tests.proofs.RowsRise.{Falls, falls-first, few-fall, falls-turn, falls-last, rise-end}
 use borrow.Author.Needs.{needs}
-use Rattle.lookup.proofs.rows_rise.Statement.{statement}
-use Rattle.lookup.proofs.rows_rise.Tie as tie
+use Rattle.lookup_tests.proofs.rows_rise.Statement.{statement}
+use Rattle.lookup_tests.proofs.rows_rise.Tie as tie
 
 abbrev Inv-loop : tie.InvT-loop
 Inv-loop beats last falls₀ i₀ falls i = (i ≤ length beats - 1) × Falls beats i falls

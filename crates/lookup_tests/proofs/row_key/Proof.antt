@@ -1,11 +1,11 @@
--- `lookup::row_key` is the f32 row of a beat, as a key. Assumes nothing.
+-- `lookup_tests::row_key` is the f32 row of a beat, as a key. Assumes nothing.
 use Rattle.order.specs.RowKey.{rowKey}
 use mathlib.Core.Path.{_≡_, ap, _∙_}
 use mir.ValLaws.{toZ-ofZ}
 use mir.Syntax.{w32}
 use borrow.Author.Needs.{needs}
-use Rattle.lookup.proofs.row_key.Statement.{statement}
-use Rattle.lookup.proofs.row_key.Tie as tie
+use Rattle.lookup_tests.proofs.row_key.Statement.{statement}
+use Rattle.lookup_tests.proofs.row_key.Tie as tie
 
 beat-to-note-row-f32-requires : tie.Need-beat-to-note-row-f32-requires
 beat-to-note-row-f32-requires c κs = search needs

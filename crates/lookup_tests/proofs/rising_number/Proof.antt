@@ -1,9 +1,9 @@
--- `lookup::rising_number` is the number of a list by itself. Assumes nothing.
-use Rattle.lookup.specs.Lookups.{risingNumber}
+-- `lookup_tests::rising_number` is the number of a list by itself. Assumes nothing.
+use Rattle.lookup_tests.specs.Refused.{risingNumber}
 use Rattle.picks.proofs.Rules.{flags}
 use borrow.Author.Needs.{needs}
-use Rattle.lookup.proofs.rising_number.Statement.{statement}
-use Rattle.lookup.proofs.rising_number.Tie as tie
+use Rattle.lookup_tests.proofs.rising_number.Statement.{statement}
+use Rattle.lookup_tests.proofs.rising_number.Tie as tie
 
 list-number-f32-requires : tie.Need-list-number-f32-requires
 list-number-f32-requires c κs = search needs

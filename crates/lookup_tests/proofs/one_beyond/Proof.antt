@@ -1,10 +1,10 @@
--- `lookup::one_beyond` is 1 for a row beyond the limit. Assumes nothing.
+-- `lookup_tests::one_beyond` is 1 for a row beyond the limit. Assumes nothing.
 use mir.Syntax.{w32}
 use mir.ValLaws.{toZ-ofZ}
 use Rattle.picks.proofs.Rules.{flags}
 use borrow.Author.Needs.{needs}
-use Rattle.lookup.proofs.one_beyond.Statement.{statement}
-use Rattle.lookup.proofs.one_beyond.Tie as tie
+use Rattle.lookup_tests.proofs.one_beyond.Statement.{statement}
+use Rattle.lookup_tests.proofs.one_beyond.Tie as tie
 
 row-taken-requires : tie.Need-row-taken-requires
 row-taken-requires c κs = search needs

@@ -1,8 +1,8 @@
--- `lookup::one_not_above` is 1 for a row that does not rise. Assumes nothing.
+-- `lookup_tests::one_not_above` is 1 for a row that does not rise. Assumes nothing.
 use Rattle.picks.proofs.Rules.{flags}
 use borrow.Author.Needs.{needs}
-use Rattle.lookup.proofs.one_not_above.Statement.{statement}
-use Rattle.lookup.proofs.one_not_above.Tie as tie
+use Rattle.lookup_tests.proofs.one_not_above.Statement.{statement}
+use Rattle.lookup_tests.proofs.one_not_above.Tie as tie
 
 row-key-requires : tie.Need-row-key-requires
 row-key-requires c κs = search needs

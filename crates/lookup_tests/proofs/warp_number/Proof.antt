@@ -1,7 +1,7 @@
--- `lookup::warp_number` is the lowest number of a question about warps. Assumes nothing.
+-- `lookup_tests::warp_number` is the lowest number of a question about warps. Assumes nothing.
 use borrow.Author.Needs.{needs}
-use Rattle.lookup.proofs.warp_number.Statement.{statement}
-use Rattle.lookup.proofs.warp_number.Tie as tie
+use Rattle.lookup_tests.proofs.warp_number.Statement.{statement}
+use Rattle.lookup_tests.proofs.warp_number.Tie as tie
 
 rising-number-requires : tie.Need-rising-number-requires
 rising-number-requires c κs = search needs

@@ -1,7 +1,7 @@
--- `lookup::fake_number` is the lowest number of a question about fakes. Assumes nothing.
+-- `lookup_tests::fake_number` is the lowest number of a question about fakes. Assumes nothing.
 use borrow.Author.Needs.{needs}
-use Rattle.lookup.proofs.fake_number.Statement.{statement}
-use Rattle.lookup.proofs.fake_number.Tie as tie
+use Rattle.lookup_tests.proofs.fake_number.Statement.{statement}
+use Rattle.lookup_tests.proofs.fake_number.Tie as tie
 
 rising-number-requires : tie.Need-rising-number-requires
 rising-number-requires c κs = search needs

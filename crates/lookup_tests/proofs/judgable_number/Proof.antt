@@ -1,7 +1,7 @@
--- `lookup::judgable_number` is the lowest number of a question about both. Assumes nothing.
+-- `lookup_tests::judgable_number` is the lowest number of a question about both. Assumes nothing.
 use borrow.Author.Needs.{needs}
-use Rattle.lookup.proofs.judgable_number.Statement.{statement}
-use Rattle.lookup.proofs.judgable_number.Tie as tie
+use Rattle.lookup_tests.proofs.judgable_number.Statement.{statement}
+use Rattle.lookup_tests.proofs.judgable_number.Tie as tie
 
 warp-number-requires : tie.Need-warp-number-requires
 warp-number-requires c κs = search needs
