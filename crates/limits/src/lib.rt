@@ -182,7 +182,8 @@ pub fn row_taken(row: i32) -> bool
     row <= 3145728
 }
 
-fn one_outside(range: Range, x: f64) -> usize
+// 1 for a number that is not in a range: a loop that adds it up has no branch.
+pub fn one_outside(range: Range, x: f64) -> usize
     ensures { λ r. ⌜ r ≡ miss (inRange range) x ⌝ }
 {
     if in_range(range, x) { 0 } else { 1 }
@@ -218,7 +219,8 @@ fn is_plain(range: Range, x: f64) -> bool
     lies_within(range.most, x)
 }
 
-fn one_not_plain(range: Range, x: f64) -> u32
+// 1 for a number that is not.
+pub fn one_not_plain(range: Range, x: f64) -> u32
     ensures { λ r. ⌜ r ≡ miss (plain range) x ⌝ }
 {
     if is_plain(range, x) { 0 } else { 1 }
@@ -266,44 +268,6 @@ pub fn column_taken(kind: Kind, column: &[f64]) -> bool
     all_in(range, column)
 }
 
-fn all_plain_f32(range: Range, column: &[f32]) -> bool
-    ensures { λ r. ⌜ r ≡ every (plain range) (now (column .entry)) ⌝ }
-{
-    let mut worst: u32 = 0;
-    let mut i = 0;
-    while i < column.len() {
-        worst = worse_of(
-            worst,
-            one_not_plain(range, std::num::f32_to_f64_with_nan(column[i])),
-        );
-        i += 1;
-    }
-    worst == 0
-}
-
-fn all_in_f32(range: Range, column: &[f32]) -> bool
-    ensures { λ r. ⌜ r ≡ allIn range (now (column .entry)) ⌝ }
-{
-    let mut outside: usize = 0;
-    let mut i = 0;
-    while i < column.len() {
-        outside += one_outside(range, std::num::f32_to_f64_with_nan(column[i]));
-        i += 1;
-    }
-    outside == 0
-}
-
-// The same of a column of f32.
-pub fn column_taken_f32(kind: Kind, column: &[f32]) -> bool
-    ensures { λ r. ⌜ r ≡ allIn (rangeOf kind) (now (column .entry)) ⌝ }
-{
-    let range = range_of(kind);
-    if all_plain_f32(range, column) {
-        return true;
-    }
-    all_in_f32(range, column)
-}
-
 fn one_no_unit(unit: u8) -> usize
     ensures { λ r. ⌜ r ≡ miss isUnit unit ⌝ }
 {
@@ -342,28 +306,6 @@ pub fn list_number(beat_kind: Kind, value_kind: Kind, beats: &[f64], values: &[f
         return BAD_BEAT;
     }
     if !column_taken(value_kind, values) {
-        return BAD_VALUE;
-    }
-    TAKEN
-}
-
-// The same of columns of f32, as a timing has them.
-pub fn list_number_f32(beat_kind: Kind, value_kind: Kind, beats: &[f32], values: &[f32]) -> u32
-    ensures { λ r. ⌜ r ≡ listNumber (rangeOf «beat_kind») (rangeOf «value_kind») (now (beats .entry)) (now (values .entry)) ⌝ }
-{
-    if beats.len() > MOST_ENTRIES {
-        return TOO_LONG;
-    }
-    if values.len() > MOST_ENTRIES {
-        return TOO_LONG;
-    }
-    if beats.len() != values.len() {
-        return UNEVEN;
-    }
-    if !column_taken_f32(beat_kind, beats) {
-        return BAD_BEAT;
-    }
-    if !column_taken_f32(value_kind, values) {
         return BAD_VALUE;
     }
     TAKEN

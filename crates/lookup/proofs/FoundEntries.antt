@@ -14,7 +14,7 @@ use Rattle.limits.specs.Numbers.{nothing}
 use Rattle.order.proofs.Compare.{below?}
 use Rattle.lookup.specs.Lookups.{keyOf, lastPasses, isPaused, rowsRise}
 use Rattle.lookup.specs.Finding.{keyAt, Passed, Past, Split, Between, ofLast}
-use Rattle.lookup.proofs.RowsRise.{Rising}
+use Rattle.lookup_tests.proofs.RowsRise.{Rising}
 
 -- ---- the search, and the cursor
 module _ (key : ℕ) (beats : List Float) where

@@ -15,7 +15,7 @@ use Rattle.limits.specs.Numbers.{nothing}
 use Rattle.order.proofs.Compare.{below?}
 use Rattle.lookup.specs.Lookups.{isPaused}
 use Rattle.lookup.specs.Finding.{keyAt, keyBefore, keyAfter, Passed, Past, Split, ofLast, Stands, Usable}
-use Rattle.lookup.proofs.RowsRise.{Rising, rises}
+use Rattle.lookup_tests.proofs.RowsRise.{Rising, rises}
 use Rattle.lookup.proofs.FoundEntries.{passed-to, past-from, ended, of-next, pausesOn, pause-found}
 
 before-next : (beats : List Float) (m : ℕ) → keyBefore beats (suc m) ≡ keyAt beats m

@@ -1,4 +1,3 @@
-pub mod RowsRise
 pub mod FoundEntries
 pub mod HeldPlaces
 pub mod HeldSpans

@@ -17,7 +17,7 @@ use Rattle.columns.specs.declared.Outcome.{Outcome}
 use Rattle.columns.specs.Laying.{given}
 use Rattle.lookup.specs.Lookups.{keyOf, lastPasses, isPaused, inWarp, isWarped, isFake, isJudgable, byte, Judged}
 use Rattle.lookup.specs.Finding.{keyAt, Split}
-use Rattle.lookup.proofs.RowsRise.{never}
+use Rattle.lookup_tests.proofs.RowsRise.{never}
 use Rattle.lookup.proofs.FoundEntries.{of-next, last-found}
 
 -- the entry at a place is tested where it is at or before the row, and so are those before it, and none of the later ones is

@@ -12,15 +12,8 @@ use Rattle.picks.specs.Pick.{pick}
 use Rattle.lookup.specs.declared.Cursor.{Cursor}
 use Rattle.lookup.specs.declared.Place.{Place}
 use Rattle.lookup.specs.declared.Held.{Held}
-use Rattle.lookup.specs.Lookups.{keyOf, rowsRise}
-
--- the key of the entry at a place
-abbrev pub keyAt : List Float → ℕ → ℕ
-keyAt beats place = keyOf (getD beats place nan)
-
--- 1 where the row of a beat is not above the row of the beat before it
-abbrev pub notAbove : Float → Float → ℕ
-notAbove before beat = pick (ltb (keyOf before) (keyOf beat)) 0 1
+use Rattle.lookup_tests.specs.Refused.{rowsRise}
+pub use Rattle.lookup_tests.specs.Refused.{keyAt}
 
 -- a list that can be looked into
 abbrev pub Usable : List Float → List Float → Type 0

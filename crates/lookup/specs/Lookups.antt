@@ -3,26 +3,21 @@ use Prim.Native.Nat.{ℕ}
 use mathlib.Core.Bool.{Bool, true, false, not}
 use mathlib.Core.List.{List, [], _∷_, map}
 use mathlib.Core.Path.{_≡_}
-use lib.Dec.{ltb, leb, eqb}
+use lib.Dec.{leb, eqb}
 use lib.IntN.{ℤ}
 use lib.ListN.{length}
 use lib.Ieee.{Float, Format, binary32, binary64, lt, le, add}
 use Rattle.picks.specs.Pick.{pick}
 use Rattle.ieee.specs.Narrowing.{narrow}
 use Rattle.rows.specs.Rows.{row, beatOf}
-use Rattle.limits.specs.declared.Kind.the-variants.{Beat, Pause, Value}
-use Rattle.limits.specs.declared.Range.{Range}
-use Rattle.limits.specs.Numbers.{rangeOf, inRange, nothing, every, rowIn}
-use Rattle.limits.specs.Refusals.{lower, listNumber}
+use Rattle.limits.specs.Numbers.{nothing}
 use Rattle.order.specs.Order.{laid}
 use Rattle.order.specs.RowKey.{rowKey}
 use Rattle.columns.specs.declared.Outcome.{Outcome}
 use Rattle.columns.specs.Laying.{roomNumber, given}
 use Rattle.lookup.specs.declared.Looked.{Looked}
-
--- a beat's f32 row, as a key
-abbrev pub keyOf : Float → ℕ
-keyOf beat = rowKey (row binary32 beat)
+pub use Rattle.lookup_tests.specs.Refused.{keyOf, askedNumber, warpNumber, fakeNumber, judgableNumber}
+unfoldable pub use Rattle.lookup_tests.specs.Refused.{isBelow, rowsRise, risingNumber}
 
 -- ---- entries found by their rows
 
@@ -66,36 +61,6 @@ isJudgable stopBeats stopValues delayBeats delayValues warpBeats warpLengths fak
 -- the row of an asked beat
 abbrev pub askedRow : Float → ℤ
 askedRow beat = row binary32 (narrow beat)
-
--- ---- refusals
-
--- each row is above the one before it
-unfoldable pub isBelow : Float → List Float → Bool
-isBelow beat [] = true
-isBelow beat (next ∷ beats) = ltb (keyOf beat) (keyOf next)
-
-unfoldable pub rowsRise : List Float → Bool
-rowsRise [] = true
-rowsRise (beat ∷ beats) = pick (isBelow beat beats) (rowsRise beats) false
-
--- a list by itself: 1 to 4, and 5 where its rows do not rise
-unfoldable pub risingNumber : Range → List Float → List Float → ℕ
-risingNumber value beats values = pick (eqb (listNumber (rangeOf Beat) value beats values) 0) (pick (rowsRise beats) 0 5) (listNumber (rangeOf Beat) value beats values)
-
-abbrev pub askedNumber : Bool → ℕ
-askedNumber allowed = pick allowed 0 3
-
--- the lowest over the lists that a question takes, and what is asked
-abbrev pub warpNumber : List Float → List Float → List Float → List Float → List Float → List Float → Bool → ℕ
-warpNumber stopBeats stopValues delayBeats delayValues warpBeats warpLengths allowed =
-    lower (lower (risingNumber (rangeOf Pause) stopBeats stopValues) (risingNumber (rangeOf Pause) delayBeats delayValues)) (lower (risingNumber (rangeOf Value) warpBeats warpLengths) (askedNumber allowed))
-
-abbrev pub fakeNumber : List Float → List Float → Bool → ℕ
-fakeNumber fakeBeats fakeLengths allowed = lower (risingNumber (rangeOf Value) fakeBeats fakeLengths) (askedNumber allowed)
-
-abbrev pub judgableNumber : List Float → List Float → List Float → List Float → List Float → List Float → List Float → List Float → Bool → ℕ
-judgableNumber stopBeats stopValues delayBeats delayValues warpBeats warpLengths fakeBeats fakeLengths allowed =
-    lower (warpNumber stopBeats stopValues delayBeats delayValues warpBeats warpLengths allowed) (fakeNumber fakeBeats fakeLengths allowed)
 
 -- a lookup's answer: no after a refusal
 unfoldable pub looked : ℕ → Bool → Looked

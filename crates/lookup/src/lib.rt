@@ -9,47 +9,11 @@ ghost use lib.IntN.{ℤ};
 ghost use Rattle.columns.specs.Each.{laidEach};
 ghost use lib.ListN.{length};
 ghost use Rattle.picks.specs.Pick.{pick};
-ghost use Rattle.limits.specs.Numbers.{rangeOf, inRange, every, miss, rowIn};
+ghost use Rattle.limits.specs.Numbers.{rangeOf, inRange, every, rowIn};
 ghost use Rattle.order.specs.RowKey.{rowKey};
-ghost use Rattle.lookup.specs.Lookups.{keyOf, isPaused, isWarped, isFake, isJudgable, askedRow, rowsRise, risingNumber, askedNumber, warpNumber, fakeNumber, judgableNumber, looked, byte, Judged};
-ghost use Rattle.lookup.specs.Finding.{notAbove, Usable, AllUsable, Split, Between, keyBefore, keyAfter, Stands, PlaceStands, spanCovers, startOf, warpEnd, fakeEnd, Holds, HeldStands, AllStand};
-
-// ---- rows that rise
-
-// The f32 row of a beat, as a key.
-fn row_key(beat: f32) -> u32
-    ensures { λ r. ⌜ r ≡ keyOf beat ⌝ }
-{
-    order::key_of_row(rows::beat_to_note_row_f32(beat))
-}
-
-// 1 where the row of a beat is not above the row of the beat before it.
-fn one_not_above(before: f32, beat: f32) -> usize
-    ensures { λ r. ⌜ r ≡ notAbove before beat ⌝ }
-{
-    if row_key(before) < row_key(beat) {
-        0
-    } else {
-        1
-    }
-}
-
-// All are counted, which a loop does for several entries at a time.
-fn rows_rise(beats: &[f32]) -> bool
-    ensures { λ r. ⌜ r ≡ rowsRise (now (beats .entry)) ⌝ }
-{
-    if beats.len() == 0 {
-        return true;
-    }
-    let last = beats.len() - 1;
-    let mut falls: usize = 0;
-    let mut i = 0;
-    while i < last {
-        falls += one_not_above(beats[i], beats[i + 1]);
-        i += 1;
-    }
-    falls == 0
-}
+ghost use Rattle.lookup_tests.specs.Refused.{rowsRise, warpNumber, fakeNumber, judgableNumber};
+ghost use Rattle.lookup.specs.Lookups.{isPaused, isWarped, isFake, isJudgable, askedRow, looked, byte, Judged};
+ghost use Rattle.lookup.specs.Finding.{Usable, AllUsable, Split, Between, keyBefore, keyAfter, Stands, PlaceStands, spanCovers, startOf, warpEnd, fakeEnd, Holds, HeldStands, AllStand};
 
 // ---- where the entries at or before a row end
 
@@ -64,7 +28,7 @@ fn halve(beats: &[f32], key: u32, low: usize, high: usize) -> Bounds
     ensures { λ r. ⌜ Between key (now (beats .entry)) (r .low) (r .high) × (r .high ≤ high) × (r .high - r .low < high - low) ⌝ }
 {
     let middle = low + (high - low) / 2;
-    if row_key(beats[middle]) <= key {
+    if lookup_tests::row_key(beats[middle]) <= key {
         return Bounds {
             low: middle + 1,
             high: high,
@@ -108,7 +72,7 @@ fn key_before(beats: &[f32], n: usize) -> u32
     if n == 0 {
         return 0;
     }
-    row_key(beats[n - 1])
+    lookup_tests::row_key(beats[n - 1])
 }
 
 // The row of the entry after them; the highest key where there is none.
@@ -116,7 +80,7 @@ fn key_after(beats: &[f32], n: usize) -> u32
     ensures { λ r. ⌜ r ≡ keyAfter (now (beats .entry)) n ⌝ }
 {
     if n < beats.len() {
-        return row_key(beats[n]);
+        return lookup_tests::row_key(beats[n]);
     }
     4294967295
 }
@@ -364,88 +328,6 @@ fn judgable_after(
     !fake_after(fake_beats, fake_lengths, fakes, row)
 }
 
-// ---- refusals
-
-// What a list answers by itself: 1, 2, 3 or 4, 5 where its rows do not rise, and 0 where it is taken.
-fn rising_number(value_kind: Kind, beats: &[f32], values: &[f32]) -> u32
-    ensures { λ r. ⌜ r ≡ risingNumber (rangeOf «value_kind») (now (beats .entry)) (now (values .entry)) ⌝ }
-{
-    let number = limits::list_number_f32(Kind::Beat, value_kind, beats, values);
-    if number == limits::TAKEN {
-        if rows_rise(beats) {
-            return limits::TAKEN;
-        }
-        return limits::NOT_RISING;
-    }
-    number
-}
-
-fn asked_number(allowed: bool) -> u32
-    ensures { λ r. ⌜ r ≡ askedNumber allowed ⌝ }
-{
-    if allowed {
-        limits::TAKEN
-    } else {
-        limits::BAD_BEAT
-    }
-}
-
-fn warp_number(
-    stop_beats: &[f32],
-    stop_values: &[f32],
-    delay_beats: &[f32],
-    delay_values: &[f32],
-    warp_beats: &[f32],
-    warp_lengths: &[f32],
-    allowed: bool,
-) -> u32
-    ensures { λ r. ⌜ r ≡ warpNumber (now («stop_beats» .entry)) (now («stop_values» .entry)) (now («delay_beats» .entry)) (now («delay_values» .entry)) (now («warp_beats» .entry)) (now («warp_lengths» .entry)) allowed ⌝ }
-{
-    let stops = rising_number(Kind::Pause, stop_beats, stop_values);
-    let delays = rising_number(Kind::Pause, delay_beats, delay_values);
-    let warps = rising_number(Kind::Value, warp_beats, warp_lengths);
-    limits::lower_of(
-        limits::lower_of(stops, delays),
-        limits::lower_of(warps, asked_number(allowed)),
-    )
-}
-
-fn fake_number(fake_beats: &[f32], fake_lengths: &[f32], allowed: bool) -> u32
-    ensures { λ r. ⌜ r ≡ fakeNumber (now («fake_beats» .entry)) (now («fake_lengths» .entry)) allowed ⌝ }
-{
-    limits::lower_of(
-        rising_number(Kind::Value, fake_beats, fake_lengths),
-        asked_number(allowed),
-    )
-}
-
-fn judgable_number(
-    stop_beats: &[f32],
-    stop_values: &[f32],
-    delay_beats: &[f32],
-    delay_values: &[f32],
-    warp_beats: &[f32],
-    warp_lengths: &[f32],
-    fake_beats: &[f32],
-    fake_lengths: &[f32],
-    allowed: bool,
-) -> u32
-    ensures { λ r. ⌜ r ≡ judgableNumber (now («stop_beats» .entry)) (now («stop_values» .entry)) (now («delay_beats» .entry)) (now («delay_values» .entry)) (now («warp_beats» .entry)) (now («warp_lengths» .entry)) (now («fake_beats» .entry)) (now («fake_lengths» .entry)) allowed ⌝ }
-{
-    limits::lower_of(
-        warp_number(
-            stop_beats,
-            stop_values,
-            delay_beats,
-            delay_values,
-            warp_beats,
-            warp_lengths,
-            allowed,
-        ),
-        fake_number(fake_beats, fake_lengths, allowed),
-    )
-}
-
 // ---- the calls
 
 // The refusal number, 0 where the question is taken, and the answer: no after a refusal.
@@ -467,7 +349,7 @@ fn look_up_warp(
 ) -> Looked
     ensures { λ r. ⌜ r ≡ looked (warpNumber (now («stop_beats» .entry)) (now («stop_values» .entry)) (now («delay_beats» .entry)) (now («delay_values» .entry)) (now («warp_beats» .entry)) (now («warp_lengths» .entry)) allowed) (isWarped (now («stop_beats» .entry)) (now («stop_values» .entry)) (now («delay_beats» .entry)) (now («delay_values» .entry)) (now («warp_beats» .entry)) (now («warp_lengths» .entry)) row) ⌝ }
 {
-    let number = warp_number(
+    let number = lookup_tests::warp_number(
         stop_beats,
         stop_values,
         delay_beats,
@@ -502,7 +384,7 @@ fn look_up_warp(
 fn look_up_fake(fake_beats: &[f32], fake_lengths: &[f32], allowed: bool, row: i32) -> Looked
     ensures { λ r. ⌜ r ≡ looked (fakeNumber (now («fake_beats» .entry)) (now («fake_lengths» .entry)) allowed) (isFake (now («fake_beats» .entry)) (now («fake_lengths» .entry)) row) ⌝ }
 {
-    let number = fake_number(fake_beats, fake_lengths, allowed);
+    let number = lookup_tests::fake_number(fake_beats, fake_lengths, allowed);
     if number != limits::TAKEN {
         return Looked {
             number: number,
@@ -531,7 +413,7 @@ fn look_up_judgable(
 ) -> Looked
     ensures { λ r. ⌜ r ≡ looked (judgableNumber (now («stop_beats» .entry)) (now («stop_values» .entry)) (now («delay_beats» .entry)) (now («delay_values» .entry)) (now («warp_beats» .entry)) (now («warp_lengths» .entry)) (now («fake_beats» .entry)) (now («fake_lengths» .entry)) allowed) (isJudgable (now («stop_beats» .entry)) (now («stop_values» .entry)) (now («delay_beats» .entry)) (now («delay_values» .entry)) (now («warp_beats» .entry)) (now («warp_lengths» .entry)) (now («fake_beats» .entry)) (now («fake_lengths» .entry)) row) ⌝ }
 {
-    let number = judgable_number(
+    let number = lookup_tests::judgable_number(
         stop_beats,
         stop_values,
         delay_beats,
@@ -985,25 +867,6 @@ fn judge_rows(
     }
 }
 
-fn one_beyond(row: i32) -> usize
-    ensures { λ r. ⌜ r ≡ miss rowIn row ⌝ }
-{
-    if limits::row_taken(row) { 0 } else { 1 }
-}
-
-// Whether every row is within the limit.
-fn rows_taken(rows: &[i32]) -> bool
-    ensures { λ r. ⌜ r ≡ every rowIn (now (rows .entry)) ⌝ }
-{
-    let mut beyond: usize = 0;
-    let mut i = 0;
-    while i < rows.len() {
-        beyond += one_beyond(rows[i]);
-        i += 1;
-    }
-    beyond == 0
-}
-
 // 1 for each row that is judgable and 0 for each that is not, over the front of the room. Refused as the single question is, with 3 where
 // any row is beyond the limit, and with 7 where there are more rows than places.
 pub fn judgable_rows(
@@ -1020,7 +883,7 @@ pub fn judgable_rows(
 ) -> Outcome
     ensures { λ r. ⌜ Judged (judgableNumber (now («stop_beats» .entry)) (now («stop_values» .entry)) (now («delay_beats» .entry)) (now («delay_values» .entry)) (now («warp_beats» .entry)) (now («warp_lengths» .entry)) (now («fake_beats» .entry)) (now («fake_lengths» .entry)) (every rowIn (now (rows .entry)))) (isJudgable (now («stop_beats» .entry)) (now («stop_values» .entry)) (now («delay_beats» .entry)) (now («delay_values» .entry)) (now («warp_beats» .entry)) (now («warp_lengths» .entry)) (now («fake_beats» .entry)) (now («fake_lengths» .entry))) (now (rows .entry)) r (now (out .entry)) (now (out .exit)) ⌝ }
 {
-    let number = judgable_number(
+    let number = lookup_tests::judgable_number(
         stop_beats,
         stop_values,
         delay_beats,
@@ -1029,7 +892,7 @@ pub fn judgable_rows(
         warp_lengths,
         fake_beats,
         fake_lengths,
-        rows_taken(rows),
+        lookup_tests::rows_taken(rows),
     );
     if number != limits::TAKEN {
         return columns::refused(number);

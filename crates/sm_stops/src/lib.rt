@@ -390,7 +390,7 @@ fn flat_number(list: &[f32]) -> u32
     if !is_even(list.len()) {
         return limits::UNEVEN;
     }
-    if limits::column_taken_f32(Kind::Beat, list) {
+    if timing_limits::column_taken_f32(Kind::Beat, list) {
         return limits::TAKEN;
     }
     if !flat_beats_taken(list) {
@@ -423,10 +423,10 @@ fn lists_number(
 ) -> u32
     ensures { λ r. ⌜ r ≡ listsNumber (sources (now («tempo_beats» .entry)) (now («tempo_values» .entry)) (now (stops .entry)) (now («delay_beats» .entry)) (now («delay_values» .entry)) (now («warp_beats» .entry)) (now («warp_lengths» .entry))) size ⌝ }
 {
-    let tempos = limits::list_number_f32(Kind::Beat, Kind::Tempo, tempo_beats, tempo_values);
+    let tempos = timing_limits::list_number_f32(Kind::Beat, Kind::Tempo, tempo_beats, tempo_values);
     let own = flat_number(stops);
-    let delays = limits::list_number_f32(Kind::Beat, Kind::Pause, delay_beats, delay_values);
-    let warps = limits::list_number_f32(Kind::Beat, Kind::Value, warp_beats, warp_lengths);
+    let delays = timing_limits::list_number_f32(Kind::Beat, Kind::Pause, delay_beats, delay_values);
+    let warps = timing_limits::list_number_f32(Kind::Beat, Kind::Value, warp_beats, warp_lengths);
     let room = work_number(size);
     let first = limits::lower_of(tempos, own);
     let others = limits::lower_of(delays, warps);

@@ -2,7 +2,6 @@ pub mod TakenBeats
 pub mod RowPattern
 pub mod RowMarks
 pub mod BothWays
-pub mod Outcomes
 pub mod RowsRise
 pub mod LastOfEachRow
 pub mod TidiedAgain

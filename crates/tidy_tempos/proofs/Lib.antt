@@ -1,6 +1,5 @@
 pub mod KeptTurns
 pub mod FromZero
 pub mod InOrder
-pub mod SortedEntries
 pub mod ByKey
 pub mod AllChange

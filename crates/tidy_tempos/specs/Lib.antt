@@ -1,3 +1,2 @@
 pub mod TempoTidying
 pub mod Keeping
-pub mod Sorting

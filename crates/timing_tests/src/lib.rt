@@ -59,10 +59,10 @@ fn lists_number(
 ) -> u32
     ensures { λ r. ⌜ r ≡ listsNumber (timing (now («tempo_beats» .entry)) (now («tempo_values» .entry)) (now («stop_beats» .entry)) (now («stop_values» .entry)) (now («delay_beats» .entry)) (now («delay_values» .entry)) (now («warp_beats» .entry)) (now («warp_lengths» .entry))) ⌝ }
 {
-    let tempos = limits::list_number_f32(Kind::Beat, Kind::Tempo, tempo_beats, tempo_values);
-    let stops = limits::list_number_f32(Kind::Beat, Kind::Pause, stop_beats, stop_values);
-    let delays = limits::list_number_f32(Kind::Beat, Kind::Pause, delay_beats, delay_values);
-    let warps = limits::list_number_f32(Kind::Beat, Kind::Value, warp_beats, warp_lengths);
+    let tempos = timing_limits::list_number_f32(Kind::Beat, Kind::Tempo, tempo_beats, tempo_values);
+    let stops = timing_limits::list_number_f32(Kind::Beat, Kind::Pause, stop_beats, stop_values);
+    let delays = timing_limits::list_number_f32(Kind::Beat, Kind::Pause, delay_beats, delay_values);
+    let warps = timing_limits::list_number_f32(Kind::Beat, Kind::Value, warp_beats, warp_lengths);
     let pauses = limits::lower_of(delays, warps);
     let others = limits::lower_of(stops, pauses);
     limits::lower_of(tempos, others)

@@ -1,6 +1,6 @@
 -- `lookup::halve` halves the bounds of the search. Assumes nothing.
 use Rattle.lookup.proofs.FoundEntries.{go-up, go-down}
-use Rattle.lookup.proofs.RowsRise.{rises}
+use Rattle.lookup_tests.proofs.RowsRise.{rises}
 use Prim.Native.Nat.{_+_, _-_, _/_}
 use native.Mathlib.Omega.{arith}
 use borrow.Author.Needs.{needs}

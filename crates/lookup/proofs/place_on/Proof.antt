@@ -3,7 +3,7 @@ use native.Mathlib.Omega.{arith}
 use Prim.Native.Nat.{_-_, _≤_}
 use lib.ListN.{length}
 use Rattle.lookup.specs.Finding.{Stands}
-use Rattle.lookup.proofs.RowsRise.{rises}
+use Rattle.lookup_tests.proofs.RowsRise.{rises}
 use Rattle.lookup.proofs.HeldPlaces.{stands-next, same-place, last-place}
 use borrow.Author.Needs.{needs}
 use Rattle.lookup.proofs.place_on.Statement.{statement}

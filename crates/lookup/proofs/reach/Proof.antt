@@ -1,5 +1,5 @@
 -- `lookup::reach` goes from the place of one row to that of another. Assumes nothing.
-use Rattle.lookup.proofs.RowsRise.{rises}
+use Rattle.lookup_tests.proofs.RowsRise.{rises}
 use Rattle.lookup.proofs.HeldPlaces.{same-place}
 use borrow.Author.Needs.{needs}
 use Rattle.lookup.proofs.reach.Statement.{statement}

@@ -1,8 +1,10 @@
 -- `tidy_rows::tidy_row_segments` meets its contract. Assumes nothing.
 use mathlib.Core.Path.{sym, _∙_}
 use native.Mathlib.Omega.{arith}
+use lib.ListN.{length}
 use Rattle.limits.proofs.ListTaken.{list-taken}
 use Rattle.columns.proofs.Rooms.{refused-by-tests}
+use Rattle.row_sort.proofs.Outcomes.{taken-sizes, numbered}
 use Rattle.tidy_rows.specs.RowTidying.{tidyRows, rowsNumber}
 use borrow.Author.Needs.{needs}
 use Rattle.tidy_rows.proofs.tidy_row_segments.Statement.{statement}
@@ -38,8 +40,8 @@ same-length-2 c = search needs
 returns-2 : tie.Need-returns-2
 returns-2 c = c .before .before .before .before .tidy-ordered .ensures
 
-tidy-short-requires : tie.Need-tidy-short-requires
-tidy-short-requires c κs = search needs
+tidy-by-sort-requires : tie.Need-tidy-by-sort-requires
+tidy-by-sort-requires c κs = search needs
 
 same-length-3 : tie.Need-same-length-3
 same-length-3 c = search needs
@@ -48,19 +50,11 @@ same-length-4 : tie.Need-same-length-4
 same-length-4 c = search needs
 
 returns-3 : tie.Need-returns-3
-returns-3 c = c .before .before .before .before .tidy-short .ensures
-
-tidy-long-requires : tie.Need-tidy-long-requires
-tidy-long-requires c κs = search needs
-
-same-length-5 : tie.Need-same-length-5
-same-length-5 c = search needs
-
-same-length-6 : tie.Need-same-length-6
-same-length-6 c = search needs
-
-returns-4 : tie.Need-returns-4
-returns-4 c = c .before .before .before .before .tidy-long .ensures
+returns-3 c =
+    let given = c .before .before .before .before .before .before .before .before .before .before .before .before .before .before .before .before .args in
+    let zero = sym (c .before .before .before .before .before .before .before .before .before .before .before .list-number .ensures) ∙ c .before .before .before .before .before .before .before .before .before .before .if1 .left in
+    let list = list-taken zero in
+    numbered (taken-sizes (length (given .beats .now)) (length (given .values .now)) (list .few) (list .even) ∙ sym zero) (c .before .before .before .before .tidy-by-sort .ensures)
 
 pub tidy-row-segments-spec : {M : Type 1} → statement M
 tidy-row-segments-spec =
@@ -74,11 +68,7 @@ tidy-row-segments-spec =
     same-length
     same-length-2
     returns-2
-    tidy-short-requires
+    tidy-by-sort-requires
     same-length-3
     same-length-4
-    returns-3
-    tidy-long-requires
-    same-length-5
-    same-length-6
-    returns-4)
+    returns-3)

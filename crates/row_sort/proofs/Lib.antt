@@ -1,0 +1,2 @@
+pub mod SortedWay
+pub mod Outcomes
