@@ -1,15 +1,12 @@
-// What the tidying of scrolls and that of speeds share: nearness, the change that an entry makes in the kept list, and a column with a part replaced.
+// What the tidying of scrolls and that of speeds share: nearness, and the change that an entry makes in the kept list.
 ghost use mathlib.Core.Path.{_≡_};
-ghost use mathlib.Core.List.{_∷_, _++_};
-ghost use Prim.Native.Nat.{_-_, _≤_, _<_};
-ghost use lib.ListN.{length, take, drop};
+ghost use Prim.Native.Nat.{_-_, _≤_};
 ghost use Rattle.picks.specs.Pick.{pick};
-ghost use Rattle.order.specs.Order.{laid};
 ghost use lib.Ieee.{Float};
 ghost use Rattle.limits.specs.Numbers.{miss};
 ghost use Rattle.limits.specs.Neighbours.{everyTwo};
 ghost use Rattle.keeping.specs.Near.{nearTo, farFrom};
-ghost use Rattle.keeping.specs.Changing.{cut, changeOf, splicedIn};
+ghost use Rattle.keeping.specs.Changing.{cut, changeOf};
 
 // Whether two values are less than a millionth apart.
 pub fn near(a: f64, b: f64) -> bool
@@ -151,58 +148,5 @@ pub fn change_of(
         comes: true,
         moves: false,
         falls: false,
-    }
-}
-
-// ---- a column with a part replaced
-
-// x at a place of the first n, those behind it one place on.
-fn open_place(column: &mut [f64], n: usize, at: usize, x: f64)
-    requires { ⌜ (at ≤ n) × (n < length (now column)) ⌝ }
-    ensures { λ _. ⌜ now (column .exit) ≡ laid (take at (take n (now (column .entry))) ++ (x ∷ drop at (take n (now (column .entry))))) (now (column .entry)) ⌝ }
-{
-    let mut i = n;
-    while at < i {
-        column[i] = column[i - 1];
-        i -= 1;
-    }
-    column[i] = x;
-}
-
-// The first n without the places from low up to high.
-fn close_gap(column: &mut [f64], n: usize, low: usize, high: usize)
-    requires { ⌜ (low ≤ high) × (high ≤ n) × (n < length (now column)) ⌝ }
-    ensures { λ _. ⌜ now (column .exit) ≡ laid (take low (take n (now (column .entry))) ++ drop high (take n (now (column .entry)))) (now (column .entry)) ⌝ }
-{
-    if low < high {
-        let mut to = low;
-        let mut i = high;
-        while i < n {
-            column[to] = column[i];
-            to += 1;
-            i += 1;
-        }
-    }
-}
-
-// The first n of a column without the places from low up to high, and where one comes with x there. Nothing is done where these do not fit, or nothing is behind the first n.
-pub fn splice(column: &mut [f64], n: usize, low: usize, high: usize, comes: bool, x: f64)
-    ensures { λ _. ⌜ now (column .exit) ≡ splicedIn n low high comes x (now (column .entry)) ⌝ }
-{
-    if n < column.len() {
-        if high <= n {
-            if low <= high {
-                if comes {
-                    if low == high {
-                        open_place(column, n, low, x);
-                        return;
-                    }
-                    column[low] = x;
-                    close_gap(column, n, low + 1, high);
-                    return;
-                }
-                close_gap(column, n, low, high);
-            }
-        }
     }
 }

@@ -167,8 +167,8 @@ fn place_later(
 {
     let change = change_at(beats, ratios, delays, units, n, beat, value);
     let comes = speed_of(ratios, delays, units, change, value);
-    keeping::splice(beats, n, change.low, change.high, change.comes, beat);
-    keeping::splice(
+    splicing::splice(beats, n, change.low, change.high, change.comes, beat);
+    splicing::splice(
         ratios,
         n,
         change.low,
@@ -176,7 +176,7 @@ fn place_later(
         change.comes,
         comes.ratio,
     );
-    keeping::splice(
+    splicing::splice(
         delays,
         n,
         change.low,
@@ -184,7 +184,7 @@ fn place_later(
         change.comes,
         comes.delay,
     );
-    speeds::splice(units, n, change.low, change.high, change.comes, comes.unit);
+    splicing::splice_units(units, n, change.low, change.high, change.comes, comes.unit);
     Placed {
         count: left_of(n, change),
         falls: change.falls,

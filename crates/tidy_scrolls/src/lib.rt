@@ -295,8 +295,8 @@ fn place(beats: &mut [f64], values: &mut [f64], n: usize, beat: f64, value: f64)
     }
     let change = change_at(beats, values, n, beat, value);
     let comes = value_of(values, change, value);
-    keeping::splice(beats, n, change.low, change.high, change.comes, beat);
-    keeping::splice(values, n, change.low, change.high, change.comes, comes);
+    splicing::splice(beats, n, change.low, change.high, change.comes, beat);
+    splicing::splice(values, n, change.low, change.high, change.comes, comes);
     let left = n - (change.high - change.low);
     if change.comes {
         return Placed {

@@ -28,8 +28,8 @@ splice-requires-2 c κs = search needs
 splice-requires-3 : tie.Need-splice-requires-3
 splice-requires-3 c κs = search needs
 
-splice-requires-4 : tie.Need-splice-requires-4
-splice-requires-4 c κs = search needs
+splice-units-requires : tie.Need-splice-units-requires
+splice-units-requires c κs = search needs
 
 left-of-requires : tie.Need-left-of-requires
 left-of-requires c κs = let g = c .before .before .before .before .before .before .before .before .before .before .before .before .before .before .before .before .before .before .before .before .before .before .before .before .before .before .before .before .before in (c .before .before .before .before .before .before .before .before .before .before .before .before .before .before .before .before .before .before .before .before .change-at .ensures .low, high-fits rowKeyAt nearSpeed nan noSpeed (g .args .beat, valueOf (g .args .value)) (g .args .n) (g .args .beats .now) (speedValues (g .args .ratios .now) (g .args .delays .now) (g .args .units .now)) (g .pre .0 .2) (omega (arith, many-values (g .args .ratios .now) (g .args .delays .now) (g .args .units .now), g .pre .1 .0 .0, g .pre .1 .0 .1, g .pre .1 .0 .2)) (c .before .before .before .before .before .before .before .before .before .before .before .before .before .before .before .before .before .before .before .before .change-at .result) (c .before .before .before .before .before .before .before .before .before .before .before .before .before .before .before .before .before .before .before .before .change-at .ensures), omega (arith, g .pre .0 .1))
@@ -44,7 +44,7 @@ same-length-3 : tie.Need-same-length-3
 same-length-3 c = c .before .before .before .before .before .before .before .splice3 .kept .0
 
 same-length-4 : tie.Need-same-length-4
-same-length-4 c = c .before .before .before .splice4 .kept .0
+same-length-4 c = c .before .before .before .splice-units .kept .0
 
 returns : tie.Need-returns
 returns c =
@@ -55,7 +55,7 @@ returns c =
       c .before .before .before .before .before .before .before .before .before .before .before .before .before .before .before .splice .ensures,
       c .before .before .before .before .before .before .before .before .before .before .before .splice2 .ensures,
       c .before .before .before .before .before .before .before .splice3 .ensures,
-      c .before .before .before .splice4 .ensures,
+      c .before .before .before .splice-units .ensures,
       splice-values (g .args .ratios .now) (g .args .delays .now) (g .args .units .now) (g .args .n) (change .low) (change .high) (change .comes) (valueOf comes) (sym (g .pre .1 .0 .0) ∙ g .pre .1 .0 .1) (sym (g .pre .1 .0 .0) ∙ g .pre .1 .0 .2) (omega (arith, g .pre .0 .2, g .pre .1 .0 .0)) (c .before .before .before .before .before .before .before .before .before .before .before .before .before .before .before .before .before .before .before .before .before .change-at .ensures .low) (high-fits rowKeyAt nearSpeed nan noSpeed (g .args .beat, valueOf (g .args .value)) (g .args .n) (g .args .beats .now) (speedValues (g .args .ratios .now) (g .args .delays .now) (g .args .units .now)) (g .pre .0 .2) (omega (arith, many-values (g .args .ratios .now) (g .args .delays .now) (g .args .units .now), g .pre .1 .0 .0, g .pre .1 .0 .1, g .pre .1 .0 .2)) (c .before .before .before .before .before .before .before .before .before .before .before .before .before .before .before .before .before .before .before .before .before .change-at .result) (c .before .before .before .before .before .before .before .before .before .before .before .before .before .before .before .before .before .before .before .before .before .change-at .ensures)),
     )
     (placed-later rowKeyAt nearSpeed nan noSpeed (g .args .beat, valueOf (g .args .value)) (g .args .n) (g .args .beats .now) (speedValues (g .args .ratios .now) (g .args .delays .now) (g .args .units .now)) (g .pre .0 .2) (omega (arith, many-values (g .args .ratios .now) (g .args .delays .now) (g .args .units .now), g .pre .1 .0 .0, g .pre .1 .0 .1, g .pre .1 .0 .2)) change (c .before .before .before .before .before .before .before .before .before .before .before .before .before .before .before .before .before .before .before .before .before .change-at .ensures) (valueOf comes) (c .before .before .before .before .before .before .before .before .before .before .before .before .before .before .before .before .before .speed-of .ensures) _ _ (c .left-of .ensures) refl)
@@ -69,7 +69,7 @@ place-later-spec =
     splice-requires
     splice-requires-2
     splice-requires-3
-    splice-requires-4
+    splice-units-requires
     left-of-requires
     same-length
     same-length-2

@@ -1,12 +1,12 @@
--- `keeping::close_gap` meets its contract. Assumes nothing.
+-- `splicing::close_gap` meets its contract. Assumes nothing.
 use Prim.Native.Nat.{_-_}
 use mathlib.Core.Path.{sym}
 use native.Mathlib.Omega.{arith}
 use lib.Ieee.{nan}
 use Rattle.keeping.proofs.PartReplaced.{Closing, closing-none, closing-more, closing-all, no-gap}
 use borrow.Author.Needs.{needs}
-use Rattle.keeping.proofs.close_gap.Statement.{statement}
-use Rattle.keeping.proofs.close_gap.Tie as tie
+use Rattle.splicing.proofs.close_gap.Statement.{statement}
+use Rattle.splicing.proofs.close_gap.Tie as tie
 
 abbrev Inv-loop : tie.InvT-loop
 Inv-loop column₀ n low high to₀ i₀ column to i = Closing column₀ n low high column to i

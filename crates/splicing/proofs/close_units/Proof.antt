@@ -1,11 +1,11 @@
--- `speeds::close_gap` meets its contract. Assumes nothing.
+-- `splicing::close_units` meets its contract. Assumes nothing.
 use Prim.Native.Nat.{_-_}
 use mathlib.Core.Path.{sym}
 use native.Mathlib.Omega.{arith}
 use Rattle.keeping.proofs.PartReplaced.{Closing, closing-none, closing-more, closing-all, no-gap}
 use borrow.Author.Needs.{needs}
-use Rattle.speeds.proofs.close_gap.Statement.{statement}
-use Rattle.speeds.proofs.close_gap.Tie as tie
+use Rattle.splicing.proofs.close_units.Statement.{statement}
+use Rattle.splicing.proofs.close_units.Tie as tie
 
 abbrev Inv-loop : tie.InvT-loop
 Inv-loop column₀ n low high to₀ i₀ column to i = Closing column₀ n low high column to i
@@ -53,8 +53,8 @@ returns-2 c =
     let g = c .before .args in
     no-gap 0 (g .column .now) (g .n) (omega arith) (g .low) (g .high) (omega arith) (omega arith) (omega arith)
 
-pub close-gap-spec : {M : Type 1} → statement M
-close-gap-spec =
+pub close-units-spec : {M : Type 1} → statement M
+close-units-spec =
     tie.close
     (tie.spec
     Inv-loop

@@ -1,12 +1,12 @@
--- `keeping::open_place` meets its contract. Assumes nothing.
+-- `splicing::open_place` meets its contract. Assumes nothing.
 use Prim.Native.Nat.{_≤_, _-_}
 use mathlib.Core.Path.{sym}
 use native.Mathlib.Omega.{arith}
 use lib.Ieee.{nan}
 use Rattle.keeping.proofs.PartReplaced.{Opening, opening-none, opening-more, opening-all}
 use borrow.Author.Needs.{needs}
-use Rattle.keeping.proofs.open_place.Statement.{statement}
-use Rattle.keeping.proofs.open_place.Tie as tie
+use Rattle.splicing.proofs.open_place.Statement.{statement}
+use Rattle.splicing.proofs.open_place.Tie as tie
 
 abbrev Inv-loop : tie.InvT-loop
 Inv-loop column₀ n at x i₀ column i = (at ≤ i) × (i ≤ n) × Opening column₀ n column i

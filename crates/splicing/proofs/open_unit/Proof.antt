@@ -1,11 +1,11 @@
--- `speeds::open_place` meets its contract. Assumes nothing.
+-- `splicing::open_unit` meets its contract. Assumes nothing.
 use Prim.Native.Nat.{_≤_, _-_}
 use mathlib.Core.Path.{sym}
 use native.Mathlib.Omega.{arith}
 use Rattle.keeping.proofs.PartReplaced.{Opening, opening-none, opening-more, opening-all}
 use borrow.Author.Needs.{needs}
-use Rattle.speeds.proofs.open_place.Statement.{statement}
-use Rattle.speeds.proofs.open_place.Tie as tie
+use Rattle.splicing.proofs.open_unit.Statement.{statement}
+use Rattle.splicing.proofs.open_unit.Tie as tie
 
 abbrev Inv-loop : tie.InvT-loop
 Inv-loop column₀ n at x i₀ column i = (at ≤ i) × (i ≤ n) × Opening column₀ n column i
@@ -50,8 +50,8 @@ returns c =
     let g = at .before .args in
     opening-all 0 (g .column .now) (g .n) (omega arith) (at .loop .column) (at .loop .i) (g .at) (g .x) (omega arith) (omega arith) (at .loop .inv .2)
 
-pub open-place-spec : {M : Type 1} → statement M
-open-place-spec =
+pub open-unit-spec : {M : Type 1} → statement M
+open-unit-spec =
     tie.close
     (tie.spec
     Inv-loop

@@ -1,13 +1,14 @@
--- `speeds::splice` opens a place, writes over one, or closes a gap. Assumes nothing.
+-- `splicing::splice` opens a place, writes over one, or closes a gap. Assumes nothing.
 use mathlib.Core.Path.{_∙_}
 use native.Mathlib.Omega.{arith}
 use lib.ListN.{length-set}
+use lib.Ieee.{nan}
 use Rattle.picks.proofs.Rules.{flags}
 use Rattle.keeping.specs.Changing.{splicedIn}
 use Rattle.keeping.proofs.PartReplaced.{spliced-opened, spliced-over, spliced-shut}
 use borrow.Author.Needs.{needs}
-use Rattle.speeds.proofs.splice.Statement.{statement}
-use Rattle.speeds.proofs.splice.Tie as tie
+use Rattle.splicing.proofs.splice.Statement.{statement}
+use Rattle.splicing.proofs.splice.Tie as tie
 
 open-place-requires : tie.Need-open-place-requires
 open-place-requires c κs = search needs
@@ -18,7 +19,10 @@ same-length c = search needs
 returns : tie.Need-returns
 returns c =
     let g = c .before .before .before .before .before .before .before .before .before .before .args in
-    c .before .before .open-place .ensures ∙ rw (c .before .before .before .before .before .if4 .taken) (spliced-opened 0 (g .column .now) (g .n) (omega arith) (g .low) (g .high) (omega arith) (omega arith) (g .x) (omega arith))
+    c .before .before .open-place .ensures ∙ rw (c .before .before .before .before .before .if4 .taken) (spliced-opened nan (g .column .now) (g .n) (omega arith) (g .low) (g .high) (omega arith) (omega arith) (g .x) (omega arith))
+
+mul-column : tie.Need-mul-column
+mul-column c = search needs
 
 slice-write-column : tie.Need-slice-write-column
 slice-write-column c = search needs
@@ -35,7 +39,7 @@ same-length-2 c = c .before .before .close-gap .kept .0 ∙ simp length-set
 returns-2 : tie.Need-returns-2
 returns-2 c =
     let g = c .before .before .before .before .before .before .before .before .before .before .args in
-    c .before .before .close-gap .ensures ∙ rw (c .before .before .before .before .before .if4 .taken) (spliced-over 0 (g .column .now) (g .n) (omega arith) (g .low) (g .high) (omega arith) (omega arith) (g .x) (omega arith))
+    c .before .before .close-gap .ensures ∙ rw (c .before .before .before .before .before .if4 .taken) (spliced-over nan (g .column .now) (g .n) (omega arith) (g .low) (g .high) (omega arith) (omega arith) (g .x) (omega arith))
 
 close-gap-requires-2 : tie.Need-close-gap-requires-2
 close-gap-requires-2 c κs = search needs
@@ -46,7 +50,7 @@ same-length-3 c = search needs
 returns-3 : tie.Need-returns-3
 returns-3 c =
     let g = c .before .before .before .before .before .before .before .before .before .args in
-    c .before .before .close-gap2 .ensures ∙ rw (c .before .before .before .before .if4 .left) (spliced-shut 0 (g .column .now) (g .n) (omega arith) (g .low) (g .high) (omega arith) (omega arith) (g .x))
+    c .before .before .close-gap2 .ensures ∙ rw (c .before .before .before .before .if4 .left) (spliced-shut nan (g .column .now) (g .n) (omega arith) (g .low) (g .high) (omega arith) (omega arith) (g .x))
 
 returns-4 : tie.Need-returns-4
 unfolding splicedIn
@@ -67,6 +71,7 @@ splice-spec =
     open-place-requires
     same-length
     returns
+    mul-column
     slice-write-column
     add-close-gap
     close-gap-requires
