@@ -525,7 +525,7 @@ fn not_before(beats: &[f32], place: usize, beat: f64) -> bool
     true
 }
 
-// The same of the entry after the one at a place, which is there.
+// Whether an entry is at a place, and the one after it is later.
 fn is_next_later(beats: &[f32], place: usize, asked: i32) -> bool
     ensures { λ r. ⌜ r ≡ isNextLater (now (beats .entry)) place asked ⌝ }
 {
