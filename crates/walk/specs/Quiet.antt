@@ -21,11 +21,11 @@ rowAt beats place = pick (ltb place (length beats)) (row binary64 (getD beats pl
 unfoldable pub endRow : Bool → Float → ℤ
 endRow warping end = pick warping (row binary64 end) farthest
 
--- no entry is at a place, or one that is allowed and not before a beat
+-- no entry is at a place, or one that is not before a beat and not above the limit
 unfoldable pub notBefore : List Float → ℕ → Float → Bool
 notBefore beats place beat =
     pick (ltb place (length beats))
-    (pick (le (getD beats place nan) (fin false 1 (pos 16))) (pick (le (fin true 1 (pos 16)) (getD beats place nan)) (le beat (getD beats place nan)) false) false)
+    (pick (le (getD beats place nan) (fin false 1 (pos 16))) (le beat (getD beats place nan)) false)
     true
 
 -- of an allowed row from 0 on: no entry is at a place, or one that is not before the beat of the row after it
@@ -37,9 +37,14 @@ isLater beats place asked =
 unfoldable pub isNextLater : List Float → ℕ → ℤ → Bool
 isNextLater beats place asked = pick (ltb place (length beats)) (isLater beats (place + 1) asked) false
 
--- By a row nothing but tempos is due: it is before the warp's end, and the next entry of each other list is later.
+-- An allowed row from 0 on, by which nothing but tempos is due: it is before the warp's end, and the next entry of each other list is not before the beat of
+-- the row after it.
 unfoldable pub onlyTempos : (stopBeats delayBeats warpBeats : List Float) → State → ℤ → Bool
 onlyTempos stopBeats delayBeats warpBeats s asked =
-    pick (ltZ asked (endRow (s .warping) (s .end)))
-    (pick (isLater stopBeats (s .stops) asked) (pick (isLater delayBeats (s .delays) asked) (isLater warpBeats (s .warps) asked) false) false)
-    false
+    pick (ltZ asked (pos 0)) false
+    (pick (ltZ (pos 3145727) asked) false
+    (pick (ltZ asked (endRow (s .warping) (s .end)))
+    (pick (notBefore stopBeats (s .stops) (beatOf binary64 (asked +ℤ pos 1)))
+    (pick (notBefore delayBeats (s .delays) (beatOf binary64 (asked +ℤ pos 1))) (notBefore warpBeats (s .warps) (beatOf binary64 (asked +ℤ pos 1))) false)
+    false)
+    false))

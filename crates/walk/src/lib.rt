@@ -511,24 +511,21 @@ fn is_later(beats: &[f32], place: usize, asked: i32) -> bool
     not_before(beats, place, beat)
 }
 
-// True where no entry is at the place, or one that is allowed and not before the beat.
+// True where no entry is at the place, or one that is not before the beat and not above the limit, so that it is allowed where the beat is.
 fn not_before(beats: &[f32], place: usize, beat: f64) -> bool
     ensures { λ r. ⌜ r ≡ notBefore (now (beats .entry)) place beat ⌝ }
 {
     if place < beats.len() {
         let head = beats[place];
         if head <= 65536.0 {
-            if -65536.0 <= head {
-                return beat <= (head as f64);
-            }
-            return false;
+            return beat <= (head as f64);
         }
         return false;
     }
     true
 }
 
-// The same of the entry after the one at a place, which is there.
+// Whether an entry is at a place, and the one after it is later.
 fn is_next_later(beats: &[f32], place: usize, asked: i32) -> bool
     ensures { λ r. ⌜ r ≡ isNextLater (now (beats .entry)) place asked ⌝ }
 {
@@ -538,7 +535,7 @@ fn is_next_later(beats: &[f32], place: usize, asked: i32) -> bool
     false
 }
 
-// True only where by the row no event but a tempo is due.
+// Whether by the row no event but a tempo is due, each list held against it in the same way, the row tested once for all.
 pub fn is_only_tempos(
     state: State,
     asked: i32,
@@ -548,10 +545,17 @@ pub fn is_only_tempos(
 ) -> bool
     ensures { λ r. ⌜ r ≡ onlyTempos (now («stop_beats» .entry)) (now («delay_beats» .entry)) (now («warp_beats» .entry)) state asked ⌝ }
 {
+    if asked < 0 {
+        return false;
+    }
+    if 3145727 < asked {
+        return false;
+    }
+    let beat = rows::note_row_to_beat(asked + 1);
     if asked < end_row(state.warping, state.end) {
-        if is_later(stop_beats, state.stops, asked) {
-            if is_later(delay_beats, state.delays, asked) {
-                return is_later(warp_beats, state.warps, asked);
+        if not_before(stop_beats, state.stops, beat) {
+            if not_before(delay_beats, state.delays, beat) {
+                return not_before(warp_beats, state.warps, beat);
             }
             return false;
         }

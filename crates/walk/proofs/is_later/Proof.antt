@@ -7,25 +7,13 @@ use lib.IntN.{ℤ, pos, _+ℤ_}
 use lib.Signed.{ltZ}
 use lib.Ieee.{Float, binary64}
 use mir.Syntax.{w32}
-use mir.Val.{SFits, toZ, ofZ}
+use mir.Val.{toZ, ofZ}
 use Rattle.rows.specs.Rows.{beatOf}
 use Rattle.walk.specs.Quiet.{notBefore, isLater}
-use Rattle.walk.proofs.BackFromBits.{back}
-use Rattle.walk.proofs.LaterBeats.{next-fits}
+use Rattle.walk.proofs.LaterBeats.{next-fits, not-below, not-above, beat-after}
 use borrow.Author.Needs.{needs}
 use Rattle.walk.proofs.is_later.Statement.{statement}
 use Rattle.walk.proofs.is_later.Tie as tie
-
-not-below : (z : ℤ) (found : Bool) → SFits w32 z → ltZ (toZ w32 (ofZ w32 z)) (pos 0) ≡ found → ltZ z (pos 0) ≡ found
-not-below z found f h = rw (back z f) at h
-
-not-above : (z : ℤ) (found : Bool) → SFits w32 z → ltZ (pos 3145727) (toZ w32 (ofZ w32 z)) ≡ found → ltZ (pos 3145727) z ≡ found
-not-above z found f h = rw (back z f) at h
-
--- the beat of the row after
-beat-after : (z : ℤ) → SFits w32 z → ltZ (toZ w32 (ofZ w32 z)) (pos 0) ≡ false → ltZ (pos 3145727) (toZ w32 (ofZ w32 z)) ≡ false
-    → beatOf binary64 (toZ w32 (ofZ w32 (toZ w32 (ofZ w32 z) +ℤ pos 1))) ≡ beatOf binary64 (z +ℤ pos 1)
-beat-after z f h k = ap (beatOf binary64) (back (toZ w32 (ofZ w32 z) +ℤ pos 1) (next-fits (toZ w32 (ofZ w32 z)) h k) ∙ ap (λ (x : ℤ). x +ℤ pos 1) (back z f))
 
 -- both tests passed
 inside : (beats : List Float) (place : ℕ) (z : ℤ) (found : Bool) → ltZ z (pos 0) ≡ false → ltZ (pos 3145727) z ≡ false
