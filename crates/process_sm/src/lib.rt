@@ -151,6 +151,49 @@ fn into_many(
     )
 }
 
+fn into_rooms(
+    tempo_beats: &[f64],
+    tempo_values: &[f64],
+    stop_beats: &[f64],
+    stop_values: &[f64],
+    out_tempo_beats: &mut [f64],
+    out_tempo_values: &mut [f64],
+    out_stop_beats: &mut [f64],
+    out_stop_values: &mut [f64],
+    out_warp_beats: &mut [f64],
+    out_warp_lengths: &mut [f64],
+) -> Processed
+    requires { ⌜ ResultRooms (now «tempo_beats») (now «stop_beats») (now «out_tempo_beats») (now «out_tempo_values») (now «out_stop_beats») (now «out_stop_values») (now «out_warp_beats») (now «out_warp_lengths») ⌝ }
+    ensures { λ r. ⌜ SmProcessed (now («tempo_beats» .entry)) (now («tempo_values» .entry)) (now («stop_beats» .entry)) (now («stop_values» .entry)) r (now («out_tempo_beats» .entry)) (now («out_tempo_beats» .exit)) (now («out_tempo_values» .entry)) (now («out_tempo_values» .exit)) (now («out_stop_beats» .entry)) (now («out_stop_beats» .exit)) (now («out_stop_values» .entry)) (now («out_stop_values» .exit)) (now («out_warp_beats» .entry)) (now («out_warp_beats» .exit)) (now («out_warp_lengths» .entry)) (now («out_warp_lengths» .exit)) ⌝ }
+{
+    if tempo_beats.len() <= 64 {
+        return into_few(
+            tempo_beats,
+            tempo_values,
+            stop_beats,
+            stop_values,
+            out_tempo_beats,
+            out_tempo_values,
+            out_stop_beats,
+            out_stop_values,
+            out_warp_beats,
+            out_warp_lengths,
+        );
+    }
+    into_many(
+        tempo_beats,
+        tempo_values,
+        stop_beats,
+        stop_values,
+        out_tempo_beats,
+        out_tempo_values,
+        out_stop_beats,
+        out_stop_values,
+        out_warp_beats,
+        out_warp_lengths,
+    )
+}
+
 // ---- where a room may be too short: all three lists by way of work columns
 
 // Columns for as many tempos and stops as a chart has.
@@ -281,21 +324,7 @@ pub fn process_bpms_and_stops_sm(
         warp_room,
     );
     if hold {
-        if tempo_beats.len() <= 64 {
-            return into_few(
-                tempo_beats,
-                tempo_values,
-                stop_beats,
-                stop_values,
-                out_tempo_beats,
-                out_tempo_values,
-                out_stop_beats,
-                out_stop_values,
-                out_warp_beats,
-                out_warp_lengths,
-            );
-        }
-        return into_many(
+        return into_rooms(
             tempo_beats,
             tempo_values,
             stop_beats,
