@@ -25,7 +25,8 @@ use Rattle.rows.specs.Rows.{row, allowedBeat, mostRow}
 use Rattle.rows.specs.Marks.{rowMark}
 use Rattle.rows.proofs.RowValue.{unlike-positive, like-48, product-fine}
 
-abbrev product : Float → Float
+-- 48 times a beat
+abbrev pub product : Float → Float
 product beat = mul binary64 beat (ofInt binary64 (pos 48))
 
 from-least : (s : Bool) (a b : ℕ) → a ≤ b → Ordered true b s a

@@ -21,7 +21,8 @@ use Rattle.rows.specs.Marks.{rowMark, beatOfMark, larger, smaller}
 use Rattle.rows.proofs.BeatBySum.{beat-by-sum}
 use Rattle.order.proofs.Compare.{below?}
 use Rattle.tidy_rows.specs.RowTidying.{rowKeyAt, onRow}
-use Rattle.tidy_rows.proofs.RowPattern.{product, product-within, pattern-counts}
+use Rattle.rows.proofs.RowBySum.{product, product-within}
+use Rattle.tidy_rows.proofs.RowPattern.{pattern-counts}
 
 module _ (beat : Float) (h : T (allowedBeat beat)) where
   -- as a whole number: 1.5 * 2 ^ 52 and the row, or so much less 2 ^ 31 and the key of the row

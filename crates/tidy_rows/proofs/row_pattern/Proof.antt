@@ -1,7 +1,8 @@
 -- `tidy_rows::row_pattern` is the pattern that counts rows. Assumes nothing.
 use lib.Ieee.{ofBits}
 use Rattle.ieee.proofs.RintBySum.{sum-number}
-use Rattle.tidy_rows.proofs.RowPattern.{product, product-within, pattern-counts}
+use Rattle.rows.proofs.RowBySum.{product, product-within}
+use Rattle.tidy_rows.proofs.RowPattern.{pattern-counts}
 use borrow.Author.Needs.{needs}
 use Rattle.tidy_rows.proofs.row_pattern.Statement.{statement}
 use Rattle.tidy_rows.proofs.row_pattern.Tie as tie
