@@ -133,7 +133,3 @@ module _ (beats values : List Float) where
   -- a taken list
   pub quantized-taken : (whole : Bool) → rowsNumber beats values ≡ 0 → assembledNumber (changeBy whole) beats values ≡ 0
   quantized-taken whole h = let is = list-taken h in both-passes (changeBy whole) (is .few) (is .even) (is .beatsIn) (changed-values-taken whole values (is .valuesIn))
-
-  -- lengths, whatever they are
-  pub lengths-taken : length beats ≤ 1024 → length beats ≡ length values → allIn (rangeOf Beat) beats ≡ true → assembledNumber (changeBy true) beats values ≡ 0
-  lengths-taken few even b = both-passes (changeBy true) few even b (every-changed (inRange (rangeOf Value)) (changeBy true) quantized-value-taken values)

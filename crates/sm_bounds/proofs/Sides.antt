@@ -186,13 +186,6 @@ below-on (inf s) F h = absurd F
 below-on (fin true m e) F h = inl refl
 below-on (fin false m e) F h = inr (omega (arith, ltb-true (m * up e * 1) (0 * 1 * down e) h))
 
-pub above-on : (x : Float) → T (finite x) → lt zero x ≡ true → On false x
-unfolding lt
-above-on nan F h = absurd F
-above-on (inf s) F h = absurd F
-above-on (fin false m e) F h = inl refl
-above-on (fin true m e) F h = absurd (true≢false (sym h))
-
 pub not-above-on : (x : Float) → T (finite x) → lt zero x ≡ false → On true x
 unfolding lt
 not-above-on nan F h = absurd F
