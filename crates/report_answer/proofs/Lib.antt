@@ -1,4 +1,2 @@
 pub mod Inside
 pub mod Pieces
-pub mod TakenReport
-pub mod TakenFits

@@ -1,67 +1,19 @@
--- The report: what is written for an input, by what its bytes left in the columns. Definitions only.
+-- What is written of a number and of columns: the answer line, and behind it the first entries of the lists where they were taken. Definitions only.
 use Prim.Native.Nat.{ℕ}
-use mathlib.Core.List.{List, [], map, _++_}
+use mathlib.Core.List.{List, [], _++_}
 use lib.Dec.{eqb}
-use lib.ListN.{length, take}
+use lib.ListN.{take}
 use lib.Ieee.{Float}
 use Rattle.picks.specs.Pick.{pick}
-use Rattle.ieee.specs.Narrowing.{narrow}
-use Rattle.limits.specs.Refusals.{lower}
-use Rattle.order.specs.Entries.{first, second}
-use Rattle.speeds.specs.LaidSpeeds.{ratioOf, delayOf, unitOf}
-use Rattle.by_format.specs.declared.TimingFormat.{TimingFormat}
-use Rattle.by_format.specs.ByFormat.{Lists}
-use Rattle.merged_warps.specs.MergedWarps.{threeNumber, mergedLists}
-use Rattle.assembled_tempos.specs.AssembledTempos.{assembledTempos, assembledStops, assembledWarps, verdict, threeRooms}
-use Rattle.assembled_scrolls.specs.AssembledScrolls.{assembledScrolls}
-use Rattle.assembled_speeds.specs.AssembledSpeeds.{assembledSpeeds}
-use Rattle.assembly.specs.declared.Assembled.{Assembled}
-use Rattle.assembly.specs.Assembly.{assembledDelays, assembledFakes, othersNumber, othersLater}
 use Rattle.report_text.specs.Output.{answerLine, listsText}
 
--- ---- lists of at most 256 entries
-module _ (format : TimingFormat) (tempoBeats tempoValues stopBeats stopValues delayBeats delayValues warpBeats warpLengths speedBeats speedRatios speedDelays : List Float) (speedUnits : List ℕ)
-    (scrollBeats scrollValues fakeBeats fakeLengths : List Float) where
-  abbrev pub processed : Lists
-  processed = mergedLists format tempoBeats tempoValues stopBeats stopValues warpBeats warpLengths
-
-  abbrev pub speedsGiven : List (Float × (Float × (Float × ℕ)))
-  speedsGiven = assembledSpeeds speedBeats speedRatios speedDelays speedUnits
-
-  -- assembly's number, with room for 256 entries a list and 256 merged warps at most
-  abbrev pub takenNumber : ℕ
-  takenNumber =
-      verdict
-      (lower (threeNumber tempoBeats tempoValues stopBeats stopValues warpBeats warpLengths)
-      (othersNumber delayBeats delayValues speedBeats speedRatios speedDelays speedUnits scrollBeats scrollValues fakeBeats fakeLengths))
-      (length (processed .warps)) 256
-      (lower (othersLater delayBeats delayValues speedBeats speedRatios speedDelays speedUnits scrollBeats scrollValues fakeBeats fakeLengths 256 256 256 256)
-      (threeRooms processed 256 256 256))
-
-  -- the answer line, and behind it the lists where they are taken
-  abbrev pub takenLists : List ℕ
-  takenLists =
-      listsText (narrow (processed .offset))
-      (map first (assembledTempos processed)) (map second (assembledTempos processed))
-      (map first (assembledStops processed)) (map second (assembledStops processed))
-      (map first (assembledDelays delayBeats delayValues)) (map second (assembledDelays delayBeats delayValues))
-      (map first (assembledWarps processed)) (map second (assembledWarps processed))
-      (map first speedsGiven) (map ratioOf speedsGiven) (map delayOf speedsGiven) (map unitOf speedsGiven)
-      (map first (assembledScrolls scrollBeats scrollValues)) (map second (assembledScrolls scrollBeats scrollValues))
-      (map first (assembledFakes fakeBeats fakeLengths)) (map second (assembledFakes fakeBeats fakeLengths))
-
-  unfoldable pub takenText : List ℕ
-  takenText = answerLine takenNumber ++ pick (eqb takenNumber 0) takenLists []
-
--- ---- what is written of what assembly left: its number, and the first entries of its columns
-unfoldable pub doneText : Assembled → List Float → List Float → List Float → List Float → List Float → List Float → List Float → List Float
-    → List Float → List Float → List Float → List ℕ → List Float → List Float → List Float → List Float → List ℕ
-doneText done tempoBeats tempoValues stopBeats stopValues delayBeats delayValues warpBeats warpLengths speedBeats speedRatios speedDelays speedUnits scrollBeats scrollValues fakeBeats fakeLengths =
-    answerLine (done .number)
-    ++ pick (eqb (done .number) 0)
-    (listsText (done .offset)
-    (take (done .tempos) tempoBeats) (take (done .tempos) tempoValues) (take (done .stops) stopBeats) (take (done .stops) stopValues)
-    (take (done .delays) delayBeats) (take (done .delays) delayValues) (take (done .warps) warpBeats) (take (done .warps) warpLengths)
-    (take (done .speeds) speedBeats) (take (done .speeds) speedRatios) (take (done .speeds) speedDelays) (take (done .speeds) speedUnits)
-    (take (done .scrolls) scrollBeats) (take (done .scrolls) scrollValues) (take (done .fakes) fakeBeats) (take (done .fakes) fakeLengths))
+unfoldable pub doneText : ℕ → Float → (tempos stops delays warps speeds scrolls fakes : ℕ) (tempoBeats tempoValues stopBeats stopValues delayBeats delayValues warpBeats warpLengths speedBeats speedRatios speedDelays : List Float) (speedUnits : List ℕ) (scrollBeats scrollValues fakeBeats fakeLengths : List Float) → List ℕ
+doneText number offset tempos stops delays warps speeds scrolls fakes tempoBeats tempoValues stopBeats stopValues delayBeats delayValues warpBeats warpLengths speedBeats speedRatios speedDelays speedUnits scrollBeats scrollValues fakeBeats fakeLengths =
+    answerLine number
+    ++ pick (eqb number 0)
+    (listsText offset
+    (take tempos tempoBeats) (take tempos tempoValues) (take stops stopBeats) (take stops stopValues)
+    (take delays delayBeats) (take delays delayValues) (take warps warpBeats) (take warps warpLengths)
+    (take speeds speedBeats) (take speeds speedRatios) (take speeds speedDelays) (take speeds speedUnits)
+    (take scrolls scrollBeats) (take scrolls scrollValues) (take fakes fakeBeats) (take fakes fakeLengths))
     []

@@ -1,5 +1,4 @@
 // What the report program writes of what assembly left: the answer line, and behind it the lists where they were taken.
-use assembly::Assembled;
 ghost use mathlib.Core.Path.{_≡_};
 ghost use lib.ListN.{take};
 ghost use Rattle.io.specs.Counts.{Counts};
@@ -7,17 +6,7 @@ ghost use Rattle.report_text.specs.Page.{Wrote};
 ghost use Rattle.report_text.specs.Output.{answerLine};
 ghost use Rattle.report_answer.specs.Report.{doneText};
 
-// The first entries of a column.
-fn front(column: &[f32], count: usize) -> &[f32]
-    ensures { λ r. ⌜ now r ≡ take count (now (column .entry)) ⌝ }
-{
-    if count < column.len() {
-        return &column[..count];
-    }
-    column
-}
-
-// The same of units.
+// The first units of a column, or bytes of a text.
 pub fn front_units(column: &[u8], count: usize) -> &[u8]
     ensures { λ r. ⌜ now r ≡ take count (now (column .entry)) ⌝ }
 {
@@ -27,10 +16,19 @@ pub fn front_units(column: &[u8], count: usize) -> &[u8]
     column
 }
 
-// The page filled; how far is bounded by its caller.
-fn write_done(
+// Writes the answer from the page's first byte on: assembly's number, and where that is 0 the offset and the first entries of each list, as
+// many as are counted. Answers how many bytes it has. A page of 45,000 bytes holds every answer of lists of 256 entries.
+pub fn write_answer(
     page: &mut [u8],
-    done: Assembled,
+    number: u32,
+    offset: f32,
+    tempos: usize,
+    stops: usize,
+    delays: usize,
+    warps: usize,
+    speeds: usize,
+    scrolls: usize,
+    fakes: usize,
     tempo_beats: &[f32],
     tempo_values: &[f32],
     stop_beats: &[f32],
@@ -48,63 +46,24 @@ fn write_done(
     fake_beats: &[f32],
     fake_lengths: &[f32],
 ) -> usize
-    ensures { λ r. ⌜ Wrote (doneText done (now («tempo_beats» .entry)) (now («tempo_values» .entry)) (now («stop_beats» .entry)) (now («stop_values» .entry)) (now («delay_beats» .entry)) (now («delay_values» .entry)) (now («warp_beats» .entry)) (now («warp_lengths» .entry)) (now («speed_beats» .entry)) (now («speed_ratios» .entry)) (now («speed_delays» .entry)) (now («speed_units» .entry)) (now («scroll_beats» .entry)) (now («scroll_values» .entry)) (now («fake_beats» .entry)) (now («fake_lengths» .entry))) 0 r (now (page .entry)) (now (page .exit)) ⌝ }
+    ensures { λ r. ⌜ Wrote (doneText number offset tempos stops delays warps speeds scrolls fakes (now («tempo_beats» .entry)) (now («tempo_values» .entry)) (now («stop_beats» .entry)) (now («stop_values» .entry)) (now («delay_beats» .entry)) (now («delay_values» .entry)) (now («warp_beats» .entry)) (now («warp_lengths» .entry)) (now («speed_beats» .entry)) (now («speed_ratios» .entry)) (now («speed_delays» .entry)) (now («speed_units» .entry)) (now («scroll_beats» .entry)) (now («scroll_values» .entry)) (now («fake_beats» .entry)) (now («fake_lengths» .entry))) 0 r (now (page .entry)) (now (page .exit)) ⌝ }
+    ensures { λ r. ⌜ Counts r (now (page .exit)) ⌝ }
 {
-    let at = report_text::put_answer(page, 0, done.number);
-    if done.number != 0 {
+    let at = report_text::put_answer(page, 0, number);
+    if number != 0 {
         return at;
     }
     report_text::put_lists(
         page,
         at,
-        done.offset,
-        front(tempo_beats, done.tempos),
-        front(tempo_values, done.tempos),
-        front(stop_beats, done.stops),
-        front(stop_values, done.stops),
-        front(delay_beats, done.delays),
-        front(delay_values, done.delays),
-        front(warp_beats, done.warps),
-        front(warp_lengths, done.warps),
-        front(speed_beats, done.speeds),
-        front(speed_ratios, done.speeds),
-        front(speed_delays, done.speeds),
-        front_units(speed_units, done.speeds),
-        front(scroll_beats, done.scrolls),
-        front(scroll_values, done.scrolls),
-        front(fake_beats, done.fakes),
-        front(fake_lengths, done.fakes),
-    )
-}
-
-// Writes the answer from the page's first byte on, the columns as assembly wrote them, and answers how many bytes it has. A page of 45,000
-// bytes holds every answer of lists of 256 entries.
-pub fn write_answer(
-    page: &mut [u8],
-    done: Assembled,
-    tempo_beats: &[f32],
-    tempo_values: &[f32],
-    stop_beats: &[f32],
-    stop_values: &[f32],
-    delay_beats: &[f32],
-    delay_values: &[f32],
-    warp_beats: &[f32],
-    warp_lengths: &[f32],
-    speed_beats: &[f32],
-    speed_ratios: &[f32],
-    speed_delays: &[f32],
-    speed_units: &[u8],
-    scroll_beats: &[f32],
-    scroll_values: &[f32],
-    fake_beats: &[f32],
-    fake_lengths: &[f32],
-) -> usize
-    ensures { λ r. ⌜ Wrote (doneText done (now («tempo_beats» .entry)) (now («tempo_values» .entry)) (now («stop_beats» .entry)) (now («stop_values» .entry)) (now («delay_beats» .entry)) (now («delay_values» .entry)) (now («warp_beats» .entry)) (now («warp_lengths» .entry)) (now («speed_beats» .entry)) (now («speed_ratios» .entry)) (now («speed_delays» .entry)) (now («speed_units» .entry)) (now («scroll_beats» .entry)) (now («scroll_values» .entry)) (now («fake_beats» .entry)) (now («fake_lengths» .entry))) 0 r (now (page .entry)) (now (page .exit)) ⌝ }
-    ensures { λ r. ⌜ Counts r (now (page .exit)) ⌝ }
-{
-    write_done(
-        page,
-        done,
+        offset,
+        tempos,
+        stops,
+        delays,
+        warps,
+        speeds,
+        scrolls,
+        fakes,
         tempo_beats,
         tempo_values,
         stop_beats,

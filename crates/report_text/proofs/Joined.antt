@@ -1,7 +1,7 @@
 -- Pieces written one behind another are what they make together. Assumes nothing.
 use Prim.Native.Nat.{ℕ, _+_, _≤_, _<_}
-use mathlib.Core.Path.{_≡_, refl, sym, ap, _∙_}
-use mathlib.Core.List.{List, [], _∷_, _++_}
+use mathlib.Core.Path.{_≡_, refl, sym, ap, subst, _∙_}
+use mathlib.Core.List.{List, [], _∷_, _++_, append-assoc}
 use native.Mathlib.Omega.{arith}
 use borrow.Author.Tests.{lt-ltb, le-ltb}
 use lib.ListN.{length, set, take, length-set}
@@ -35,6 +35,13 @@ wrote-join {bytes} {more} {at} {middle} {end} {old} {half} {new} a b =
       ends = b .ends ∙ ap (λ (n : ℕ). endOf n middle more) kept ∙ ap (λ (n : ℕ). endOf (length old) n more) (a .ends) ∙ sym (end-join (length old) at bytes more);
       page = b .page ∙ ap (λ (n : ℕ). written n more half) (a .ends) ∙ ap (λ (l : List ℕ). written (endOf (length old) at bytes) more l) (a .page) ∙ sym (written-join at bytes more old);
     }
+
+pub wrote-as : {bytes others : List ℕ} {at end : ℕ} {old new : List ℕ} → bytes ≡ others → Wrote bytes at end old new → Wrote others at end old new
+wrote-as {at = at} {end = end} {old = old} {new = new} e w = subst (λ (l : List ℕ). Wrote l at end old new) e w
+
+-- behind a piece with the byte that ends it
+pub wrote-after : (bytes : List ℕ) (last : ℕ) {more : List ℕ} {at middle end : ℕ} {old half new : List ℕ} → Wrote (bytes ++ (last ∷ [])) at middle old half → Wrote more middle end half new → Wrote (bytes ++ ((last ∷ []) ++ more)) at end old new
+wrote-after bytes last {more} a b = wrote-as (append-assoc bytes (last ∷ []) more) (wrote-join a b)
 
 pub wrote-length : {bytes : List ℕ} {at end : ℕ} {old new : List ℕ} → Wrote bytes at end old new → length new ≡ length old
 wrote-length {bytes} {at} {end} {old} w = ap length (w .page) ∙ written-length at bytes old

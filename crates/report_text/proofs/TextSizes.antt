@@ -9,7 +9,8 @@ use lib.ListN.{length, length-append}
 use lib.Ieee.{Float, toBits, binary32}
 use Rattle.picks.specs.Pick.{pick}
 use Rattle.patterns.specs.Hex.{hexText}
-use Rattle.report_text.specs.Output.{decimalDigits, decimal, number, answerLine, offsetLine, pairLine, pairLines, speedLine, speedLines, warpedRows, warpedLine, listsText}
+use Rattle.report_form.specs.Text.{bpm, stop, delay, warp, scroll, fake}
+use Rattle.report_text.specs.Output.{decimalDigits, decimal, number, answerLine, offsetLine, named, pairLine, pairLines, speedLine, speedLines, warpedRows, warpedLine, listsText}
 
 hex-size : (k n : ℕ) → length (hexText k n) ≡ k
 unfolding hexText
@@ -78,12 +79,12 @@ module _ (offset : Float) (tempoBeats tempos stopBeats stops delayBeats delays w
       (omega (
         arith,
         offset-size offset,
-        pairs-size (98 ∷ 112 ∷ 109 ∷ 61 ∷ []) tempoBeats tempos,
-        pairs-size (115 ∷ 116 ∷ 111 ∷ 112 ∷ 61 ∷ []) stopBeats stops,
-        pairs-size (100 ∷ 101 ∷ 108 ∷ 97 ∷ 121 ∷ 61 ∷ []) delayBeats delays,
-        pairs-size (119 ∷ 97 ∷ 114 ∷ 112 ∷ 61 ∷ []) warpBeats warps,
+        pairs-size (named bpm) tempoBeats tempos,
+        pairs-size (named stop) stopBeats stops,
+        pairs-size (named delay) delayBeats delays,
+        pairs-size (named warp) warpBeats warps,
         speeds-size speedBeats ratios waits units,
-        pairs-size (115 ∷ 99 ∷ 114 ∷ 111 ∷ 108 ∷ 108 ∷ 61 ∷ []) scrollBeats scrolls,
-        pairs-size (102 ∷ 97 ∷ 107 ∷ 101 ∷ 61 ∷ []) fakeBeats fakes,
+        pairs-size (named scroll) scrollBeats scrolls,
+        pairs-size (named fake) fakeBeats fakes,
         warped-size warps,
       ))

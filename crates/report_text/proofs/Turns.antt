@@ -1,11 +1,11 @@
 -- One turn of each loop: what is left of bytes, of lines and of lengths. Assumes nothing.
-use Prim.Native.Nat.{ℕ, _+_, _-_, _%_, _^_, _≤_, _<_}
+use Prim.Native.Nat.{ℕ, suc, min, _+_, _-_, _%_, _^_, _≤_, _<_}
 use mathlib.Core.Path.{_≡_, refl, sym, ap, _∙_}
 use mathlib.Core.List.{List, [], _∷_, _++_}
 use native.Mathlib.Omega.{arith}
 use native.Mathlib.Numerals.{add-one}
-use lib.ListN.{length, drop, getD, drop-of-length-le}
-use lib.Seq.{drop-cons}
+use lib.ListN.{length, take, drop, getD, length-take, drop-of-length-le}
+use lib.Seq.{drop-cons, getD-take}
 use lib.IntN.{ℤ, pos, negsuc}
 use lib.Ieee.{Float, nan}
 use Rattle.order.specs.RowKey.{rowKey}
@@ -37,6 +37,17 @@ no-unit (beat ∷ beats) [] waits = refl
 no-unit (beat ∷ beats) (ratio ∷ ratios) [] = refl
 no-unit (beat ∷ beats) (ratio ∷ ratios) (wait ∷ waits) = refl
 
+-- what is left of the first entries of a column, behind the first i of them
+module _ {A : Type 0} (l : List A) (count i : ℕ) where
+  front-cons : (d : A) → i < count → i < length l → drop i (take count l) ≡ getD l i d ∷ drop (suc i) (take count l)
+  front-cons d c h = rw (drop-cons (take count l) i d (omega (arith, length-take count l)), getD-take count l i d c)
+
+  front-all : count ≤ i → drop i (take count l) ≡ []
+  front-all h = drop-of-length-le (take count l) {i = i} (omega (arith, length-take count l))
+
+  front-end : length l ≤ i → drop i (take count l) ≡ []
+  front-end h = drop-of-length-le (take count l) {i = i} (omega (arith, length-take count l))
+
 module _ {all : List ℕ} {start at : ℕ} {first now : List ℕ} where
   pub bytes-turn : {next : ℕ} {then : List ℕ} (bytes : List ℕ) (i : ℕ) → i < length bytes → Left all (drop i bytes) start at first now → Wrote (getD bytes i 0 ∷ []) at next now then → Left all (drop (i + 1) bytes) start next first then
   bytes-turn bytes i h l w = rw (add-one i) (left-turn (rw (drop-cons bytes i 0 h) at l) w)
@@ -45,40 +56,52 @@ module _ {all : List ℕ} {start at : ℕ} {first now : List ℕ} where
   bytes-end bytes i h l = left-end (rw (drop-of-length-le bytes h) at l)
 
   -- ---- lines of two columns
-  pub pairs-turn : {next : ℕ} {then : List ℕ} (word : List ℕ) (beats values : List Float) (i : ℕ) → i < length beats → i < length values → Left all (pairLines word (drop i beats) (drop i values)) start at first now
-      → Wrote (pairLine word (getD beats i nan) (getD values i nan)) at next now then → Left all (pairLines word (drop (i + 1) beats) (drop (i + 1) values)) start next first then
+  pub pairs-turn : {next : ℕ} {then : List ℕ} (word : List ℕ) (count : ℕ) (beats values : List Float) (i : ℕ) → i < count → i < length beats → i < length values
+      → Left all (pairLines word (drop i (take count beats)) (drop i (take count values))) start at first now
+      → Wrote (pairLine word (getD beats i nan) (getD values i nan)) at next now then → Left all (pairLines word (drop (i + 1) (take count beats)) (drop (i + 1) (take count values))) start next first then
   unfolding pairLines
-  pairs-turn word beats values i h k l w = rw (add-one i) (left-turn (rw (drop-cons beats i nan h, drop-cons values i nan k) at l) w)
+  pairs-turn word count beats values i c h k l w = rw (add-one i) (left-turn (rw (front-cons beats count i nan c h, front-cons values count i nan c k) at l) w)
 
-  pub pairs-end : (word : List ℕ) (beats values : List Float) (i : ℕ) → length beats ≤ i → Left all (pairLines word (drop i beats) (drop i values)) start at first now → Wrote all start at first now
-  unfolding pairLines
-  pairs-end word beats values i h l = left-end (rw (drop-of-length-le beats h) at l)
+  module _ (word : List ℕ) (count : ℕ) (beats values : List Float) (i : ℕ) (l : Left all (pairLines word (drop i (take count beats)) (drop i (take count values))) start at first now) where
+    pub pairs-all : count ≤ i → Wrote all start at first now
+    unfolding pairLines
+    pairs-all h = left-end (rw (front-all beats count i h) at l)
 
-  pub pairs-short : (word : List ℕ) (beats values : List Float) (i : ℕ) → length values ≤ i → Left all (pairLines word (drop i beats) (drop i values)) start at first now → Wrote all start at first now
-  pairs-short word beats values i h l = left-end (rw (drop-of-length-le values h, no-value word (drop i beats)) at l)
+    pub pairs-end : length beats ≤ i → Wrote all start at first now
+    unfolding pairLines
+    pairs-end h = left-end (rw (front-end beats count i h) at l)
+
+    pub pairs-short : length values ≤ i → Wrote all start at first now
+    pairs-short h = left-end (rw (front-end values count i h, no-value word (drop i (take count beats))) at l)
 
   -- ---- speed lines
-  pub speeds-turn : {next : ℕ} {then : List ℕ} (beats ratios waits : List Float) (units : List ℕ) (i : ℕ) → i < length beats → i < length ratios → i < length waits → i < length units
-      → Left all (speedLines (drop i beats) (drop i ratios) (drop i waits) (drop i units)) start at first now
+  pub speeds-turn : {next : ℕ} {then : List ℕ} (count : ℕ) (beats ratios waits : List Float) (units : List ℕ) (i : ℕ) → i < count → i < length beats → i < length ratios → i < length waits → i < length units
+      → Left all (speedLines (drop i (take count beats)) (drop i (take count ratios)) (drop i (take count waits)) (drop i (take count units))) start at first now
       → Wrote (speedLine (getD beats i nan) (getD ratios i nan) (getD waits i nan) (getD units i 0)) at next now then
-      → Left all (speedLines (drop (i + 1) beats) (drop (i + 1) ratios) (drop (i + 1) waits) (drop (i + 1) units)) start next first then
+      → Left all (speedLines (drop (i + 1) (take count beats)) (drop (i + 1) (take count ratios)) (drop (i + 1) (take count waits)) (drop (i + 1) (take count units))) start next first then
   unfolding speedLines
-  speeds-turn beats ratios waits units i a b c d l w =
-      rw (add-one i) (left-turn (rw (drop-cons beats i nan a, drop-cons ratios i nan b, drop-cons waits i nan c, drop-cons units i 0 d) at l) w)
+  speeds-turn count beats ratios waits units i n a b c d l w =
+      rw (add-one i)
+      (left-turn (rw (front-cons beats count i nan n a, front-cons ratios count i nan n b, front-cons waits count i nan n c, front-cons units count i 0 n d) at l) w)
 
-  module _ (beats ratios waits : List Float) (units : List ℕ) (i : ℕ) (l : Left all (speedLines (drop i beats) (drop i ratios) (drop i waits) (drop i units)) start at first now) where
+  module _ (count : ℕ) (beats ratios waits : List Float) (units : List ℕ) (i : ℕ)
+      (l : Left all (speedLines (drop i (take count beats)) (drop i (take count ratios)) (drop i (take count waits)) (drop i (take count units))) start at first now) where
+    pub speeds-all : count ≤ i → Wrote all start at first now
+    unfolding speedLines
+    speeds-all h = left-end (rw (front-all beats count i h) at l)
+
     pub speeds-end : length beats ≤ i → Wrote all start at first now
     unfolding speedLines
-    speeds-end h = left-end (rw (drop-of-length-le beats h) at l)
+    speeds-end h = left-end (rw (front-end beats count i h) at l)
 
     pub speeds-no-ratio : length ratios ≤ i → Wrote all start at first now
-    speeds-no-ratio h = left-end (rw (drop-of-length-le ratios h, no-ratio (drop i beats) (drop i waits) (drop i units)) at l)
+    speeds-no-ratio h = left-end (rw (front-end ratios count i h, no-ratio (drop i (take count beats)) (drop i (take count waits)) (drop i (take count units))) at l)
 
     pub speeds-no-wait : length waits ≤ i → Wrote all start at first now
-    speeds-no-wait h = left-end (rw (drop-of-length-le waits h, no-wait (drop i beats) (drop i ratios) (drop i units)) at l)
+    speeds-no-wait h = left-end (rw (front-end waits count i h, no-wait (drop i (take count beats)) (drop i (take count ratios)) (drop i (take count units))) at l)
 
     pub speeds-no-unit : length units ≤ i → Wrote all start at first now
-    speeds-no-unit h = left-end (rw (drop-of-length-le units h, no-unit (drop i beats) (drop i ratios) (drop i waits)) at l)
+    speeds-no-unit h = left-end (rw (front-end units count i h, no-unit (drop i (take count beats)) (drop i (take count ratios)) (drop i (take count waits))) at l)
 
 -- ---- the sum of rows, round at 2 ^ 64
 abbrev pub Summed : List Float → ℕ → ℕ → Type 0

@@ -8,6 +8,7 @@ use Rattle.picks.specs.Pick.{pick}
 use Rattle.limits.specs.Numbers.{nothing}
 use Rattle.rows.specs.Rows.{row}
 use Rattle.patterns.specs.Hex.{hexText}
+use Rattle.report_form.specs.Text.{Pair, bpm, stop, delay, warp, scroll, fake, pairWord, speedWord}
 
 -- the decimal digits of a number, k at most
 unfoldable pub decimalDigits : ℕ → ℕ → List ℕ
@@ -30,6 +31,10 @@ answerLine n = (97 ∷ 110 ∷ 115 ∷ 119 ∷ 101 ∷ 114 ∷ 61 ∷ []) ++ (de
 unfoldable pub offsetLine : Float → List ℕ
 offsetLine offset = (111 ∷ 102 ∷ 102 ∷ 115 ∷ 101 ∷ 116 ∷ 61 ∷ []) ++ (number offset ++ (10 ∷ []))
 
+-- the word of a list as in the input, and the equals sign
+abbrev pub named : Pair → List ℕ
+named list = pairWord list ++ (61 ∷ [])
+
 -- a line of a list of two columns: its word with the equals sign, the beat, a comma, the value
 unfoldable pub pairLine : List ℕ → Float → Float → List ℕ
 pairLine word beat value = word ++ (number beat ++ ((44 ∷ []) ++ (number value ++ (10 ∷ []))))
@@ -42,7 +47,7 @@ pairLines word (beat ∷ beats) (value ∷ values) = pairLine word beat value ++
 -- a speed's line: beat, ratio, delay and the unit's one digit
 unfoldable pub speedLine : Float → Float → Float → ℕ → List ℕ
 speedLine beat ratio wait unit =
-    (115 ∷ 112 ∷ 101 ∷ 101 ∷ 100 ∷ 61 ∷ []) ++
+    (speedWord ++ (61 ∷ [])) ++
     (number beat ++ ((44 ∷ []) ++ (number ratio ++ ((44 ∷ []) ++ (number wait ++ ((44 ∷ []) ++ (((48 + unit % 10) ∷ []) ++ (10 ∷ []))))))))
 
 unfoldable pub speedLines : List Float → List Float → List Float → List ℕ → List ℕ
@@ -73,11 +78,11 @@ unfoldable pub listsText : Float → List Float → List Float → List Float �
     → List Float → List Float → List Float → List ℕ → List Float → List Float → List Float → List Float → List ℕ
 listsText offset tempoBeats tempos stopBeats stops delayBeats delays warpBeats warps speedBeats ratios waits units scrollBeats scrolls fakeBeats fakes =
     offsetLine offset
-    ++ (pairLines (98 ∷ 112 ∷ 109 ∷ 61 ∷ []) tempoBeats tempos
-    ++ (pairLines (115 ∷ 116 ∷ 111 ∷ 112 ∷ 61 ∷ []) stopBeats stops
-    ++ (pairLines (100 ∷ 101 ∷ 108 ∷ 97 ∷ 121 ∷ 61 ∷ []) delayBeats delays
-    ++ (pairLines (119 ∷ 97 ∷ 114 ∷ 112 ∷ 61 ∷ []) warpBeats warps
+    ++ (pairLines (named bpm) tempoBeats tempos
+    ++ (pairLines (named stop) stopBeats stops
+    ++ (pairLines (named delay) delayBeats delays
+    ++ (pairLines (named warp) warpBeats warps
     ++ (speedLines speedBeats ratios waits units
-    ++ (pairLines (115 ∷ 99 ∷ 114 ∷ 111 ∷ 108 ∷ 108 ∷ 61 ∷ []) scrollBeats scrolls
-    ++ (pairLines (102 ∷ 97 ∷ 107 ∷ 101 ∷ 61 ∷ []) fakeBeats fakes
+    ++ (pairLines (named scroll) scrollBeats scrolls
+    ++ (pairLines (named fake) fakeBeats fakes
     ++ warpedLine warps)))))))

@@ -1,7 +1,8 @@
 // What the report program writes, laid on a lent page from a place on. Each call answers the place behind what it wrote; a full page takes no more.
 ghost use mathlib.Core.Path.{_≡_};
 ghost use Prim.Native.Nat.{_-_, _%_, _^_};
-ghost use mathlib.Core.List.{_∷_, []};
+ghost use mathlib.Core.List.{_∷_, [], _++_};
+ghost use lib.ListN.{take};
 ghost use lib.Ieee.{toBits, binary32};
 ghost use Rattle.report_text.specs.Page.{Wrote};
 ghost use Rattle.report_text.specs.Output.{decimal, number, answerLine, offsetLine, pairLine, pairLines, speedLine, speedLines, lengthRows, warpedRows, warpedLine, listsText};
@@ -28,19 +29,23 @@ fn put_bytes(page: &mut [u8], at: usize, bytes: &[u8]) -> usize
     place
 }
 
-fn put_number(page: &mut [u8], at: usize, x: f32) -> usize
-    ensures { λ r. ⌜ Wrote (number x) at r (now (page .entry)) (now (page .exit)) ⌝ }
+// A number by its pattern, and the byte that ends it.
+fn put_number(page: &mut [u8], at: usize, x: f32, end: u8) -> usize
+    ensures { λ r. ⌜ Wrote (number x ++ (end ∷ [])) at r (now (page .entry)) (now (page .exit)) ⌝ }
 {
     let digits = patterns::hex8(patterns::bits_of_f32(x));
-    put_bytes(page, at, &digits)
+    let at = put_bytes(page, at, &digits);
+    put_byte(page, at, end)
 }
 
+// A number in decimal, which ends its line.
 fn put_decimal(page: &mut [u8], at: usize, n: u64) -> usize
-    ensures { λ r. ⌜ Wrote (decimal n) at r (now (page .entry)) (now (page .exit)) ⌝ }
+    ensures { λ r. ⌜ Wrote (decimal n ++ (10 ∷ [])) at r (now (page .entry)) (now (page .exit)) ⌝ }
 {
     let mut digits = [0u8; 20];
     let count = io::decimal(n, &mut digits);
-    put_bytes(page, at, &digits[..count])
+    let at = put_bytes(page, at, &digits[..count]);
+    put_byte(page, at, b'\n')
 }
 
 // The answer line: all that is written of a refusal.
@@ -48,35 +53,41 @@ pub fn put_answer(page: &mut [u8], at: usize, number: u32) -> usize
     ensures { λ r. ⌜ Wrote (answerLine number) at r (now (page .entry)) (now (page .exit)) ⌝ }
 {
     let at = put_bytes(page, at, b"answer=");
-    let at = put_decimal(page, at, number as u64);
-    put_byte(page, at, b'\n')
+    put_decimal(page, at, number as u64)
 }
 
 fn put_offset(page: &mut [u8], at: usize, offset: f32) -> usize
     ensures { λ r. ⌜ Wrote (offsetLine offset) at r (now (page .entry)) (now (page .exit)) ⌝ }
 {
     let at = put_bytes(page, at, b"offset=");
-    let at = put_number(page, at, offset);
-    put_byte(page, at, b'\n')
+    put_number(page, at, offset, b'\n')
 }
 
 fn put_pair(page: &mut [u8], at: usize, word: &[u8], beat: f32, value: f32) -> usize
     ensures { λ r. ⌜ Wrote (pairLine (now (word .entry)) beat value) at r (now (page .entry)) (now (page .exit)) ⌝ }
 {
     let at = put_bytes(page, at, word);
-    let at = put_number(page, at, beat);
-    let at = put_byte(page, at, b',');
-    let at = put_number(page, at, value);
-    put_byte(page, at, b'\n')
+    let at = put_number(page, at, beat, b',');
+    put_number(page, at, value, b'\n')
 }
 
-// A line for each entry, as far as both columns go.
-fn put_pairs(page: &mut [u8], at: usize, word: &[u8], beats: &[f32], values: &[f32]) -> usize
-    ensures { λ r. ⌜ Wrote (pairLines (now (word .entry)) (now (beats .entry)) (now (values .entry))) at r (now (page .entry)) (now (page .exit)) ⌝ }
+// A line for each of the first entries, as far as both columns go.
+fn put_pairs(
+    page: &mut [u8],
+    at: usize,
+    word: &[u8],
+    count: usize,
+    beats: &[f32],
+    values: &[f32],
+) -> usize
+    ensures { λ r. ⌜ Wrote (pairLines (now (word .entry)) (take count (now (beats .entry))) (take count (now (values .entry)))) at r (now (page .entry)) (now (page .exit)) ⌝ }
 {
     let mut place = at;
     let mut i = 0;
-    while i < beats.len() {
+    while i < count {
+        if i >= beats.len() {
+            return place;
+        }
         if i >= values.len() {
             return place;
         }
@@ -90,12 +101,9 @@ fn put_speed(page: &mut [u8], at: usize, beat: f32, ratio: f32, delay: f32, unit
     ensures { λ r. ⌜ Wrote (speedLine beat ratio delay unit) at r (now (page .entry)) (now (page .exit)) ⌝ }
 {
     let at = put_bytes(page, at, b"speed=");
-    let at = put_number(page, at, beat);
-    let at = put_byte(page, at, b',');
-    let at = put_number(page, at, ratio);
-    let at = put_byte(page, at, b',');
-    let at = put_number(page, at, delay);
-    let at = put_byte(page, at, b',');
+    let at = put_number(page, at, beat, b',');
+    let at = put_number(page, at, ratio, b',');
+    let at = put_number(page, at, delay, b',');
     let at = put_byte(page, at, 48 + unit % 10);
     put_byte(page, at, b'\n')
 }
@@ -103,16 +111,20 @@ fn put_speed(page: &mut [u8], at: usize, beat: f32, ratio: f32, delay: f32, unit
 fn put_speeds(
     page: &mut [u8],
     at: usize,
+    count: usize,
     beats: &[f32],
     ratios: &[f32],
     delays: &[f32],
     units: &[u8],
 ) -> usize
-    ensures { λ r. ⌜ Wrote (speedLines (now (beats .entry)) (now (ratios .entry)) (now (delays .entry)) (now (units .entry))) at r (now (page .entry)) (now (page .exit)) ⌝ }
+    ensures { λ r. ⌜ Wrote (speedLines (take count (now (beats .entry))) (take count (now (ratios .entry))) (take count (now (delays .entry))) (take count (now (units .entry)))) at r (now (page .entry)) (now (page .exit)) ⌝ }
 {
     let mut place = at;
     let mut i = 0;
-    while i < beats.len() {
+    while i < count {
+        if i >= beats.len() {
+            return place;
+        }
         if i >= ratios.len() {
             return place;
         }
@@ -163,51 +175,76 @@ pub fn warped_rows(lengths: &[f32]) -> u64
     sum
 }
 
-fn put_warped(page: &mut [u8], at: usize, lengths: &[f32]) -> usize
-    ensures { λ r. ⌜ Wrote (warpedLine (now (lengths .entry))) at r (now (page .entry)) (now (page .exit)) ⌝ }
+// The first entries of a column.
+fn front(column: &[f32], count: usize) -> &[f32]
+    ensures { λ r. ⌜ now r ≡ take count (now (column .entry)) ⌝ }
 {
-    let at = put_bytes(page, at, b"warped=");
-    let at = put_decimal(page, at, warped_rows(lengths));
-    put_byte(page, at, b'\n')
+    if count < column.len() {
+        return &column[..count];
+    }
+    column
 }
 
-// What stands behind the answer line of a taken input: offset, the seven lists in their order, and the warped rows.
+fn put_warped(page: &mut [u8], at: usize, count: usize, lengths: &[f32]) -> usize
+    ensures { λ r. ⌜ Wrote (warpedLine (take count (now (lengths .entry)))) at r (now (page .entry)) (now (page .exit)) ⌝ }
+{
+    let rows = warped_rows(front(lengths, count));
+    let at = put_bytes(page, at, b"warped=");
+    put_decimal(page, at, rows)
+}
+
+// What stands behind the answer line of a taken input: offset, the first entries of the seven lists in their order, and the warped rows.
 pub fn put_lists(
     page: &mut [u8],
     at: usize,
     offset: f32,
+    tempos: usize,
+    stops: usize,
+    delays: usize,
+    warps: usize,
+    speeds: usize,
+    scrolls: usize,
+    fakes: usize,
     tempo_beats: &[f32],
-    tempos: &[f32],
+    tempo_values: &[f32],
     stop_beats: &[f32],
-    stops: &[f32],
+    stop_values: &[f32],
     delay_beats: &[f32],
-    delays: &[f32],
+    delay_values: &[f32],
     warp_beats: &[f32],
-    warps: &[f32],
+    warp_lengths: &[f32],
     speed_beats: &[f32],
-    ratios: &[f32],
+    speed_ratios: &[f32],
     speed_delays: &[f32],
-    units: &[u8],
+    speed_units: &[u8],
     scroll_beats: &[f32],
-    scrolls: &[f32],
+    scroll_values: &[f32],
     fake_beats: &[f32],
-    fakes: &[f32],
+    fake_lengths: &[f32],
 ) -> usize
     ensures { λ r.
         ⌜ Wrote (listsText offset
-        (now («tempo_beats» .entry)) (now (tempos .entry)) (now («stop_beats» .entry)) (now (stops .entry))
-        (now («delay_beats» .entry)) (now (delays .entry)) (now («warp_beats» .entry)) (now (warps .entry))
-        (now («speed_beats» .entry)) (now (ratios .entry)) (now («speed_delays» .entry)) (now (units .entry))
-        (now («scroll_beats» .entry)) (now (scrolls .entry)) (now («fake_beats» .entry)) (now (fakes .entry)))
+        (take tempos (now («tempo_beats» .entry))) (take tempos (now («tempo_values» .entry))) (take stops (now («stop_beats» .entry))) (take stops (now («stop_values» .entry)))
+        (take delays (now («delay_beats» .entry))) (take delays (now («delay_values» .entry))) (take warps (now («warp_beats» .entry))) (take warps (now («warp_lengths» .entry)))
+        (take speeds (now («speed_beats» .entry))) (take speeds (now («speed_ratios» .entry))) (take speeds (now («speed_delays» .entry))) (take speeds (now («speed_units» .entry)))
+        (take scrolls (now («scroll_beats» .entry))) (take scrolls (now («scroll_values» .entry))) (take fakes (now («fake_beats» .entry))) (take fakes (now («fake_lengths» .entry))))
         at r (now (page .entry)) (now (page .exit)) ⌝ }
 {
     let at = put_offset(page, at, offset);
-    let at = put_pairs(page, at, b"bpm=", tempo_beats, tempos);
-    let at = put_pairs(page, at, b"stop=", stop_beats, stops);
-    let at = put_pairs(page, at, b"delay=", delay_beats, delays);
-    let at = put_pairs(page, at, b"warp=", warp_beats, warps);
-    let at = put_speeds(page, at, speed_beats, ratios, speed_delays, units);
-    let at = put_pairs(page, at, b"scroll=", scroll_beats, scrolls);
-    let at = put_pairs(page, at, b"fake=", fake_beats, fakes);
-    put_warped(page, at, warps)
+    let at = put_pairs(page, at, b"bpm=", tempos, tempo_beats, tempo_values);
+    let at = put_pairs(page, at, b"stop=", stops, stop_beats, stop_values);
+    let at = put_pairs(page, at, b"delay=", delays, delay_beats, delay_values);
+    let at = put_pairs(page, at, b"warp=", warps, warp_beats, warp_lengths);
+    let at = put_speeds(
+        page,
+        at,
+        speeds,
+        speed_beats,
+        speed_ratios,
+        speed_delays,
+        speed_units,
+    );
+    let at = put_pairs(page, at, b"scroll=", scrolls, scroll_beats, scroll_values);
+    let at = put_pairs(page, at, b"fake=", fakes, fake_beats, fake_lengths);
+    put_warped(page, at, warps, warp_lengths)
 }

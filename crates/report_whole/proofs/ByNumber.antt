@@ -9,7 +9,7 @@ use Rattle.by_format.specs.declared.TimingFormat.{TimingFormat}
 use Rattle.report_form.specs.declared.Reading.{Reading}
 use Rattle.report_form.specs.Form.{answerOf}
 use Rattle.report_text.specs.Output.{answerLine}
-use Rattle.report_answer.specs.Report.{takenText}
+use Rattle.report_whole.specs.Taken.{takenText}
 use Rattle.report_whole.specs.Whole.{formatRead, countOf, reportText}
 
 module _ (reading : Reading) (counts : List ℕ) (tempoBeats tempoValues stopBeats stopValues delayBeats delayValues warpBeats warpLengths speedBeats speedRatios speedDelays : List Float) (speedUnits : List ℕ) (scrollBeats scrollValues fakeBeats fakeLengths : List Float) where

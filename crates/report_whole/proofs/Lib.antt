@@ -1,3 +1,5 @@
+pub mod TakenFits
+pub mod TakenReport
 pub mod ReportFits
 pub mod ReadReport
 pub mod ByNumber

@@ -14,8 +14,8 @@ use Rattle.report_text.specs.Page.{Wrote}
 use Rattle.report_text.specs.Output.{answerLine}
 use Rattle.report_text.proofs.TextSizes.{answer-size}
 use Rattle.report_text.proofs.WholePage.{wrote-whole}
-use Rattle.report_answer.specs.Report.{takenText}
-use Rattle.report_answer.proofs.TakenFits.{taken-size}
+use Rattle.report_whole.specs.Taken.{takenText}
+use Rattle.report_whole.proofs.TakenFits.{taken-size}
 use Rattle.report_whole.specs.Whole.{formatRead, countOf, reportText, Reported}
 
 module _ (reading : Reading) (counts : List ℕ) (tempoBeats tempoValues stopBeats stopValues delayBeats delayValues warpBeats warpLengths speedBeats speedRatios speedDelays : List Float) (speedUnits : List ℕ) (scrollBeats scrollValues fakeBeats fakeLengths : List Float) where

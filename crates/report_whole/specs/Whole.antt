@@ -14,7 +14,7 @@ use Rattle.report_form.specs.Form.{start, after, answerOf}
 use Rattle.report_form.specs.Stores.{numberIn, unitIn, countIn, columnAfter}
 use Rattle.report_text.specs.Page.{Wrote, Whole}
 use Rattle.report_text.specs.Output.{answerLine}
-use Rattle.report_answer.specs.Report.{takenText}
+use Rattle.report_whole.specs.Taken.{takenText}
 
 abbrev pub formatRead : Bool → TimingFormat
 formatRead ssc = pick ssc Ssc Sm

@@ -5,7 +5,7 @@ ghost use mathlib.Core.Path.{_≡_};
 ghost use lib.ListN.{take};
 ghost use Rattle.io.specs.Counts.{Counts};
 ghost use Rattle.report_text.specs.Page.{Wrote};
-ghost use Rattle.report_answer.specs.Report.{takenText};
+ghost use Rattle.report_whole.specs.Taken.{takenText};
 ghost use Rattle.report_whole.specs.Whole.{formatRead, countOf, reportText, Reported};
 
 fn format_of(ssc: bool) -> TimingFormat
@@ -115,7 +115,15 @@ fn write_assembled(
     );
     report_answer::write_answer(
         page,
-        done,
+        done.number,
+        done.offset,
+        done.tempos,
+        done.stops,
+        done.delays,
+        done.warps,
+        done.speeds,
+        done.scrolls,
+        done.fakes,
         &out_tempo_beats,
         &out_tempo_values,
         &out_stop_beats,

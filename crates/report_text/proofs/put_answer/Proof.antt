@@ -1,5 +1,5 @@
 -- `report_text::put_answer` meets its contract, piece by piece. Assumes nothing.
-use Rattle.report_text.proofs.Joined.{wrote-join, wrote-length}
+use Rattle.report_text.proofs.Joined.{wrote-join}
 use Rattle.report_text.specs.Output.{answerLine}
 use borrow.Author.Needs.{needs}
 use Rattle.report_text.proofs.put_answer.Statement.{statement}
@@ -14,15 +14,12 @@ put-bytes-requires c κs = search needs
 put-decimal-requires : tie.Need-put-decimal-requires
 put-decimal-requires c κs = search needs
 
-put-byte-requires : tie.Need-put-byte-requires
-put-byte-requires c κs = search needs
-
 same-length : tie.Need-same-length
 same-length c = search needs
 
 returns : tie.Need-returns
 unfolding answerLine
-returns c = wrote-join (c .before .before .before .before .before .before .before .before .before .before .put-bytes .ensures) (wrote-join (c .before .before .before .before .before .before .put-decimal .ensures) (c .before .before .put-byte .ensures))
+returns c = wrote-join (c .before .before .before .before .before .before .put-bytes .ensures) (c .before .before .put-decimal .ensures)
 
 pub put-answer-spec : {M : Type 1} → statement M
 put-answer-spec =
@@ -31,6 +28,5 @@ put-answer-spec =
     slice-aggregate-put-bytes
     put-bytes-requires
     put-decimal-requires
-    put-byte-requires
     same-length
     returns)

@@ -1,5 +1,5 @@
 -- `report_text::put_offset` meets its contract, piece by piece. Assumes nothing.
-use Rattle.report_text.proofs.Joined.{wrote-join, wrote-length}
+use Rattle.report_text.proofs.Joined.{wrote-join}
 use Rattle.report_text.specs.Output.{offsetLine}
 use borrow.Author.Needs.{needs}
 use Rattle.report_text.proofs.put_offset.Statement.{statement}
@@ -14,23 +14,14 @@ put-bytes-requires c κs = search needs
 put-number-requires : tie.Need-put-number-requires
 put-number-requires c κs = search needs
 
-put-byte-requires : tie.Need-put-byte-requires
-put-byte-requires c κs = search needs
-
 same-length : tie.Need-same-length
 same-length c = search needs
 
 returns : tie.Need-returns
 unfolding offsetLine
-returns c = wrote-join (c .before .before .before .before .before .before .before .before .before .before .put-bytes .ensures) (wrote-join (c .before .before .before .before .before .before .put-number .ensures) (c .before .before .put-byte .ensures))
+returns c = wrote-join (c .before .before .before .before .before .before .put-bytes .ensures) (c .before .before .put-number .ensures)
 
 pub put-offset-spec : {M : Type 1} → statement M
 put-offset-spec =
     tie.close
-    (tie.spec
-    slice-aggregate-put-bytes
-    put-bytes-requires
-    put-number-requires
-    put-byte-requires
-    same-length
-    returns)
+    (tie.spec slice-aggregate-put-bytes put-bytes-requires put-number-requires same-length returns)

@@ -1,20 +1,20 @@
 -- `report_text::put_pairs` meets its contract: a turn is a line. Assumes nothing.
-use Prim.Native.Nat.{_≤_, _<_, _-_}
+use Prim.Native.Nat.{_≤_, _-_}
 use native.Mathlib.Omega.{arith}
-use lib.ListN.{length, drop}
+use lib.ListN.{length, take, drop}
 use Rattle.report_text.specs.Output.{pairLines}
 use Rattle.report_text.proofs.Joined.{Left, left-start}
-use Rattle.report_text.proofs.Turns.{pairs-turn, pairs-end, pairs-short}
+use Rattle.report_text.proofs.Turns.{pairs-turn, pairs-all, pairs-end, pairs-short}
 use borrow.Author.Needs.{needs}
 use Rattle.report_text.proofs.put_pairs.Statement.{statement}
 use Rattle.report_text.proofs.put_pairs.Tie as tie
 
 abbrev Inv-loop : tie.InvT-loop
-Inv-loop page₀ at word beats values place₀ i₀ page place i =
-    (i ≤ length beats) × Left (pairLines word beats values) (pairLines word (drop i beats) (drop i values)) at place page₀ page
+Inv-loop page₀ at word count beats values place₀ i₀ page place i =
+    (i ≤ count) × Left (pairLines word (take count beats) (take count values)) (pairLines word (drop i (take count beats)) (drop i (take count values))) at place page₀ page
 
 abbrev μ-loop : tie.MeasureT-loop
-μ-loop page₀ at word beats values place₀ i₀ page place i = length beats - i
+μ-loop page₀ at word count beats values place₀ i₀ page place i = count - i
 
 loop-holds : tie.Need-loop-holds Inv-loop μ-loop
 loop-holds c = (search needs, left-start _ _ _)
@@ -24,9 +24,16 @@ same-length c = c .before .before .loop .inv .1 .size
 
 returns : tie.Need-returns Inv-loop μ-loop
 returns c =
-    let start = c .before .before in
-    let given = start .before .before .before .before .before .args in
-    pairs-short (given .word .now) (given .beats .now) (given .values .now) (start .loop .i) (c .if1 .taken) (start .loop .inv .1)
+    let given = c .before .before .before .before .before .before .before .args in
+    pairs-end (given .word .now) (given .count) (given .beats .now) (given .values .now) (c .before .before .loop .i) (c .before .before .loop .inv .1) (c .if1 .taken)
+
+same-length-2 : tie.Need-same-length-2 Inv-loop μ-loop
+same-length-2 c = c .before .before .before .loop .inv .1 .size
+
+returns-2 : tie.Need-returns-2 Inv-loop μ-loop
+returns-2 c =
+    let given = c .before .before .before .before .before .before .before .before .args in
+    pairs-short (given .word .now) (given .count) (given .beats .now) (given .values .now) (c .before .before .before .loop .i) (c .before .before .before .loop .inv .1) (c .if2 .taken)
 
 mul-put-pair : tie.Need-mul-put-pair Inv-loop μ-loop
 mul-put-pair c = search needs
@@ -51,18 +58,16 @@ loop-less c = omega arith
 
 loop-again : tie.Need-loop-again Inv-loop μ-loop
 loop-again c =
-    let start = c .before .before .before .before .before .before .before .before in
-    let given = start .before .before .before .before .before .args in
-    (omega arith, pairs-turn (given .word .now) (given .beats .now) (given .values .now) (start .loop .i) (omega arith) (omega arith) (start .loop .inv .1) (c .before .before .put-pair .ensures))
+    let given = c .before .before .before .before .before .before .before .before .before .before .before .before .before .before .args in
+    (omega arith, pairs-turn (given .word .now) (given .count) (given .beats .now) (given .values .now) (c .before .before .before .before .before .before .before .before .before .loop .i) (c .before .before .before .before .before .before .before .before .loop-test .taken) (c .before .before .before .before .before .before .before .if1 .left) (c .before .before .before .before .before .before .if2 .left) (c .before .before .before .before .before .before .before .before .before .loop .inv .1) (c .before .before .put-pair .ensures))
 
-same-length-2 : tie.Need-same-length-2 Inv-loop μ-loop
-same-length-2 c = c .before .loop .inv .1 .size
+same-length-3 : tie.Need-same-length-3 Inv-loop μ-loop
+same-length-3 c = c .before .loop .inv .1 .size
 
-returns-2 : tie.Need-returns-2 Inv-loop μ-loop
-returns-2 c =
-    let start = c .before in
-    let given = start .before .before .before .before .before .args in
-    pairs-end (given .word .now) (given .beats .now) (given .values .now) (start .loop .i) (omega arith) (start .loop .inv .1)
+returns-3 : tie.Need-returns-3 Inv-loop μ-loop
+returns-3 c =
+    let given = c .before .before .before .before .before .before .args in
+    pairs-all (given .word .now) (given .count) (given .beats .now) (given .values .now) (c .before .loop .i) (c .before .loop .inv .1) (c .loop-test .left)
 
 pub put-pairs-spec : {M : Type 1} → statement M
 put-pairs-spec =
@@ -73,6 +78,8 @@ put-pairs-spec =
     loop-holds
     same-length
     returns
+    same-length-2
+    returns-2
     mul-put-pair
     shared-slice-read-put-pair
     mul-put-pair-2
@@ -81,5 +88,5 @@ put-pairs-spec =
     add-i
     loop-less
     loop-again
-    same-length-2
-    returns-2)
+    same-length-3
+    returns-3)

@@ -1,6 +1,6 @@
 -- `report_text::put_speed` meets its contract, piece by piece. Assumes nothing.
-use Rattle.report_text.proofs.Joined.{wrote-join, wrote-length}
-use Rattle.report_text.specs.Output.{speedLine}
+use Rattle.report_text.proofs.Joined.{wrote-join, wrote-after}
+use Rattle.report_text.specs.Output.{number, speedLine}
 use borrow.Author.Needs.{needs}
 use Rattle.report_text.proofs.put_speed.Statement.{statement}
 use Rattle.report_text.proofs.put_speed.Tie as tie
@@ -14,36 +14,27 @@ put-bytes-requires c κs = search needs
 put-number-requires : tie.Need-put-number-requires
 put-number-requires c κs = search needs
 
-put-byte-requires : tie.Need-put-byte-requires
-put-byte-requires c κs = search needs
-
 put-number-requires-2 : tie.Need-put-number-requires-2
 put-number-requires-2 c κs = search needs
-
-put-byte-requires-2 : tie.Need-put-byte-requires-2
-put-byte-requires-2 c κs = search needs
 
 put-number-requires-3 : tie.Need-put-number-requires-3
 put-number-requires-3 c κs = search needs
 
-put-byte-requires-3 : tie.Need-put-byte-requires-3
-put-byte-requires-3 c κs = search needs
-
 add-put-byte : tie.Need-add-put-byte
 add-put-byte c = search needs
 
-put-byte-requires-4 : tie.Need-put-byte-requires-4
-put-byte-requires-4 c κs = search needs
+put-byte-requires : tie.Need-put-byte-requires
+put-byte-requires c κs = search needs
 
-put-byte-requires-5 : tie.Need-put-byte-requires-5
-put-byte-requires-5 c κs = search needs
+put-byte-requires-2 : tie.Need-put-byte-requires-2
+put-byte-requires-2 c κs = search needs
+
+same-length : tie.Need-same-length
+same-length c = search needs
 
 returns : tie.Need-returns
 unfolding speedLine
-returns c = wrote-join (c .before .before .before .before .before .before .before .before .before .before .before .before .before .before .before .before .before .before .before .before .before .before .before .before .before .before .before .before .before .before .before .before .before .before .put-bytes .ensures) (wrote-join (c .before .before .before .before .before .before .before .before .before .before .before .before .before .before .before .before .before .before .before .before .before .before .before .before .before .before .before .before .before .before .put-number .ensures) (wrote-join (c .before .before .before .before .before .before .before .before .before .before .before .before .before .before .before .before .before .before .before .before .before .before .before .before .before .before .put-byte .ensures) (wrote-join (c .before .before .before .before .before .before .before .before .before .before .before .before .before .before .before .before .before .before .before .before .before .before .put-number2 .ensures) (wrote-join (c .before .before .before .before .before .before .before .before .before .before .before .before .before .before .before .before .before .before .put-byte2 .ensures) (wrote-join (c .before .before .before .before .before .before .before .before .before .before .before .before .before .before .put-number3 .ensures) (wrote-join (c .before .before .before .before .before .before .before .before .before .before .put-byte3 .ensures) (wrote-join (c .before .before .before .before .before .before .put-byte4 .ensures) (c .before .before .put-byte5 .ensures))))))))
-
-same-length : tie.Need-same-length
-same-length c = wrote-length (returns c)
+returns c = wrote-join (c .before .before .before .before .before .before .before .before .before .before .before .before .before .before .before .before .before .before .before .before .before .before .put-bytes .ensures) (wrote-after (number (c .before .before .before .before .before .before .before .before .before .before .before .before .before .before .before .before .before .before .before .before .before .before .before .before .before .before .args .beat)) 44 (c .before .before .before .before .before .before .before .before .before .before .before .before .before .before .before .before .before .before .put-number .ensures) (wrote-after (number (c .before .before .before .before .before .before .before .before .before .before .before .before .before .before .before .before .before .before .before .before .before .before .before .before .before .before .args .ratio)) 44 (c .before .before .before .before .before .before .before .before .before .before .before .before .before .before .put-number2 .ensures) (wrote-after (number (c .before .before .before .before .before .before .before .before .before .before .before .before .before .before .before .before .before .before .before .before .before .before .before .before .before .before .args .delay)) 44 (c .before .before .before .before .before .before .before .before .before .before .put-number3 .ensures) (wrote-join (c .before .before .before .before .before .before .put-byte .ensures) (c .before .before .put-byte2 .ensures)))))
 
 pub put-speed-spec : {M : Type 1} → statement M
 put-speed-spec =
@@ -52,13 +43,10 @@ put-speed-spec =
     slice-aggregate-put-bytes
     put-bytes-requires
     put-number-requires
-    put-byte-requires
     put-number-requires-2
-    put-byte-requires-2
     put-number-requires-3
-    put-byte-requires-3
     add-put-byte
-    put-byte-requires-4
-    put-byte-requires-5
+    put-byte-requires
+    put-byte-requires-2
     same-length
     returns)

@@ -1,20 +1,22 @@
 -- `report_text::put_speeds` meets its contract: a turn is a line. Assumes nothing.
-use Prim.Native.Nat.{_≤_, _<_, _-_}
+use Prim.Native.Nat.{_≤_, _-_}
 use native.Mathlib.Omega.{arith}
-use lib.ListN.{length, drop}
-use borrow.Author.Needs.{needs}
+use lib.ListN.{length, take, drop}
 use Rattle.report_text.specs.Output.{speedLines}
 use Rattle.report_text.proofs.Joined.{Left, left-start}
-use Rattle.report_text.proofs.Turns.{speeds-turn, speeds-end, speeds-no-ratio, speeds-no-wait, speeds-no-unit}
+use Rattle.report_text.proofs.Turns.{speeds-turn, speeds-all, speeds-end, speeds-no-ratio, speeds-no-wait, speeds-no-unit}
+use borrow.Author.Needs.{needs}
 use Rattle.report_text.proofs.put_speeds.Statement.{statement}
 use Rattle.report_text.proofs.put_speeds.Tie as tie
 
 abbrev Inv-loop : tie.InvT-loop
-Inv-loop page₀ at beats ratios delays units place₀ i₀ page place i =
-    (i ≤ length beats) × Left (speedLines beats ratios delays units) (speedLines (drop i beats) (drop i ratios) (drop i delays) (drop i units)) at place page₀ page
+Inv-loop page₀ at count beats ratios delays units place₀ i₀ page place i =
+    (i ≤ count)
+    × Left (speedLines (take count beats) (take count ratios) (take count delays) (take count units))
+    (speedLines (drop i (take count beats)) (drop i (take count ratios)) (drop i (take count delays)) (drop i (take count units))) at place page₀ page
 
 abbrev μ-loop : tie.MeasureT-loop
-μ-loop page₀ at beats ratios delays units place₀ i₀ page place i = length beats - i
+μ-loop page₀ at count beats ratios delays units place₀ i₀ page place i = count - i
 
 loop-holds : tie.Need-loop-holds Inv-loop μ-loop
 loop-holds c = (search needs, left-start _ _ _)
@@ -24,27 +26,32 @@ same-length c = c .before .before .loop .inv .1 .size
 
 returns : tie.Need-returns Inv-loop μ-loop
 returns c =
-    let start = c .before .before in
-    let given = start .before .before .before .before .before .before .args in
-    speeds-no-ratio (given .beats .now) (given .ratios .now) (given .delays .now) (given .units .now) (start .loop .i) (start .loop .inv .1) (c .if1 .taken)
+    let given = c .before .before .before .before .before .before .before .before .args in
+    speeds-end (given .count) (given .beats .now) (given .ratios .now) (given .delays .now) (given .units .now) (c .before .before .loop .i) (c .before .before .loop .inv .1) (c .if1 .taken)
 
 same-length-2 : tie.Need-same-length-2 Inv-loop μ-loop
 same-length-2 c = c .before .before .before .loop .inv .1 .size
 
 returns-2 : tie.Need-returns-2 Inv-loop μ-loop
 returns-2 c =
-    let start = c .before .before .before in
-    let given = start .before .before .before .before .before .before .args in
-    speeds-no-wait (given .beats .now) (given .ratios .now) (given .delays .now) (given .units .now) (start .loop .i) (start .loop .inv .1) (c .if2 .taken)
+    let given = c .before .before .before .before .before .before .before .before .before .args in
+    speeds-no-ratio (given .count) (given .beats .now) (given .ratios .now) (given .delays .now) (given .units .now) (c .before .before .before .loop .i) (c .before .before .before .loop .inv .1) (c .if2 .taken)
 
 same-length-3 : tie.Need-same-length-3 Inv-loop μ-loop
 same-length-3 c = c .before .before .before .before .loop .inv .1 .size
 
 returns-3 : tie.Need-returns-3 Inv-loop μ-loop
 returns-3 c =
-    let start = c .before .before .before .before in
-    let given = start .before .before .before .before .before .before .args in
-    speeds-no-unit (given .beats .now) (given .ratios .now) (given .delays .now) (given .units .now) (start .loop .i) (start .loop .inv .1) (c .if3 .taken)
+    let given = c .before .before .before .before .before .before .before .before .before .before .args in
+    speeds-no-wait (given .count) (given .beats .now) (given .ratios .now) (given .delays .now) (given .units .now) (c .before .before .before .before .loop .i) (c .before .before .before .before .loop .inv .1) (c .if3 .taken)
+
+same-length-4 : tie.Need-same-length-4 Inv-loop μ-loop
+same-length-4 c = c .before .before .before .before .before .loop .inv .1 .size
+
+returns-4 : tie.Need-returns-4 Inv-loop μ-loop
+returns-4 c =
+    let given = c .before .before .before .before .before .before .before .before .before .before .before .args in
+    speeds-no-unit (given .count) (given .beats .now) (given .ratios .now) (given .delays .now) (given .units .now) (c .before .before .before .before .before .loop .i) (c .before .before .before .before .before .loop .inv .1) (c .if4 .taken)
 
 mul-put-speed : tie.Need-mul-put-speed Inv-loop μ-loop
 mul-put-speed c = search needs
@@ -78,18 +85,16 @@ loop-less c = omega arith
 
 loop-again : tie.Need-loop-again Inv-loop μ-loop
 loop-again c =
-    let start = c .before .before .before .before .before .before .before .before .before .before .before .before in
-    let given = start .before .before .before .before .before .before .args in
-    (omega arith, speeds-turn (given .beats .now) (given .ratios .now) (given .delays .now) (given .units .now) (start .loop .i) (omega arith) (omega arith) (omega arith) (omega arith) (start .loop .inv .1) (c .before .before .put-speed .ensures))
+    let given = c .before .before .before .before .before .before .before .before .before .before .before .before .before .before .before .before .before .before .before .args in
+    (omega arith, speeds-turn (given .count) (given .beats .now) (given .ratios .now) (given .delays .now) (given .units .now) (c .before .before .before .before .before .before .before .before .before .before .before .before .before .loop .i) (c .before .before .before .before .before .before .before .before .before .before .before .before .loop-test .taken) (c .before .before .before .before .before .before .before .before .before .before .before .if1 .left) (c .before .before .before .before .before .before .before .before .before .before .if2 .left) (c .before .before .before .before .before .before .before .before .before .if3 .left) (c .before .before .before .before .before .before .before .before .if4 .left) (c .before .before .before .before .before .before .before .before .before .before .before .before .before .loop .inv .1) (c .before .before .put-speed .ensures))
 
-same-length-4 : tie.Need-same-length-4 Inv-loop μ-loop
-same-length-4 c = c .before .loop .inv .1 .size
+same-length-5 : tie.Need-same-length-5 Inv-loop μ-loop
+same-length-5 c = c .before .loop .inv .1 .size
 
-returns-4 : tie.Need-returns-4 Inv-loop μ-loop
-returns-4 c =
-    let start = c .before in
-    let given = start .before .before .before .before .before .before .args in
-    speeds-end (given .beats .now) (given .ratios .now) (given .delays .now) (given .units .now) (start .loop .i) (start .loop .inv .1) (omega arith)
+returns-5 : tie.Need-returns-5 Inv-loop μ-loop
+returns-5 c =
+    let given = c .before .before .before .before .before .before .before .args in
+    speeds-all (given .count) (given .beats .now) (given .ratios .now) (given .delays .now) (given .units .now) (c .before .loop .i) (c .before .loop .inv .1) (c .loop-test .left)
 
 pub put-speeds-spec : {M : Type 1} → statement M
 put-speeds-spec =
@@ -104,6 +109,8 @@ put-speeds-spec =
     returns-2
     same-length-3
     returns-3
+    same-length-4
+    returns-4
     mul-put-speed
     shared-slice-read-put-speed
     mul-put-speed-2
@@ -115,5 +122,5 @@ put-speeds-spec =
     add-i
     loop-less
     loop-again
-    same-length-4
-    returns-4)
+    same-length-5
+    returns-5)

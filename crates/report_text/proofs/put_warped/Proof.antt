@@ -1,9 +1,15 @@
 -- `report_text::put_warped` meets its contract, piece by piece. Assumes nothing.
-use borrow.Author.Needs.{needs}
-use Rattle.report_text.specs.Output.{warpedLine}
 use Rattle.report_text.proofs.Joined.{wrote-join}
+use Rattle.report_text.specs.Output.{warpedLine}
+use borrow.Author.Needs.{needs}
 use Rattle.report_text.proofs.put_warped.Statement.{statement}
 use Rattle.report_text.proofs.put_warped.Tie as tie
+
+front-requires : tie.Need-front-requires
+front-requires c κs = search needs
+
+warped-rows-requires : tie.Need-warped-rows-requires
+warped-rows-requires c κs = search needs
 
 slice-aggregate-put-bytes : tie.Need-slice-aggregate-put-bytes
 slice-aggregate-put-bytes c = search needs
@@ -11,30 +17,24 @@ slice-aggregate-put-bytes c = search needs
 put-bytes-requires : tie.Need-put-bytes-requires
 put-bytes-requires c κs = search needs
 
-warped-rows-requires : tie.Need-warped-rows-requires
-warped-rows-requires c κs = search needs
-
 put-decimal-requires : tie.Need-put-decimal-requires
 put-decimal-requires c κs = search needs
-
-put-byte-requires : tie.Need-put-byte-requires
-put-byte-requires c κs = search needs
 
 same-length : tie.Need-same-length
 same-length c = search needs
 
 returns : tie.Need-returns
 unfolding warpedLine
-returns c = rw (← c .before .before .before .before .before .before .before .warped-rows .ensures) (wrote-join (c .before .before .before .before .before .before .before .before .before .before .before .put-bytes .ensures) (wrote-join (c .before .before .before .before .before .before .put-decimal .ensures) (c .before .before .put-byte .ensures)))
+returns c = rw (← c .before .before .before .before .before .before .before .before .before .before .front .ensures, ← c .before .before .before .before .before .before .before .before .before .warped-rows .ensures) (wrote-join (c .before .before .before .before .before .before .put-bytes .ensures) (c .before .before .put-decimal .ensures))
 
 pub put-warped-spec : {M : Type 1} → statement M
 put-warped-spec =
     tie.close
     (tie.spec
+    front-requires
+    warped-rows-requires
     slice-aggregate-put-bytes
     put-bytes-requires
-    warped-rows-requires
     put-decimal-requires
-    put-byte-requires
     same-length
     returns)

@@ -20,13 +20,19 @@ use Rattle.assembled_scrolls.specs.AssembledScrolls.{assembledScrolls}
 use Rattle.assembly.specs.declared.Assembled.{Assembled}
 use Rattle.assembly.specs.Assembly.{assembledDelays, assembledFakes, processedPart, SpeedsLaid}
 use Rattle.report_text.specs.Output.{answerLine, listsText}
-use Rattle.report_answer.specs.Report.{processed, speedsGiven, takenNumber, takenLists, takenText, doneText}
-use Rattle.report_answer.proofs.Pieces.{same-lists}
+use Rattle.report_answer.specs.Report.{doneText}
+use Rattle.report_whole.specs.Taken.{processed, speedsGiven, takenNumber, takenLists, takenText}
 
 -- the front of a column that a taken result was laid over
 front-laid : {A B : Type 0} (field : A → B) (number count : ℕ) (result : List A) (old new : List B) → number ≡ 0 → count ≡ length (given number result) → new ≡ columnLaid field number result old → take count new ≡ map field result
 unfolding given laid
 front-laid field number count result old new z c n = rw (n, c, z) (take-at (map field result) _ (length result) (length-map result field))
+
+-- equal columns have one text
+same-lists : (offset : Float) {a1 b1 a2 b2 a3 b3 a4 b4 a5 b5 a6 b6 a7 b7 a8 b8 a9 b9 a10 b10 a11 b11 a13 b13 a14 b14 a15 b15 a16 b16 : List Float} {a12 b12 : List ℕ}
+    → a1 ≡ b1 → a2 ≡ b2 → a3 ≡ b3 → a4 ≡ b4 → a5 ≡ b5 → a6 ≡ b6 → a7 ≡ b7 → a8 ≡ b8 → a9 ≡ b9 → a10 ≡ b10 → a11 ≡ b11 → a12 ≡ b12 → a13 ≡ b13 → a14 ≡ b14 → a15 ≡ b15 → a16 ≡ b16
+    → listsText offset a1 a2 a3 a4 a5 a6 a7 a8 a9 a10 a11 a12 a13 a14 a15 a16 ≡ listsText offset b1 b2 b3 b4 b5 b6 b7 b8 b9 b10 b11 b12 b13 b14 b15 b16
+same-lists offset e1 e2 e3 e4 e5 e6 e7 e8 e9 e10 e11 e12 e13 e14 e15 e16 = cc
 
 module _ (format : TimingFormat) (tempoBeats tempoValues stopBeats stopValues delayBeats delayValues warpBeats warpLengths speedBeats speedRatios speedDelays : List Float) (speedUnits : List ℕ)
     (scrollBeats scrollValues fakeBeats fakeLengths : List Float) (done : Assembled) (raw later : ℕ)
@@ -63,7 +69,7 @@ module _ (format : TimingFormat) (tempoBeats tempoValues stopBeats stopValues de
       (front-laid first _ _ _ a15 b15 z (fakes .counted) (fakes .firstIs)) (front-laid second _ _ _ a16 b16 z (fakes .counted) (fakes .secondIs)))
 
   pub done-is-taken : done .number ≡ number
-      → doneText done b1 b2 b3 b4 b5 b6 b7 b8 b9 b10 b11 b12 b13 b14 b15 b16
+      → doneText (done .number) (done .offset) (done .tempos) (done .stops) (done .delays) (done .warps) (done .speeds) (done .scrolls) (done .fakes) b1 b2 b3 b4 b5 b6 b7 b8 b9 b10 b11 b12 b13 b14 b15 b16
       ≡ takenText format tempoBeats tempoValues stopBeats stopValues delayBeats delayValues warpBeats warpLengths speedBeats speedRatios speedDelays speedUnits scrollBeats scrollValues fakeBeats fakeLengths
   unfolding doneText takenText
   done-is-taken n = ap (λ (k : ℕ). answerLine k ++ pick (eqb k 0) fronts []) n ∙ by-case (eqb number 0) refl

@@ -26,7 +26,7 @@ use Rattle.assembly.specs.Assembly.{assembledDelays, assembledFakes, othersNumb
 use Rattle.assembly.proofs.Ends.{none-refused, others-fit}
 use Rattle.report_text.specs.Output.{answerLine}
 use Rattle.report_text.proofs.TextSizes.{answer-size, lists-size}
-use Rattle.report_answer.specs.Report.{processed, speedsGiven, takenNumber, takenLists, takenText}
+use Rattle.report_whole.specs.Taken.{processed, speedsGiven, takenNumber, takenLists, takenText}
 
 -- a list that fits in 256 places, by any of its columns
 few-of : {A B : Type 0} (field : A → B) (tests : ℕ) (list : List A) → roomNumber tests (length list) 256 ≡ 0 → length (map field list) ≤ 256
