@@ -103,8 +103,10 @@ fn others_later(
 
 // ---- the call
 
-// The same as `compute_timing_segments`, with at most `most_warps` warps, given and made, and never more than a list may have.
-pub fn compute_timing_segments_within(
+// The seven lists of a chart, tidied and on rows: tempos and stops processed by format, warps that they make behind the given ones. All tests come
+// before anything is written: 1 to 4 for the raw lists, 1 where the warps given and made are more than `most_warps` or than a list may have, 6 for scrolls
+// or speeds, 7 for a room.
+pub fn compute_timing_segments(
     most_warps: usize,
     format: TimingFormat,
     tempo_beats: &[f64],
@@ -251,85 +253,4 @@ pub fn compute_timing_segments_within(
         fakes: fakes.count,
         offset: processed.offset,
     }
-}
-
-// The seven lists of a chart, tidied and on rows: tempos and stops processed by format, warps that they make behind the given ones. All tests come
-// before anything is written: 1 to 4 for the raw lists, 1 where the warps given and made are too many, 6 for scrolls or speeds, 7 for a room.
-pub fn compute_timing_segments(
-    format: TimingFormat,
-    tempo_beats: &[f64],
-    tempo_values: &[f64],
-    stop_beats: &[f64],
-    stop_values: &[f64],
-    delay_beats: &[f64],
-    delay_values: &[f64],
-    warp_beats: &[f64],
-    warp_lengths: &[f64],
-    speed_beats: &[f64],
-    speed_ratios: &[f64],
-    speed_delays: &[f64],
-    speed_units: &[u8],
-    scroll_beats: &[f64],
-    scroll_values: &[f64],
-    fake_beats: &[f64],
-    fake_lengths: &[f64],
-    out_tempo_beats: &mut [f32],
-    out_tempo_values: &mut [f32],
-    out_stop_beats: &mut [f32],
-    out_stop_values: &mut [f32],
-    out_delay_beats: &mut [f32],
-    out_delay_values: &mut [f32],
-    out_warp_beats: &mut [f32],
-    out_warp_lengths: &mut [f32],
-    out_speed_beats: &mut [f32],
-    out_speed_ratios: &mut [f32],
-    out_speed_delays: &mut [f32],
-    out_speed_units: &mut [u8],
-    out_scroll_beats: &mut [f32],
-    out_scroll_values: &mut [f32],
-    out_fake_beats: &mut [f32],
-    out_fake_lengths: &mut [f32],
-) -> Assembled
-    ensures { λ r. ⌜ ThreeLaid (lower (threeNumber (now («tempo_beats» .entry)) (now («tempo_values» .entry)) (now («stop_beats» .entry)) (now («stop_values» .entry)) (now («warp_beats» .entry)) (now («warp_lengths» .entry))) (othersNumber (now («delay_beats» .entry)) (now («delay_values» .entry)) (now («speed_beats» .entry)) (now («speed_ratios» .entry)) (now («speed_delays» .entry)) (now («speed_units» .entry)) (now («scroll_beats» .entry)) (now («scroll_values» .entry)) (now («fake_beats» .entry)) (now («fake_lengths» .entry)))) (othersLater (now («delay_beats» .entry)) (now («delay_values» .entry)) (now («speed_beats» .entry)) (now («speed_ratios» .entry)) (now («speed_delays» .entry)) (now («speed_units» .entry)) (now («scroll_beats» .entry)) (now («scroll_values» .entry)) (now («fake_beats» .entry)) (now («fake_lengths» .entry)) (roomFor (now («out_delay_beats» .entry)) (now («out_delay_values» .entry))) (leastOf (length (now («out_speed_beats» .entry))) (length (now («out_speed_ratios» .entry))) (length (now («out_speed_delays» .entry))) (length (now («out_speed_units» .entry)))) (roomFor (now («out_scroll_beats» .entry)) (now («out_scroll_values» .entry))) (roomFor (now («out_fake_beats» .entry)) (now («out_fake_lengths» .entry)))) 1024 (mergedLists format (now («tempo_beats» .entry)) (now («tempo_values» .entry)) (now («stop_beats» .entry)) (now («stop_values» .entry)) (now («warp_beats» .entry)) (now («warp_lengths» .entry))) (processedPart r) (now («out_tempo_beats» .entry)) (now («out_tempo_beats» .exit)) (now («out_tempo_values» .entry)) (now («out_tempo_values» .exit)) (now («out_stop_beats» .entry)) (now («out_stop_beats» .exit)) (now («out_stop_values» .entry)) (now («out_stop_values» .exit)) (now («out_warp_beats» .entry)) (now («out_warp_beats» .exit)) (now («out_warp_lengths» .entry)) (now («out_warp_lengths» .exit)) ⌝ }
-    ensures { λ r. ⌜ LaidList (r .number) (assembledDelays (now («delay_beats» .entry)) (now («delay_values» .entry))) (r .delays) (now («out_delay_beats» .entry)) (now («out_delay_beats» .exit)) (now («out_delay_values» .entry)) (now («out_delay_values» .exit)) ⌝ }
-    ensures { λ r. ⌜ SpeedsLaid (r .number) (assembledSpeeds (now («speed_beats» .entry)) (now («speed_ratios» .entry)) (now («speed_delays» .entry)) (now («speed_units» .entry))) (r .speeds) (now («out_speed_beats» .entry)) (now («out_speed_beats» .exit)) (now («out_speed_ratios» .entry)) (now («out_speed_ratios» .exit)) (now («out_speed_delays» .entry)) (now («out_speed_delays» .exit)) (now («out_speed_units» .entry)) (now («out_speed_units» .exit)) ⌝ }
-    ensures { λ r. ⌜ LaidList (r .number) (assembledScrolls (now («scroll_beats» .entry)) (now («scroll_values» .entry))) (r .scrolls) (now («out_scroll_beats» .entry)) (now («out_scroll_beats» .exit)) (now («out_scroll_values» .entry)) (now («out_scroll_values» .exit)) ⌝ }
-    ensures { λ r. ⌜ LaidList (r .number) (assembledFakes (now («fake_beats» .entry)) (now («fake_lengths» .entry))) (r .fakes) (now («out_fake_beats» .entry)) (now («out_fake_beats» .exit)) (now («out_fake_lengths» .entry)) (now («out_fake_lengths» .exit)) ⌝ }
-{
-    compute_timing_segments_within(
-        limits::MOST_ENTRIES,
-        format,
-        tempo_beats,
-        tempo_values,
-        stop_beats,
-        stop_values,
-        delay_beats,
-        delay_values,
-        warp_beats,
-        warp_lengths,
-        speed_beats,
-        speed_ratios,
-        speed_delays,
-        speed_units,
-        scroll_beats,
-        scroll_values,
-        fake_beats,
-        fake_lengths,
-        out_tempo_beats,
-        out_tempo_values,
-        out_stop_beats,
-        out_stop_values,
-        out_delay_beats,
-        out_delay_values,
-        out_warp_beats,
-        out_warp_lengths,
-        out_speed_beats,
-        out_speed_ratios,
-        out_speed_delays,
-        out_speed_units,
-        out_scroll_beats,
-        out_scroll_values,
-        out_fake_beats,
-        out_fake_lengths,
-    )
 }

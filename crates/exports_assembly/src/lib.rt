@@ -69,6 +69,7 @@ pub extern "C" fn marrighentu_compute_timing_segments(
 {
     let named = format_of(format);
     assembly::compute_timing_segments(
+        limits::MOST_ENTRIES,
         named,
         tempo_beats,
         tempo_values,

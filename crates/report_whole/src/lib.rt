@@ -77,7 +77,7 @@ fn write_assembled(
     let mut out_scroll_values = [0.0f32; 256];
     let mut out_fake_beats = [0.0f32; 256];
     let mut out_fake_lengths = [0.0f32; 256];
-    let done = assembly::compute_timing_segments_within(
+    let done = assembly::compute_timing_segments(
         256,
         format,
         tempo_beats,

@@ -8,72 +8,72 @@ use borrow.Author.Needs.{needs}
 use Rattle.report_whole.proofs.write_assembled.Statement.{statement}
 use Rattle.report_whole.proofs.write_assembled.Tie as tie
 
-slice-aggregate-compute-timing-segments-within :
-    tie.Need-slice-aggregate-compute-timing-segments-within
-slice-aggregate-compute-timing-segments-within c = search needs
+slice-aggregate-compute-timing-segments :
+    tie.Need-slice-aggregate-compute-timing-segments
+slice-aggregate-compute-timing-segments c = search needs
 
-slice-aggregate-compute-timing-segments-within-2 :
-    tie.Need-slice-aggregate-compute-timing-segments-within-2
-slice-aggregate-compute-timing-segments-within-2 c = search needs
+slice-aggregate-compute-timing-segments-2 :
+    tie.Need-slice-aggregate-compute-timing-segments-2
+slice-aggregate-compute-timing-segments-2 c = search needs
 
-slice-aggregate-compute-timing-segments-within-3 :
-    tie.Need-slice-aggregate-compute-timing-segments-within-3
-slice-aggregate-compute-timing-segments-within-3 c = search needs
+slice-aggregate-compute-timing-segments-3 :
+    tie.Need-slice-aggregate-compute-timing-segments-3
+slice-aggregate-compute-timing-segments-3 c = search needs
 
-slice-aggregate-compute-timing-segments-within-4 :
-    tie.Need-slice-aggregate-compute-timing-segments-within-4
-slice-aggregate-compute-timing-segments-within-4 c = search needs
+slice-aggregate-compute-timing-segments-4 :
+    tie.Need-slice-aggregate-compute-timing-segments-4
+slice-aggregate-compute-timing-segments-4 c = search needs
 
-slice-aggregate-compute-timing-segments-within-5 :
-    tie.Need-slice-aggregate-compute-timing-segments-within-5
-slice-aggregate-compute-timing-segments-within-5 c = search needs
+slice-aggregate-compute-timing-segments-5 :
+    tie.Need-slice-aggregate-compute-timing-segments-5
+slice-aggregate-compute-timing-segments-5 c = search needs
 
-slice-aggregate-compute-timing-segments-within-6 :
-    tie.Need-slice-aggregate-compute-timing-segments-within-6
-slice-aggregate-compute-timing-segments-within-6 c = search needs
+slice-aggregate-compute-timing-segments-6 :
+    tie.Need-slice-aggregate-compute-timing-segments-6
+slice-aggregate-compute-timing-segments-6 c = search needs
 
-slice-aggregate-compute-timing-segments-within-7 :
-    tie.Need-slice-aggregate-compute-timing-segments-within-7
-slice-aggregate-compute-timing-segments-within-7 c = search needs
+slice-aggregate-compute-timing-segments-7 :
+    tie.Need-slice-aggregate-compute-timing-segments-7
+slice-aggregate-compute-timing-segments-7 c = search needs
 
-slice-aggregate-compute-timing-segments-within-8 :
-    tie.Need-slice-aggregate-compute-timing-segments-within-8
-slice-aggregate-compute-timing-segments-within-8 c = search needs
+slice-aggregate-compute-timing-segments-8 :
+    tie.Need-slice-aggregate-compute-timing-segments-8
+slice-aggregate-compute-timing-segments-8 c = search needs
 
-slice-aggregate-compute-timing-segments-within-9 :
-    tie.Need-slice-aggregate-compute-timing-segments-within-9
-slice-aggregate-compute-timing-segments-within-9 c = search needs
+slice-aggregate-compute-timing-segments-9 :
+    tie.Need-slice-aggregate-compute-timing-segments-9
+slice-aggregate-compute-timing-segments-9 c = search needs
 
-slice-aggregate-compute-timing-segments-within-10 :
-    tie.Need-slice-aggregate-compute-timing-segments-within-10
-slice-aggregate-compute-timing-segments-within-10 c = search needs
+slice-aggregate-compute-timing-segments-10 :
+    tie.Need-slice-aggregate-compute-timing-segments-10
+slice-aggregate-compute-timing-segments-10 c = search needs
 
-slice-aggregate-compute-timing-segments-within-11 :
-    tie.Need-slice-aggregate-compute-timing-segments-within-11
-slice-aggregate-compute-timing-segments-within-11 c = search needs
+slice-aggregate-compute-timing-segments-11 :
+    tie.Need-slice-aggregate-compute-timing-segments-11
+slice-aggregate-compute-timing-segments-11 c = search needs
 
-slice-aggregate-compute-timing-segments-within-12 :
-    tie.Need-slice-aggregate-compute-timing-segments-within-12
-slice-aggregate-compute-timing-segments-within-12 c = search needs
+slice-aggregate-compute-timing-segments-12 :
+    tie.Need-slice-aggregate-compute-timing-segments-12
+slice-aggregate-compute-timing-segments-12 c = search needs
 
-slice-aggregate-compute-timing-segments-within-13 :
-    tie.Need-slice-aggregate-compute-timing-segments-within-13
-slice-aggregate-compute-timing-segments-within-13 c = search needs
+slice-aggregate-compute-timing-segments-13 :
+    tie.Need-slice-aggregate-compute-timing-segments-13
+slice-aggregate-compute-timing-segments-13 c = search needs
 
-slice-aggregate-compute-timing-segments-within-14 :
-    tie.Need-slice-aggregate-compute-timing-segments-within-14
-slice-aggregate-compute-timing-segments-within-14 c = search needs
+slice-aggregate-compute-timing-segments-14 :
+    tie.Need-slice-aggregate-compute-timing-segments-14
+slice-aggregate-compute-timing-segments-14 c = search needs
 
-slice-aggregate-compute-timing-segments-within-15 :
-    tie.Need-slice-aggregate-compute-timing-segments-within-15
-slice-aggregate-compute-timing-segments-within-15 c = search needs
+slice-aggregate-compute-timing-segments-15 :
+    tie.Need-slice-aggregate-compute-timing-segments-15
+slice-aggregate-compute-timing-segments-15 c = search needs
 
-slice-aggregate-compute-timing-segments-within-16 :
-    tie.Need-slice-aggregate-compute-timing-segments-within-16
-slice-aggregate-compute-timing-segments-within-16 c = search needs
+slice-aggregate-compute-timing-segments-16 :
+    tie.Need-slice-aggregate-compute-timing-segments-16
+slice-aggregate-compute-timing-segments-16 c = search needs
 
-compute-timing-segments-within-requires : tie.Need-compute-timing-segments-within-requires
-compute-timing-segments-within-requires c κs = search needs
+compute-timing-segments-requires : tie.Need-compute-timing-segments-requires
+compute-timing-segments-requires c κs = search needs
 
 slice-aggregate-write-answer : tie.Need-slice-aggregate-write-answer
 slice-aggregate-write-answer c = search needs
@@ -131,7 +131,7 @@ same-length c = c .before .before .write-answer .kept .0
 
 returns : tie.Need-returns
 returns c =
-    let made = c .before .before .before .before .before .before .before .before .before .before .before .before .before .before .before .before .before .before .before .before .before .before .before .before .before .before .before .before .before .before .before .before .before .before .before .before .compute-timing-segments-within .ensures in
+    let made = c .before .before .before .before .before .before .before .before .before .before .before .before .before .before .before .before .before .before .before .before .before .before .before .before .before .before .before .before .before .before .before .before .before .before .before .before .compute-timing-segments .ensures in
     let put = c .before .before .write-answer .ensures in
     let text = assembled-text _ _ _ _ _ _ _ _ _ _ _ _ _ _ _ _ _ (length-replicate {A = Float} 256 (ofBits binary32 0)) (length-replicate {A = ℕ} 256 0) (made .0) (made .1 .0) (made .1 .1 .0) (made .1 .1 .1 .0) (made .1 .1 .1 .1) in
     (wrote-as text (put .0), put .1)
@@ -140,23 +140,23 @@ pub write-assembled-spec : {M : Type 1} → statement M
 write-assembled-spec =
     tie.close
     (tie.spec
-    slice-aggregate-compute-timing-segments-within
-    slice-aggregate-compute-timing-segments-within-2
-    slice-aggregate-compute-timing-segments-within-3
-    slice-aggregate-compute-timing-segments-within-4
-    slice-aggregate-compute-timing-segments-within-5
-    slice-aggregate-compute-timing-segments-within-6
-    slice-aggregate-compute-timing-segments-within-7
-    slice-aggregate-compute-timing-segments-within-8
-    slice-aggregate-compute-timing-segments-within-9
-    slice-aggregate-compute-timing-segments-within-10
-    slice-aggregate-compute-timing-segments-within-11
-    slice-aggregate-compute-timing-segments-within-12
-    slice-aggregate-compute-timing-segments-within-13
-    slice-aggregate-compute-timing-segments-within-14
-    slice-aggregate-compute-timing-segments-within-15
-    slice-aggregate-compute-timing-segments-within-16
-    compute-timing-segments-within-requires
+    slice-aggregate-compute-timing-segments
+    slice-aggregate-compute-timing-segments-2
+    slice-aggregate-compute-timing-segments-3
+    slice-aggregate-compute-timing-segments-4
+    slice-aggregate-compute-timing-segments-5
+    slice-aggregate-compute-timing-segments-6
+    slice-aggregate-compute-timing-segments-7
+    slice-aggregate-compute-timing-segments-8
+    slice-aggregate-compute-timing-segments-9
+    slice-aggregate-compute-timing-segments-10
+    slice-aggregate-compute-timing-segments-11
+    slice-aggregate-compute-timing-segments-12
+    slice-aggregate-compute-timing-segments-13
+    slice-aggregate-compute-timing-segments-14
+    slice-aggregate-compute-timing-segments-15
+    slice-aggregate-compute-timing-segments-16
+    compute-timing-segments-requires
     slice-aggregate-write-answer
     slice-aggregate-write-answer-2
     slice-aggregate-write-answer-3
