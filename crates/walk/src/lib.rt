@@ -235,7 +235,7 @@ pub fn beats_between(from: i32, to: i32) -> f64
     ensures { λ r. ⌜ r ≡ beatOf binary64 (to -ℤ from) ⌝ }
 {
     let rows = (to as i64) - (from as i64);
-    (rows as f64) / (rows::ROWS_PER_BEAT as f64)
+    rows::forty_eighth(rows as f64)
 }
 
 // The first tempo, 60 where there is none.
