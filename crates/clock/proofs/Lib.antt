@@ -1,3 +1,4 @@
 pub mod FilledTempos
 pub mod SoonReply
 pub mod PlayerNumber
+pub mod NearTaken

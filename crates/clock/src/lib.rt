@@ -9,7 +9,8 @@ ghost use lib.Dec.{eqb};
 ghost use Rattle.picks.specs.Pick.{pick};
 ghost use lib.Ieee.{binary64};
 ghost use Rattle.timing_tests.specs.TimingNumbers.{beatNumber};
-ghost use Rattle.timing_tests.specs.CursorNumbers.{cursorNumber};
+ghost use Rattle.timing_tests.specs.CursorNumbers.{timeAndEndIn, cursorNumber};
+ghost use lib.IntN.{pos};
 ghost use lib.Signed.{ltZ};
 ghost use mathlib.Core.Bool.{true, false};
 ghost use Rattle.rows.specs.Rows.{row};
@@ -235,7 +236,31 @@ impl Cursor {
         answered(walked, row, global)
     }
 
-    // True only where the walk to a row goes on from here, past a tempo and over the tempos as they are, and nothing but tempos is due.
+    // True only where the cursor has passed a tempo of so many and its rows are from 0 on, and its numbers, but for its places in the other lists, are not refused.
+    fn is_past_tempo(self, tempos: usize) -> bool
+        ensures { λ r. ⌜ (r ≡ true → (ltZ (self .asked) (pos 0) ≡ false) × (ltZ (self .state .row) (pos 0) ≡ false) × (ltZ (pos 3145728) (self .state .row) ≡ false) × (eqb (self .state .tempos) 0 ≡ false) × (self .state .tempos ≤ tempos) × (timeAndEndIn (self .state .time) (self .state .end) ≡ true)) ⌝ }
+    {
+        if self.asked < 0 {
+            return false;
+        }
+        let state = self.state;
+        if state.row < 0 {
+            return false;
+        }
+        if 3145728 < state.row {
+            return false;
+        }
+        let place = state.tempos;
+        if place == 0 {
+            return false;
+        }
+        if tempos < place {
+            return false;
+        }
+        timing_tests::time_and_end_in(state.time, state.end)
+    }
+
+    // True only where the cursor is not refused, the walk to a row goes on from here, past a tempo and over the tempos as they are, and nothing but tempos is due.
     fn is_near(
         self,
         row: i32,
@@ -244,23 +269,19 @@ impl Cursor {
         delay_beats: &[f32],
         warp_beats: &[f32],
     ) -> bool
-        ensures { λ r. ⌜ (r ≡ true → (ltZ row (self .asked) ≡ false) × (eqb (length (now («tempo_beats» .entry))) 0 ≡ false) × (eqb (self .state .tempos) 0 ≡ false) × (onlyTempos (now («stop_beats» .entry)) (now («delay_beats» .entry)) (now («warp_beats» .entry)) (self .state) row ≡ true)) ⌝ }
+        ensures { λ r. ⌜ (r ≡ true → (ltZ row (self .asked) ≡ false) × (eqb (length (now («tempo_beats» .entry))) 0 ≡ false) × (eqb (self .state .tempos) 0 ≡ false) × (onlyTempos (now («stop_beats» .entry)) (now («delay_beats» .entry)) (now («warp_beats» .entry)) (self .state) row ≡ true) × (cursorNumber (pick (eqb (length (now («tempo_beats» .entry))) 0) 1 (length (now («tempo_beats» .entry)))) (length (now («stop_beats» .entry))) (length (now («delay_beats» .entry))) (length (now («warp_beats» .entry))) (self .state) (self .asked) ≡ 0)) ⌝ }
     {
         if row < self.asked {
             return false;
         }
-        if tempo_beats.len() == 0 {
-            return false;
-        }
         let state = self.state;
-        let place = state.tempos;
-        if place == 0 {
-            return false;
+        if self.is_past_tempo(tempo_beats.len()) {
+            return walk::is_only_tempos(state, row, stop_beats, delay_beats, warp_beats);
         }
-        walk::is_only_tempos(state, row, stop_beats, delay_beats, warp_beats)
+        false
     }
 
-    // The walk to a row, whole only where it goes on from here and passes no event or one tempo.
+    // The walk to a row, whole only where the cursor is not refused and it goes on from here and passes no event or one tempo.
     fn soon(
         self,
         row: i32,
@@ -273,7 +294,7 @@ impl Cursor {
         warp_beats: &[f32],
         warp_lengths: &[f32],
     ) -> Soon
-        ensures { λ r. ⌜ (r .whole ≡ true → (r .passed ≤ 1) × (ltZ row (self .asked) ≡ false) × (eqb (length (now («tempo_beats» .entry))) 0 ≡ false) × (walk (timing (now («tempo_beats» .entry)) (now («tempo_values» .entry)) (now («stop_beats» .entry)) (now («stop_values» .entry)) (now («delay_beats» .entry)) (now («delay_values» .entry)) (now («warp_beats» .entry)) (now («warp_lengths» .entry))) row (self .state) ≡ walkedSoon (now («tempo_values» .entry)) row r)) ⌝ }
+        ensures { λ r. ⌜ (r .whole ≡ true → (r .passed ≤ 1) × (ltZ row (self .asked) ≡ false) × (eqb (length (now («tempo_beats» .entry))) 0 ≡ false) × (walk (timing (now («tempo_beats» .entry)) (now («tempo_values» .entry)) (now («stop_beats» .entry)) (now («stop_values» .entry)) (now («delay_beats» .entry)) (now («delay_values» .entry)) (now («warp_beats» .entry)) (now («warp_lengths» .entry))) row (self .state) ≡ walkedSoon (now («tempo_values» .entry)) row r) × (cursorNumber (pick (eqb (length (now («tempo_beats» .entry))) 0) 1 (length (now («tempo_beats» .entry)))) (length (now («stop_beats» .entry))) (length (now («delay_beats» .entry))) (length (now («warp_beats» .entry))) (self .state) (self .asked) ≡ 0)) ⌝ }
     {
         let state = self.state;
         if self.is_near(row, tempo_beats, stop_beats, delay_beats, warp_beats) {
@@ -378,10 +399,6 @@ impl Cursor {
         if asked != 0 {
             return refused(asked, self);
         }
-        let lent = self.refusal(tempo_beats, stop_beats, delay_beats, warp_beats);
-        if lent != 0 {
-            return refused(lent, self);
-        }
         let row = row_of_taken(beat);
         let soon = self.soon(
             row,
@@ -396,6 +413,10 @@ impl Cursor {
         );
         if soon.whole {
             return answered_soon(soon, row, tempo_values, global);
+        }
+        let lent = self.refusal(tempo_beats, stop_beats, delay_beats, warp_beats);
+        if lent != 0 {
+            return refused(lent, self);
         }
         self.reply(
             tempo_beats,

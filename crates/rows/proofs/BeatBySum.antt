@@ -1,4 +1,4 @@
--- A row times two parts of a 48th, added, is the row's f64 beat. The larger part has 21 digits, so the row times it is exact; the other is off by one part in 2 ^ 53, and so is the row times it: the sum is far closer to the 48th than it has to be. Assumes nothing.
+-- A whole number up to 2 ^ 32 in size times two parts of a 48th, added, is its 48th, rounded: the f64 beat of a row, and of so many rows between two. The larger part has 21 digits, so the number times it is exact; the other is off by one part in 2 ^ 53, and so is the number times it: the sum is far closer to the 48th than it has to be. Assumes nothing.
 use mathlib.Core.Path.{_≡_, refl, sym, ap, _∙_, subst}
 use mathlib.Core.Bool.{Bool, false}
 use Prim.Native.Nat.{ℕ, zero, suc, _+_, _-_, _*_, _^_, _≤_, _<_}
@@ -16,7 +16,7 @@ use Rattle.ieee.proofs.RoundedSize.{Near, grid-fine, grid-ge, grid-near}
 use Rattle.ieee.proofs.SignedSizes.{negative}
 use Rattle.ieee.proofs.Units.{round-units}
 use Rattle.rows.specs.Rows.{beatOf}
-use Rattle.rows.specs.Marks.{larger, smaller}
+use Rattle.rows.specs.Marks.{larger, smaller, fortyEighth}
 use Rattle.rows.proofs.RowValue.{unlike-positive, beat-rounded}
 use Rattle.rows.proofs.FortyEighths.{Close, close-round}
 
@@ -51,7 +51,7 @@ sum-reaches n unit rest power l g =
     let k : power * 2 ^ 22 * 2 ^ 26 ≤ n * 1398101 * unit + rest * 2 ^ 26 = omega arith in
     le-trans (le-of-eq (sym (mul-assoc (power * 2 ^ 22) (2 ^ 26) unit))) (mul-le-mul-right unit k)
 
-module _ (n : ℕ) (N : 0 < n) (h : n ≤ 2147483648) where
+module _ (n : ℕ) (N : 0 < n) (h : n ≤ 2 ^ 32) where
   -- n times the smaller part, rounded, in smallest units
   abbrev rest : ℕ
   rest = grid binary64 (n * 3002399751580331) (2 ^ 79)
@@ -87,9 +87,10 @@ module _ (n : ℕ) (N : 0 < n) (h : n ≤ 2147483648) where
       (sym (mul-assoc (n * 1398101) (2 ^ 1048) (2 ^ 26)))
 
   smaller-product : (s : Bool) → HasValue (round binary64 s (n * 3002399751580331) (2 ^ 79)) s rest (2 ^ 1074)
-  smaller-product s = round-units binary64 s (n * 3002399751580331) (2 ^ 79) (grid-fine binary64 (n * 3002399751580331) (2 ^ 79) 16 (pow-pos 79) (lit< tt) (omega arith))
+  smaller-product s = round-units binary64 s (n * 3002399751580331) (2 ^ 79) (grid-fine binary64 (n * 3002399751580331) (2 ^ 79) 32 (pow-pos 79) (lit< tt) (omega arith))
 
-  sum-rounded : (x : Float) (s : Bool) → HasValue x s n 1 → add binary64 (mul binary64 x larger) (mul binary64 x smaller) ≡ round binary64 s n 48
+  sum-rounded : (x : Float) (s : Bool) → HasValue x s n 1 → fortyEighth x ≡ round binary64 s n 48
+  unfolding fortyEighth
   sum-rounded x s v =
       add-value binary64 (mul binary64 x larger) (mul binary64 x smaller) s (n * 1398101) (2 ^ 26) rest (2 ^ 1074) (pow-pos 26) (pow-pos 1074)
       (subst (λ (y : Float). HasValue y s (n * 1398101) (2 ^ 26)) (sym (product larger 1398101 (2 ^ 26) (pow-pos 26) (refl, refl))) (larger-product s))
@@ -102,11 +103,16 @@ module _ (n : ℕ) (N : 0 < n) (h : n ≤ 2147483648) where
           ∙ ap (λ (t : Bool). round binary64 t (n * b) (1 * d)) (unlike-positive s)
           ∙ ap (λ (z : ℕ). round binary64 s (n * b) z) (one-mul d)
 
-above-zero : (r : ℤ) → 0 < natAbs r → natAbs r ≤ 2147483648 → add binary64 (mul binary64 (ofInt binary64 r) larger) (mul binary64 (ofInt binary64 r) smaller) ≡ beatOf binary64 r
+above-zero : (r : ℤ) → 0 < natAbs r → natAbs r ≤ 2 ^ 32 → fortyEighth (ofInt binary64 r) ≡ beatOf binary64 r
 above-zero r R h = sum-rounded (natAbs r) R h (ofInt binary64 r) (negative r) (whole-value binary64 r (omega arith)) ∙ sym (beat-rounded binary64 r (omega arith))
 
-pub beat-by-sum : (r : ℤ) → mag r < 2 ^ 31 → add binary64 (mul binary64 (ofInt binary64 r) larger) (mul binary64 (ofInt binary64 r) smaller) ≡ beatOf binary64 r
-unfolding add mul div ofInt
+pub beat-by-sum : (r : ℤ) → natAbs r ≤ 2 ^ 32 → fortyEighth (ofInt binary64 r) ≡ beatOf binary64 r
+unfolding fortyEighth add mul div ofInt
 beat-by-sum (pos zero) h = refl
-beat-by-sum (pos (suc n)) h = above-zero (pos (suc n)) (zero-lt-suc n) (omega arith)
+beat-by-sum (pos (suc n)) h = above-zero (pos (suc n)) (zero-lt-suc n) h
 beat-by-sum (negsuc n) h = above-zero (negsuc n) (zero-lt-suc n) h
+
+-- so of every i32
+pub i32-by-sum : (r : ℤ) → mag r < 2 ^ 31 → fortyEighth (ofInt binary64 r) ≡ beatOf binary64 r
+i32-by-sum (pos n) h = beat-by-sum (pos n) (omega arith)
+i32-by-sum (negsuc n) h = beat-by-sum (negsuc n) (omega arith)

@@ -17,6 +17,10 @@ larger = fin false 1398101 (negsuc 25)
 abbrev pub smaller : Float
 smaller = fin false 3002399751580331 (negsuc 78)
 
+-- both parts of a 48th, added
+unfoldable pub fortyEighth : Float → Float
+fortyEighth x = add binary64 (mul binary64 x larger) (mul binary64 x smaller)
+
 -- the beat of the row that a mark stands for
 unfoldable pub beatOfMark : Float → Float
-beatOfMark mark = add binary64 (mul binary64 (sub binary64 mark markOfZero) larger) (mul binary64 (sub binary64 mark markOfZero) smaller)
+beatOfMark mark = fortyEighth (sub binary64 mark markOfZero)

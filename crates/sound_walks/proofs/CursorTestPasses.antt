@@ -1,10 +1,9 @@
 -- The cursor test refuses nothing of a state that is fine. Assumes nothing.
 use Prim.Native.Nat.{ℕ}
 use mathlib.Core.Bool.{true}
-use mathlib.Core.Path.{_≡_, refl}
-use borrow.Author.Tests.{le-leb}
+use mathlib.Core.Path.{_≡_}
 use lib.ListN.{length}
-use lib.IntN.{ℤ, natAbs}
+use lib.IntN.{ℤ}
 use lib.Signed.{leZ}
 use lib.Ieee.Bits.{is-true}
 use lib.Ieee.Scale.{finite}
@@ -13,22 +12,15 @@ use Rattle.ieee.proofs.SizesAddUp.{at-most-finite}
 use Rattle.limits.specs.Numbers.{rowIn}
 use Rattle.walk.specs.Events.{Timing}
 use Rattle.walk.specs.declared.State.{State}
-use Rattle.timing_tests.specs.CursorNumbers.{freshMark, placesIn, rowsIn, cursorNumber}
+use Rattle.timing_tests.specs.CursorNumbers.{freshMark, timeAndEndIn, cursorNumber}
+use Rattle.timing_tests.proofs.CursorTaken.{cursor-taken}
 use Rattle.sound_walks.proofs.WarpEnds.{end-in}
 use Rattle.sound_walks.proofs.EachEventKeeps.{Fine}
 
 pub fine-passes : (t : Timing) (s : State) (n : ℕ) (asked : ℤ) → Fine t s n → pick (rowIn asked) true (leZ asked freshMark) ≡ true
     → cursorNumber (length (t .tempoBeats)) (length (t .stopBeats)) (length (t .delayBeats)) (length (t .warpBeats)) s asked ≡ 0
-unfolding cursorNumber placesIn rowsIn rowIn
+unfolding timeAndEndIn
 fine-passes t s n asked f mark =
     let p = f .places in
-    rw (
-      le-leb (s .tempos) (length (t .tempoBeats)) (p .tempos),
-      le-leb (s .stops) (length (t .stopBeats)) (p .stops),
-      le-leb (s .delays) (length (t .delayBeats)) (p .delays),
-      le-leb (s .warps) (length (t .warpBeats)) (p .warps),
-      le-leb (natAbs (s .row)) 3145728 (f .near),
-      mark,
-      is-true (finite (s .time)) (at-most-finite (f .time)),
-      end-in (s .end) (f .end),
-    ) refl
+    cursor-taken (length (t .tempoBeats)) (length (t .stopBeats)) (length (t .delayBeats)) (length (t .warpBeats)) s asked (p .tempos) (p .stops) (p .delays) (p .warps) (f .near) mark
+    (rw (is-true (finite (s .time)) (at-most-finite (f .time))) (end-in (s .end) (f .end)))

@@ -9,7 +9,7 @@ use borrow.Author.Tests.{lt-ltb, le-ltb}
 use lib.Dec.{T, ltb}
 use lib.IntN.{ℤ}
 use lib.Signed.{mag}
-use lib.Ieee.{Float, binary64, lt, add, mul, sub, ofInt}
+use lib.Ieee.{Float, binary64, lt, ofInt}
 use lib.Ieee.Exact.{HasValue}
 use Rattle.ieee.specs.Rounding.{rint, hold}
 use Rattle.ieee.proofs.Held.{held-within}
@@ -17,8 +17,8 @@ use Rattle.ieee.proofs.SumByValue.{lt-values}
 use Rattle.ieee.proofs.RintBySum.{within-small, summed}
 use Rattle.ieee.proofs.WholeByBias.{whole-by-bias}
 use Rattle.rows.specs.Rows.{allowedBeat, row, beatOf}
-use Rattle.rows.specs.Marks.{rowMark, beatOfMark, larger, smaller}
-use Rattle.rows.proofs.BeatBySum.{beat-by-sum}
+use Rattle.rows.specs.Marks.{rowMark, fortyEighth, beatOfMark}
+use Rattle.rows.proofs.BeatBySum.{i32-by-sum}
 use Rattle.order.proofs.Compare.{below?}
 use Rattle.tidy_rows.specs.RowTidying.{rowKeyAt, onRow}
 use Rattle.rows.proofs.RowBySum.{product, product-within}
@@ -38,8 +38,8 @@ module _ (beat : Float) (h : T (allowedBeat beat)) where
   mark-beat =
       let small = within-small (product beat) (product-within beat h) in
       let held : hold (rint (product beat)) ≡ rint (product beat) = held-within (rint (product beat)) small in
-      ap (λ (w : Float). add binary64 (mul binary64 w larger) (mul binary64 w smaller)) (whole-by-bias (product beat) (product-within beat h) ∙ ap (ofInt binary64) (sym held))
-      ∙ beat-by-sum (row binary64 beat) (subst (λ (z : ℤ). mag z < 2 ^ 31) (sym held) small)
+      ap fortyEighth (whole-by-bias (product beat) (product-within beat h) ∙ ap (ofInt binary64) (sym held))
+      ∙ i32-by-sum (row binary64 beat) (subst (λ (z : ℤ). mag z < 2 ^ 31) (sym held) small)
 
 moved : (k a b : ℕ) → ltb (k + a) (k + b) ≡ ltb a b
 moved k a b = ⊎-elim (λ l. lt-ltb (k + a) (k + b) (omega arith) ∙ sym (lt-ltb a b l)) (λ l. le-ltb (k + a) (k + b) (omega arith) ∙ sym (le-ltb a b l)) (below? a b)

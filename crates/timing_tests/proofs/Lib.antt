@@ -1,2 +1,3 @@
 pub mod RowByRow
 pub mod TimingTaken
+pub mod CursorTaken

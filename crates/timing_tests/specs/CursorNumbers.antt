@@ -27,6 +27,10 @@ rowsIn last asked = pick (rowIn last) (pick (rowIn asked) true (leZ asked freshM
 unfoldable pub endIn : Float → Bool
 endIn end = pick (le (fin false 0 (pos 0)) end) (le end (fin false 1 (pos 31))) false
 
+-- the time is finite, and the warp's end there
+unfoldable pub timeAndEndIn : Float → Float → Bool
+timeAndEndIn time end = pick (finite time) (endIn end) false
+
 -- 9 for a cursor that no question left behind
 unfoldable pub cursorNumber : (tempos stops delays warps : ℕ) → State → ℤ → ℕ
 cursorNumber tempos stops delays warps s asked =

@@ -7,7 +7,7 @@ ghost use lib.Ieee.Scale.{finite};
 ghost use Rattle.rows.specs.Rows.{row};
 ghost use Rattle.walk.specs.Events.{timing};
 ghost use Rattle.timing_tests.specs.TimingNumbers.{rises, startsAtZero, listsNumber, offsetNumber, offsetsNumber, orderNumber, timingNumber, beatNumber};
-ghost use Rattle.timing_tests.specs.CursorNumbers.{placesIn, rowsIn, endIn, cursorNumber};
+ghost use Rattle.timing_tests.specs.CursorNumbers.{placesIn, rowsIn, endIn, timeAndEndIn, cursorNumber};
 
 // ---- the timing
 
@@ -219,6 +219,16 @@ fn end_in(end: f64) -> bool
     false
 }
 
+// Whether a cursor's time is finite and its warp's end from 0 to 2^31.
+pub fn time_and_end_in(time: f64, end: f64) -> bool
+    ensures { λ r. ⌜ r ≡ timeAndEndIn time end ⌝ }
+{
+    if is_finite(time) {
+        return end_in(end);
+    }
+    false
+}
+
 // 9 for a cursor that no question over lists of these lengths left behind, in a time that does not grow with the lists.
 pub fn cursor_number(
     tempos: usize,
@@ -236,10 +246,7 @@ pub fn cursor_number(
     if !rows_in(state.row, asked) {
         return limits::BAD_CURSOR;
     }
-    if !is_finite(state.time) {
-        return limits::BAD_CURSOR;
-    }
-    if !end_in(state.end) {
+    if !time_and_end_in(state.time, state.end) {
         return limits::BAD_CURSOR;
     }
     limits::TAKEN

@@ -22,15 +22,15 @@ tested a b f g t h = rw (toZ-ofZ w32 a f, toZ-ofZ w32 b g) at h
 pub test-is : (a x y : ℤ) (found : Bool) → SFits w32 a → SFits w32 x → ltZ (toZ w32 (ofZ w32 a)) (toZ w32 (ofZ w32 x)) ≡ found → x ≡ y → ltZ a y ≡ found
 test-is a x y found f g h e = rw e at (tested a x f g found h)
 
--- ---- two rows are less than 2 ^ 33 apart
+-- ---- two rows are at most 2 ^ 32 apart
 sizes : (z : ℤ) → (mag z ≤ natAbs z) × (natAbs z ≤ mag z + 1)
 sizes (pos n) = (omega arith, omega arith)
 sizes (negsuc n) = (omega arith, omega arith)
 
-less-apart : (a b : ℤ) → mag a < 2 ^ 31 → mag b < 2 ^ 31 → mag (a -ℤ b) < 2 ^ 33
-less-apart a b p q = omega (arith, apart a b, sizes (a -ℤ b) .0, sizes a .1, sizes b .1)
+less-apart : (a b : ℤ) → mag a < 2 ^ 31 → mag b < 2 ^ 31 → natAbs (a -ℤ b) ≤ 2 ^ 32
+less-apart a b p q = omega (arith, apart a b, sizes a .1, sizes b .1)
 
-in-float : (z : ℤ) → mag z < 2 ^ 33 → T (inFloat binary64 z)
+in-float : (z : ℤ) → natAbs z ≤ 2 ^ 32 → T (inFloat binary64 z)
 unfolding inFloat
 in-float (pos n) h = le→leb n (2 ^ 53) (omega arith)
 in-float (negsuc n) h = lt→ltb n (2 ^ 53) (omega arith)
@@ -49,8 +49,11 @@ module _ (a b : ℤ) (f : SFits w32 a) (g : SFits w32 b) where
   plain : toZ w64 (ofZ w64 (toZ w32 (ofZ w32 a))) -ℤ toZ w64 (ofZ w64 (toZ w32 (ofZ w32 b))) ≡ a -ℤ b
   plain = rw (widened a b f g, widened b a g f)
 
+  pub distance : natAbs (a -ℤ b) ≤ 2 ^ 32
+  distance = less-apart a b (f .sfits) (g .sfits)
+
   far : SFits w64 (a -ℤ b)
-  far = let l = less-apart a b (f .sfits) (g .sfits) in record { sfits = omega arith }
+  far = let l = distance in let m = sizes (a -ℤ b) .0 in record { sfits = omega arith }
 
   pub difference-fits : SFits w64 (toZ w64 (ofZ w64 (toZ w32 (ofZ w32 a))) -ℤ toZ w64 (ofZ w64 (toZ w32 (ofZ w32 b))))
   difference-fits = subst (SFits w64) (sym plain) far
@@ -59,4 +62,4 @@ module _ (a b : ℤ) (f : SFits w32 a) (g : SFits w32 b) where
   difference = ap (λ (z : ℤ). toZ w64 (ofZ w64 z)) plain ∙ toZ-ofZ w64 (a -ℤ b) far
 
   pub difference-casts : T (inFloat binary64 (toZ w64 (ofZ w64 (toZ w64 (ofZ w64 (toZ w32 (ofZ w32 a))) -ℤ toZ w64 (ofZ w64 (toZ w32 (ofZ w32 b)))))))
-  difference-casts = subst (λ (z : ℤ). T (inFloat binary64 z)) (sym difference) (in-float (a -ℤ b) (less-apart a b (f .sfits) (g .sfits)))
+  difference-casts = subst (λ (z : ℤ). T (inFloat binary64 z)) (sym difference) (in-float (a -ℤ b) distance)

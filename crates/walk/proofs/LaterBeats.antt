@@ -6,7 +6,7 @@ use mathlib.Core.Path.{_≡_, refl, sym, ap, _∙_, subst}
 use mathlib.Core.List.{List}
 use native.Mathlib.Omega.{arith}
 use borrow.Author.Tests.{ltb-false, lt-ltb}
-use lib.Dec.{T, ltb, leb, leb→le}
+use lib.Dec.{T, ltb, leb, eqb, leb→le}
 use lib.IntN.{ℤ, pos, negsuc, natAbs, _+ℤ_}
 use lib.Signed.{ltZ, leZ}
 use lib.ListN.{length, getD}
@@ -105,7 +105,7 @@ module _ (n : ℕ) (small : n ≤ 3145727) where
       inside true false e f h = no h
       inside false b e f h = no h
 
-      go : (x : Bool) → pick x (pick (le at (fin false 1 (pos 16))) (le (beatOf binary64 (pos n +ℤ pos 1)) at) false) true ≡ true → ltZ (pos n) (pick x (row binary64 at) farthest) ≡ true
+      go : (x : Bool) → pick x (pick (le at (fin false 1 (pos 16))) (le (beatOf binary64 (pos n +ℤ pos 1)) at) false) (eqb place (length beats)) ≡ true → ltZ (pos n) (pick x (row binary64 at) farthest) ≡ true
       go true h = inside (le at (fin false 1 (pos 16))) (le (beatOf binary64 (pos n +ℤ pos 1)) at) refl refl h
       go false h = lt-ltb n 2147483647 (omega arith)
 

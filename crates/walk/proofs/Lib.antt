@@ -14,4 +14,5 @@ pub mod TimeOfTheEnd
 pub mod QuietRows
 pub mod HeadsAhead
 pub mod LaterBeats
+pub mod PlacesWithin
 pub mod OneTempo

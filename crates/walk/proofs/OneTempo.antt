@@ -6,15 +6,15 @@ use native.Mathlib.Omega.{arith}
 use borrow.Author.Tests.{lt-ltb, ltb-false}
 use mathlib.Core.List.{List}
 use lib.Dec.{ltb, eqb}
-use lib.IntN.{ℤ, pos, negsuc, _+ℤ_}
+use lib.IntN.{ℤ, pos, negsuc}
 use lib.Signed.{ltZ}
 use lib.ListN.{length, getD}
 use lib.Ieee.{Float, nan, binary64, add}
 use Rattle.picks.specs.Pick.{pick}
-use Rattle.rows.specs.Rows.{row, beatOf}
+use Rattle.rows.specs.Rows.{row}
 use Rattle.walk.specs.Events.{Timing, next}
 use Rattle.walk.specs.Passing.{noTime, earlyTempo, timeTo, passed, step, afterTempo}
-use Rattle.walk.specs.Quiet.{farthest, rowAt, endRow, notBefore, isLater, isNextLater, onlyTempos}
+use Rattle.walk.specs.Quiet.{farthest, rowAt, endRow, isLater, isNextLater, onlyTempos}
 use Rattle.walk.specs.Heads.{headsOf}
 use Rattle.walk.specs.Soon.{tempoPassed, soonOf, walkedSoon}
 use Rattle.walk.specs.Walk.{timeAt, due, isEvent, walkOn, walk}
@@ -26,6 +26,7 @@ use Rattle.walk.proofs.EventByEvent.{walk-on, walk-end}
 use Rattle.walk.proofs.HeadsAhead.{next-by-heads, tempo-next}
 use Rattle.walk.proofs.QuietRows.{none-before, quiet-end}
 use Rattle.walk.proofs.LaterBeats.{later-entry, later-row}
+use Rattle.walk.proofs.PlacesWithin.{each-test}
 use Rattle.walk.proofs.RowOrder.{no, le-lt, lt-not-self}
 
 -- a row that is not the greatest i32 is that of an entry
@@ -105,27 +106,17 @@ module _ (t : Timing) (r : ℤ) (s : State) where
         ∙ walk-end noTime t r s′ 1 (ap (λ (n : Next). isEvent (n .kind)) asked)
         ∙ rw asked
 
-all-but-two : (a b c d e f : Bool) → pick a false (pick b false (pick c (pick d (pick e f false) false) false)) ≡ true → (b ≡ false) × (c ≡ true) × (d ≡ true) × (e ≡ true) × (f ≡ true)
-all-but-two false false true true true f h = (refl, refl, refl, refl, h)
-all-but-two false false true true false f h = no h
-all-but-two false false true false e f h = no h
-all-but-two false false false d e f h = no h
-all-but-two false true c d e f h = no h
-all-but-two true b c d e f h = no h
-
 pub only-tempos : (t : Timing) (r : ℤ) (s : State) → onlyTempos (t .stopBeats) (t .delayBeats) (t .warpBeats) s r ≡ true → Others t r s
-unfolding onlyTempos
-only-tempos t (negsuc n) s only = no only
+only-tempos t (negsuc n) s only = no (sym (each-test (t .stopBeats) (t .delayBeats) (t .warpBeats) s (negsuc n) only .notBelow))
 only-tempos t (pos n) s only =
-    let after = beatOf binary64 (pos n +ℤ pos 1) in
-    let are = all-but-two (ltZ (pos n) (pos 0)) (ltZ (pos 3145727) (pos n)) (ltZ (pos n) (endRow (s .warping) (s .end))) (notBefore (t .stopBeats) (s .stops) after) (notBefore (t .delayBeats) (s .delays) after) (notBefore (t .warpBeats) (s .warps) after) only in
-    let small : n ≤ 3145727 = ltb-false 3145727 n (are .0) in
+    let are = each-test (t .stopBeats) (t .delayBeats) (t .warpBeats) s (pos n) only in
+    let small : n ≤ 3145727 = ltb-false 3145727 n (are .notAbove) in
     record {
       ofAll = lt-ltb n 2147483647 (omega arith);
-      ofEnd = are .1;
-      ofDelay = later-entry n small (t .delayBeats) (s .delays) (are .3);
-      ofStop = later-entry n small (t .stopBeats) (s .stops) (are .2);
-      ofWarp = later-entry n small (t .warpBeats) (s .warps) (are .4);
+      ofEnd = are .beforeEnd;
+      ofDelay = later-entry n small (t .delayBeats) (s .delays) (are .delay);
+      ofStop = later-entry n small (t .stopBeats) (s .stops) (are .stop);
+      ofWarp = later-entry n small (t .warpBeats) (s .warps) (are .warp);
     }
 
 module _ (t : Timing) (r : ℤ) (s : State) where

@@ -1,8 +1,8 @@
 -- The row of the next entry of a list and of a warp's end, and whether nothing but tempos is due by a row. Definitions only.
 use Prim.Native.Nat.{ℕ, _+_}
-use mathlib.Core.Bool.{Bool, true, false}
+use mathlib.Core.Bool.{Bool, false}
 use mathlib.Core.List.{List}
-use lib.Dec.{ltb}
+use lib.Dec.{ltb, eqb}
 use lib.IntN.{ℤ, pos, _+ℤ_}
 use lib.Signed.{ltZ}
 use lib.ListN.{length, getD}
@@ -21,14 +21,14 @@ rowAt beats place = pick (ltb place (length beats)) (row binary64 (getD beats pl
 unfoldable pub endRow : Bool → Float → ℤ
 endRow warping end = pick warping (row binary64 end) farthest
 
--- no entry is at a place, or one that is not before a beat and not above the limit
+-- the entry at a place is not before a beat and not above the limit, or the list ends there
 unfoldable pub notBefore : List Float → ℕ → Float → Bool
 notBefore beats place beat =
     pick (ltb place (length beats))
     (pick (le (getD beats place nan) (fin false 1 (pos 16))) (le beat (getD beats place nan)) false)
-    true
+    (eqb place (length beats))
 
--- of an allowed row from 0 on: no entry is at a place, or one that is not before the beat of the row after it
+-- of an allowed row from 0 on: the entry at a place is not before the beat of the row after it, or the list ends there
 unfoldable pub isLater : List Float → ℕ → ℤ → Bool
 isLater beats place asked =
     pick (ltZ asked (pos 0)) false (pick (ltZ (pos 3145727) asked) false (notBefore beats place (beatOf binary64 (asked +ℤ pos 1))))
@@ -37,8 +37,8 @@ isLater beats place asked =
 unfoldable pub isNextLater : List Float → ℕ → ℤ → Bool
 isNextLater beats place asked = pick (ltb place (length beats)) (isLater beats (place + 1) asked) false
 
--- An allowed row from 0 on, by which nothing but tempos is due: it is before the warp's end, and the next entry of each other list is not before the beat of
--- the row after it.
+-- An allowed row from 0 on, by which nothing but tempos is due: it is before the warp's end, and the next entry of each other list, if the list does not end
+-- there, is not before the beat of the row after it.
 unfoldable pub onlyTempos : (stopBeats delayBeats warpBeats : List Float) → State → ℤ → Bool
 onlyTempos stopBeats delayBeats warpBeats s asked =
     pick (ltZ asked (pos 0)) false

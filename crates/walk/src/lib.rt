@@ -235,7 +235,7 @@ pub fn beats_between(from: i32, to: i32) -> f64
     ensures { λ r. ⌜ r ≡ beatOf binary64 (to -ℤ from) ⌝ }
 {
     let rows = (to as i64) - (from as i64);
-    (rows as f64) / (rows::ROWS_PER_BEAT as f64)
+    rows::forty_eighth(rows as f64)
 }
 
 // The first tempo, 60 where there is none.
@@ -496,7 +496,7 @@ fn time_at(state: State, next: Next, early: f64, tempo_values: &[f32]) -> f64
 
 // ---- walks that pass nothing, or one tempo
 
-// True only where the entry at a place, if there is one, is on a later row. Of rows that are allowed and from 0 on: the entry is held against the beat of
+// True only where the entry at a place is on a later row, or the list ends there. Of rows that are allowed and from 0 on: the entry is held against the beat of
 // the row after it, which is quicker than the entry's row, and may say no of that row itself.
 fn is_later(beats: &[f32], place: usize, asked: i32) -> bool
     ensures { λ r. ⌜ r ≡ isLater (now (beats .entry)) place asked ⌝ }
@@ -511,7 +511,8 @@ fn is_later(beats: &[f32], place: usize, asked: i32) -> bool
     not_before(beats, place, beat)
 }
 
-// True where no entry is at the place, or one that is not before the beat and not above the limit, so that it is allowed where the beat is.
+// True where the entry at the place is not before the beat and not above the limit, so that it is allowed where the beat is, and at the end of the list. So a
+// yes also says that the place is within the list.
 fn not_before(beats: &[f32], place: usize, beat: f64) -> bool
     ensures { λ r. ⌜ r ≡ notBefore (now (beats .entry)) place beat ⌝ }
 {
@@ -522,7 +523,7 @@ fn not_before(beats: &[f32], place: usize, beat: f64) -> bool
         }
         return false;
     }
-    true
+    place == beats.len()
 }
 
 // Whether an entry is at a place, and the one after it is later.
@@ -535,7 +536,8 @@ fn is_next_later(beats: &[f32], place: usize, asked: i32) -> bool
     false
 }
 
-// Whether by the row no event but a tempo is due, each list held against it in the same way, the row tested once for all.
+// Whether by the row no event but a tempo is due, each list held against it in the same way, the row tested once for all; a yes says too that the places in
+// these lists are within them.
 pub fn is_only_tempos(
     state: State,
     asked: i32,

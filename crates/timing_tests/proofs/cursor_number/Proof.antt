@@ -4,8 +4,10 @@ use mir.Val.{toZ, ofZ}
 use Rattle.walk.proofs.BackFromBits.{back}
 use borrow.Author.Tests.{not-true, not-false}
 use mathlib.Core.Path.{_≡_, sym, ap, _∙_}
+use mathlib.Core.Bool.{true, false}
 use lib.IntN.{ℤ}
 use Rattle.timing_tests.specs.CursorNumbers.{rowsIn, cursorNumber}
+use Rattle.timing_tests.proofs.CursorTaken.{together}
 use borrow.Author.Needs.{needs}
 use Rattle.timing_tests.proofs.cursor_number.Statement.{statement}
 use Rattle.timing_tests.proofs.cursor_number.Tie as tie
@@ -33,8 +35,8 @@ returns-2 c =
       sym (rows) ∙ not-true (c .before .rows-in .result) (c .if2 .taken),
     )
 
-is-finite-requires : tie.Need-is-finite-requires
-is-finite-requires c κs = search needs
+time-and-end-in-requires : tie.Need-time-and-end-in-requires
+time-and-end-in-requires c κs = search needs
 
 returns-3 : tie.Need-returns-3
 unfolding cursorNumber
@@ -46,39 +48,19 @@ returns-3 c =
     rw (
       sym (c .before .before .before .before .before .before .places-in .ensures) ∙ not-false (c .before .before .before .before .before .before .places-in .result) (c .before .before .before .before .before .if1 .left),
       sym (rows) ∙ not-false (c .before .before .before .rows-in .result) (c .before .before .if2 .left),
-      sym (c .before .is-finite .ensures) ∙ not-true (c .before .is-finite .result) (c .if3 .taken),
-    )
-
-end-in-requires : tie.Need-end-in-requires
-end-in-requires c κs = search needs
+    ) (together (s .args .state .time) (s .args .state .end) false (sym (not-true (c .before .time-and-end-in .result) (c .if3 .taken)) ∙ c .before .time-and-end-in .ensures))
 
 returns-4 : tie.Need-returns-4
 unfolding cursorNumber
 returns-4 c =
-    let s = c .before .before .before .before .before .before .before .before .before in
-    let last = back (s .args .state .row) (record { sfits = c .before .before .before .before .before .before .struct-told .given .1 .1 .1 .1 .0 .1 }) in
+    let s = c .before .before .before .before .before .before .before in
+    let last = back (s .args .state .row) (record { sfits = c .before .before .before .before .struct-told .given .1 .1 .1 .1 .0 .1 }) in
     let asked = back (s .args .asked) (s .fits .asked) in
-    let rows : c .before .before .before .before .before .rows-in .result ≡ rowsIn (s .args .state .row) (s .args .asked) = c .before .before .before .before .before .rows-in .ensures ∙ ap (λ (z : ℤ). rowsIn z (toZ w32 (ofZ w32 (s .args .asked)))) last ∙ ap (rowsIn (s .args .state .row)) asked in
+    let rows : c .before .before .before .rows-in .result ≡ rowsIn (s .args .state .row) (s .args .asked) = c .before .before .before .rows-in .ensures ∙ ap (λ (z : ℤ). rowsIn z (toZ w32 (ofZ w32 (s .args .asked)))) last ∙ ap (rowsIn (s .args .state .row)) asked in
     rw (
-      sym (c .before .before .before .before .before .before .before .before .places-in .ensures) ∙ not-false (c .before .before .before .before .before .before .before .before .places-in .result) (c .before .before .before .before .before .before .before .if1 .left),
-      sym (rows) ∙ not-false (c .before .before .before .before .before .rows-in .result) (c .before .before .before .before .if2 .left),
-      sym (c .before .before .before .is-finite .ensures) ∙ not-false (c .before .before .before .is-finite .result) (c .before .before .if3 .left),
-      sym (c .before .end-in .ensures) ∙ not-true (c .before .end-in .result) (c .if4 .taken),
-    )
-
-returns-5 : tie.Need-returns-5
-unfolding cursorNumber
-returns-5 c =
-    let s = c .before .before .before .before .before .before .before .before .before in
-    let last = back (s .args .state .row) (record { sfits = c .before .before .before .before .before .before .struct-told .given .1 .1 .1 .1 .0 .1 }) in
-    let asked = back (s .args .asked) (s .fits .asked) in
-    let rows : c .before .before .before .before .before .rows-in .result ≡ rowsIn (s .args .state .row) (s .args .asked) = c .before .before .before .before .before .rows-in .ensures ∙ ap (λ (z : ℤ). rowsIn z (toZ w32 (ofZ w32 (s .args .asked)))) last ∙ ap (rowsIn (s .args .state .row)) asked in
-    rw (
-      sym (c .before .before .before .before .before .before .before .before .places-in .ensures) ∙ not-false (c .before .before .before .before .before .before .before .before .places-in .result) (c .before .before .before .before .before .before .before .if1 .left),
-      sym (rows) ∙ not-false (c .before .before .before .before .before .rows-in .result) (c .before .before .before .before .if2 .left),
-      sym (c .before .before .before .is-finite .ensures) ∙ not-false (c .before .before .before .is-finite .result) (c .before .before .if3 .left),
-      sym (c .before .end-in .ensures) ∙ not-false (c .before .end-in .result) (c .if4 .left),
-    )
+      sym (c .before .before .before .before .before .before .places-in .ensures) ∙ not-false (c .before .before .before .before .before .before .places-in .result) (c .before .before .before .before .before .if1 .left),
+      sym (rows) ∙ not-false (c .before .before .before .rows-in .result) (c .before .before .if2 .left),
+    ) (together (s .args .state .time) (s .args .state .end) true (sym (not-false (c .before .time-and-end-in .result) (c .if3 .left)) ∙ c .before .time-and-end-in .ensures))
 
 pub cursor-number-spec : {M : Type 1} → statement M
 cursor-number-spec =
@@ -88,8 +70,6 @@ cursor-number-spec =
     returns
     rows-in-requires
     returns-2
-    is-finite-requires
+    time-and-end-in-requires
     returns-3
-    end-in-requires
-    returns-4
-    returns-5)
+    returns-4)

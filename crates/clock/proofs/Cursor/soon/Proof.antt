@@ -1,4 +1,4 @@
--- `clock::Cursor::soon` is the walk where it says that it is whole. Assumes nothing.
+-- `clock::Cursor::soon` is the walk of a cursor that is not refused where it says that it is whole. Assumes nothing.
 use mathlib.Core.Path.{_≡_, sym, ap, _∙_}
 use Rattle.walk.specs.Events.{Timing, timing}
 use Rattle.walk.specs.Soon.{walkedSoon}
@@ -29,6 +29,7 @@ returns c =
       near .0,
       near .1,
       soon-walk t (a .row) (a .self .state) (near .2) (near .3) (rw found at e) ∙ ap (λ (x : Soon). walkedSoon (a .tempo-values .now) (a .row) x) (sym found),
+      near .4,
     )
 
 returns-2 : tie.Need-returns-2

@@ -1,5 +1,5 @@
 -- `clock::Cursor::time_for_beat_checked` is `playerQuestion`. Assumes nothing.
-use mathlib.Core.Path.{_≡_, sym, _∙_}
+use mathlib.Core.Path.{_≡_, refl, sym, _∙_}
 use borrow.Author.Tests.{eq-eqb, ne-eqb}
 use lib.Ieee.{binary64}
 use mir.Syntax.{w32}
@@ -26,41 +26,40 @@ returns c =
     let asked = c .before .before .beat-number in
     c .refused .ensures ∙ beat-refused t (a .self) (a .offset) (a .global) (a .beat) (asked .result) (asked .ensures) (ne-eqb _ _ (c .before .if1 .taken))
 
+row-of-taken-requires : tie.Need-row-of-taken-requires
+row-of-taken-requires c κs = sym (c .before .beat-number .ensures) ∙ c .if1 .left
+
+soon-requires : tie.Need-soon-requires
+soon-requires c κs = search needs
+
+answered-soon-requires : tie.Need-answered-soon-requires
+answered-soon-requires c κs = c .before .soon .ensures (c .if2 .taken) .0
+
+returns-2 : tie.Need-returns-2
+returns-2 c =
+    let a = c .before .before .before .before .before .before .before .before .before .before .before .before .before .before .args in
+    let t : Timing = timing (a .tempo-beats .now) (a .tempo-values .now) (a .stop-beats .now) (a .stop-values .now) (a .delay-beats .now) (a .delay-values .now) (a .warp-beats .now) (a .warp-lengths .now) in
+    let asked = c .before .before .before .before .before .beat-number in
+    let on = c .before .before .before .row-of-taken in
+    let r = toZ w32 (ofZ w32 (on .result)) in
+    let is-soon = c .before .before .soon .ensures (c .before .if2 .taken) in
+    let is : r ≡ row binary64 (a .beat) = back (on .result) (record { sfits = on .ok }) ∙ on .ensures in
+    c .answered-soon .ensures ∙ soon-reply t (a .self) (a .offset) (a .global) (a .beat) r _ is (is-soon .1) (is-soon .2) (is-soon .3)
+    ∙ both-taken t (a .self) (a .offset) (a .global) (a .beat) (asked .result) (asked .ensures) (eq-eqb _ _ (c .before .before .before .before .if1 .left)) _ refl (eq-eqb _ _ (is-soon .4))
+
 refusal-requires : tie.Need-refusal-requires
 refusal-requires c κs = search needs
 
 refused-requires-2 : tie.Need-refused-requires-2
 refused-requires-2 c κs = search needs
 
-returns-2 : tie.Need-returns-2
-returns-2 c =
-    let a = c .before .before .before .before .before .before .before .before .before .before .before .before .before .args in
-    let t : Timing = timing (a .tempo-beats .now) (a .tempo-values .now) (a .stop-beats .now) (a .stop-values .now) (a .delay-beats .now) (a .delay-values .now) (a .warp-beats .now) (a .warp-lengths .now) in
-    let asked = c .before .before .before .before .beat-number in
-    let lent = c .before .before .refusal in
-    c .refused2 .ensures ∙ cursor-refused t (a .self) (a .offset) (a .global) (a .beat) (asked .result) (asked .ensures) (eq-eqb _ _ (c .before .before .before .if1 .left)) (lent .result) (lent .ensures) (ne-eqb _ _ (c .before .if2 .taken))
-
-row-of-taken-requires : tie.Need-row-of-taken-requires
-row-of-taken-requires c κs = sym (c .before .before .before .beat-number .ensures) ∙ c .before .before .if1 .left
-
-soon-requires : tie.Need-soon-requires
-soon-requires c κs = search needs
-
-answered-soon-requires : tie.Need-answered-soon-requires
-answered-soon-requires c κs = c .before .soon .ensures (c .if3 .taken) .0
-
 returns-3 : tie.Need-returns-3
 returns-3 c =
     let a = c .before .before .before .before .before .before .before .before .before .before .before .before .before .before .before .before .args in
     let t : Timing = timing (a .tempo-beats .now) (a .tempo-values .now) (a .stop-beats .now) (a .stop-values .now) (a .delay-beats .now) (a .delay-values .now) (a .warp-beats .now) (a .warp-lengths .now) in
     let asked = c .before .before .before .before .before .before .before .beat-number in
-    let lent = c .before .before .before .before .before .refusal in
-    let on = c .before .before .before .row-of-taken in
-    let r = toZ w32 (ofZ w32 (on .result)) in
-    let is-soon = c .before .before .soon .ensures (c .before .if3 .taken) in
-    let is : r ≡ row binary64 (a .beat) = back (on .result) (record { sfits = on .ok }) ∙ on .ensures in
-    c .answered-soon .ensures ∙ soon-reply t (a .self) (a .offset) (a .global) (a .beat) r _ is (is-soon .1) (is-soon .2) (is-soon .3)
-    ∙ both-taken t (a .self) (a .offset) (a .global) (a .beat) (asked .result) (asked .ensures) (eq-eqb _ _ (c .before .before .before .before .before .before .if1 .left)) (lent .result) (lent .ensures) (eq-eqb _ _ (c .before .before .before .before .if2 .left))
+    let lent = c .before .before .refusal in
+    c .refused2 .ensures ∙ cursor-refused t (a .self) (a .offset) (a .global) (a .beat) (asked .result) (asked .ensures) (eq-eqb _ _ (c .before .before .before .before .before .before .if1 .left)) (lent .result) (lent .ensures) (ne-eqb _ _ (c .before .if3 .taken))
 
 reply-requires : tie.Need-reply-requires
 reply-requires c κs = search needs
@@ -70,8 +69,8 @@ returns-4 c =
     let a = c .before .before .before .before .before .before .before .before .before .before .before .before .before .before .before .before .args in
     let t : Timing = timing (a .tempo-beats .now) (a .tempo-values .now) (a .stop-beats .now) (a .stop-values .now) (a .delay-beats .now) (a .delay-values .now) (a .warp-beats .now) (a .warp-lengths .now) in
     let asked = c .before .before .before .before .before .before .before .beat-number in
-    let lent = c .before .before .before .before .before .refusal in
-    c .reply .ensures ∙ both-taken t (a .self) (a .offset) (a .global) (a .beat) (asked .result) (asked .ensures) (eq-eqb _ _ (c .before .before .before .before .before .before .if1 .left)) (lent .result) (lent .ensures) (eq-eqb _ _ (c .before .before .before .before .if2 .left))
+    let lent = c .before .before .refusal in
+    c .reply .ensures ∙ both-taken t (a .self) (a .offset) (a .global) (a .beat) (asked .result) (asked .ensures) (eq-eqb _ _ (c .before .before .before .before .before .before .if1 .left)) (lent .result) (lent .ensures) (eq-eqb _ _ (c .before .if3 .left))
 
 pub time-for-beat-checked-spec : {M : Type 1} → statement M
 time-for-beat-checked-spec =
@@ -80,12 +79,12 @@ time-for-beat-checked-spec =
     beat-number-requires
     refused-requires
     returns
-    refusal-requires
-    refused-requires-2
-    returns-2
     row-of-taken-requires
     soon-requires
     answered-soon-requires
+    returns-2
+    refusal-requires
+    refused-requires-2
     returns-3
     reply-requires
     returns-4)

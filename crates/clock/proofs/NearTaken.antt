@@ -1,0 +1,50 @@
+-- A cursor from which nothing but tempos is due, and whose other numbers pass the tests of the quick way, is not refused. Assumes nothing.
+use Prim.Native.Nat.{ℕ, _≤_}
+use mathlib.Core.Bool.{true, false}
+use mathlib.Core.Path.{_≡_, refl, sym}
+use mathlib.Core.List.{List}
+use native.Mathlib.Omega.{arith}
+use borrow.Author.Tests.{ltb-false, eqb-false, le-leb, ne-eqb}
+use lib.Dec.{eqb}
+use lib.IntN.{ℤ, pos, negsuc, natAbs}
+use lib.Signed.{ltZ}
+use lib.ListN.{length}
+use lib.Ieee.{Float}
+use Rattle.picks.specs.Pick.{pick}
+use Rattle.limits.specs.Numbers.{rowIn}
+use Rattle.walk.specs.Quiet.{onlyTempos}
+use Rattle.walk.proofs.PlacesWithin.{each-test, places-within}
+use Rattle.walk.proofs.RowOrder.{no}
+use Rattle.timing_tests.specs.CursorNumbers.{timeAndEndIn, cursorNumber}
+use Rattle.timing_tests.proofs.CursorTaken.{cursor-taken}
+use Rattle.clock.specs.declared.Cursor.{Cursor}
+
+last-in : (row : ℤ) → ltZ row (pos 0) ≡ false → ltZ (pos 3145728) row ≡ false → natAbs row ≤ 3145728
+last-in (pos n) h k = ltb-false 3145728 n k
+last-in (negsuc n) h k = no (sym h)
+
+-- a row from 0 on that is not above an allowed one
+asked-in : (asked r : ℤ) → ltZ asked (pos 0) ≡ false → ltZ r asked ≡ false → ltZ (pos 3145727) r ≡ false → rowIn asked ≡ true
+unfolding rowIn
+asked-in (pos a) (pos r) h k l = le-leb a 3145728 (omega (arith, ltb-false r a k, ltb-false 3145727 r l))
+asked-in (pos a) (negsuc r) h k l = no (sym k)
+asked-in (negsuc a) r h k l = no (sym h)
+
+-- a place that is not the first, up to the end of a list: the list is not empty
+some : (place count : ℕ) → eqb place 0 ≡ false → place ≤ count → eqb count 0 ≡ false
+some place count h l = ne-eqb count 0 (λ e. eqb-false place 0 h (omega arith))
+
+module _ (tempoBeats stopBeats delayBeats warpBeats : List Float) (c : Cursor) (r : ℤ)
+    (notBelow : ltZ (c .asked) (pos 0) ≡ false) (rowNotBelow : ltZ (c .state .row) (pos 0) ≡ false) (rowNotAbove : ltZ (pos 3145728) (c .state .row) ≡ false)
+    (passed : eqb (c .state .tempos) 0 ≡ false) (within : c .state .tempos ≤ length tempoBeats) where
+  pub some-tempos : eqb (length tempoBeats) 0 ≡ false
+  some-tempos = some (c .state .tempos) (length tempoBeats) passed within
+
+  pub near-taken : timeAndEndIn (c .state .time) (c .state .end) ≡ true → ltZ r (c .asked) ≡ false → onlyTempos stopBeats delayBeats warpBeats (c .state) r ≡ true
+      → cursorNumber (pick (eqb (length tempoBeats) 0) 1 (length tempoBeats)) (length stopBeats) (length delayBeats) (length warpBeats) (c .state) (c .asked) ≡ 0
+  near-taken fine later only =
+      let places = places-within stopBeats delayBeats warpBeats (c .state) r only in
+      let tests = each-test stopBeats delayBeats warpBeats (c .state) r only in
+      rw some-tempos
+      (cursor-taken (length tempoBeats) (length stopBeats) (length delayBeats) (length warpBeats) (c .state) (c .asked) within (places .0) (places .1) (places .2) (last-in (c .state .row) rowNotBelow rowNotAbove)
+      (rw (asked-in (c .asked) r notBelow later (tests .notAbove)) refl) fine)
