@@ -10,7 +10,6 @@ use lib.Ieee.Scale.{finite}
 use Rattle.picks.specs.Pick.{pick}
 use Rattle.limits.specs.Numbers.{rowIn}
 use Rattle.walk.specs.declared.State.{State}
-use Rattle.walk.proofs.RowOrder.{no}
 use Rattle.timing_tests.specs.CursorNumbers.{freshMark, placesIn, rowsIn, endIn, timeAndEndIn, cursorNumber}
 
 -- the last two tests made as one

@@ -1,6 +1,6 @@
 -- `clock::Cursor::is_near` says yes only where the cursor is not refused, the walk goes on from here and nothing but tempos is due. Assumes nothing.
 use mathlib.Core.Bool.{false}
-use mathlib.Core.Path.{_≡_, sym, _∙_}
+use mathlib.Core.Path.{sym, _∙_}
 use Rattle.walk.proofs.BackFromBits.{back, tested}
 use Rattle.walk.proofs.RowOrder.{no}
 use Rattle.clock.proofs.NearTaken.{some-tempos, near-taken}
