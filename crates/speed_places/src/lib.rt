@@ -29,7 +29,7 @@ fn place_after(beats: &[f64], n: usize, row: u32) -> usize
     let mut high = n;
     while low < high {
         let middle = low + (high - low) / 2;
-        if by_rows::row_key(beats[middle]) <= row {
+        if row_sort::row_key(beats[middle]) <= row {
             low = middle + 1;
             continue;
         }
@@ -81,10 +81,10 @@ fn change_at(
     requires { ⌜ neverFalls rowKeyAt (take n (now beats)) ≡ true ⌝ }
     ensures { λ r. ⌜ Changed rowKeyAt nearSpeed (beat, valueOf value) (listedSpeeds n (now (beats .entry)) (now (ratios .entry)) (now (delays .entry)) (now (units .entry))) r ⌝ }
 {
-    let row = by_rows::row_key(beat);
+    let row = row_sort::row_key(beat);
     let at = place_after(beats, n, row);
     let last = keeping::place_before(at);
-    let on_row = by_rows::row_key(beats[last]) == row;
+    let on_row = row_sort::row_key(beats[last]) == row;
     keeping::change_of(
         at,
         on_row,
@@ -273,7 +273,7 @@ fn write_speed(
     ensures { λ _. ⌜ now («out_delays» .exit) ≡ set (now («out_delays» .entry)) at (value .delay) ⌝ }
     ensures { λ _. ⌜ now («out_units» .exit) ≡ set (now («out_units» .entry)) at (value .unit) ⌝ }
 {
-    out_beats[at] = by_rows::on_row(beat);
+    out_beats[at] = row_sort::on_row(beat);
     out_ratios[at] = value.ratio;
     out_delays[at] = value.delay;
     out_units[at] = value.unit;

@@ -108,7 +108,7 @@ fn count_kept(beats: &[f64], values: &[f64]) -> usize
     let mut count = 0;
     let mut i = 0;
     while i < beats.len() {
-        let row = by_rows::row_key(beats[i]);
+        let row = row_sort::row_key(beats[i]);
         let next = pass(held, row, beats[i], values[i]);
         if writes(held, row) {
             count += 1;
@@ -135,10 +135,10 @@ fn lay_kept(beats: &[f64], values: &[f64], out_beats: &mut [f64], out_values: &m
     let mut count = 0;
     let mut i = 0;
     while i < beats.len() {
-        let row = by_rows::row_key(beats[i]);
+        let row = row_sort::row_key(beats[i]);
         let next = pass(held, row, beats[i], values[i]);
         if writes(held, row) {
-            out_beats[count] = by_rows::on_row(held.beat);
+            out_beats[count] = row_sort::on_row(held.beat);
             out_values[count] = held.value;
             count += 1;
             held = next;
@@ -149,7 +149,7 @@ fn lay_kept(beats: &[f64], values: &[f64], out_beats: &mut [f64], out_values: &m
         i += 1;
     }
     if held.waits {
-        out_beats[count] = by_rows::on_row(held.beat);
+        out_beats[count] = row_sort::on_row(held.beat);
         out_values[count] = held.value;
         return count + 1;
     }
@@ -225,7 +225,7 @@ fn place_after(beats: &[f64], n: usize, row: u32) -> usize
     let mut high = n;
     while low < high {
         let middle = low + (high - low) / 2;
-        if by_rows::row_key(beats[middle]) <= row {
+        if row_sort::row_key(beats[middle]) <= row {
             low = middle + 1;
             continue;
         }
@@ -250,10 +250,10 @@ fn change_at(beats: &[f64], values: &[f64], n: usize, beat: f64, value: f64) -> 
     requires { ⌜ neverFalls rowKeyAt (take n (now beats)) ≡ true ⌝ }
     ensures { λ r. ⌜ Changed rowKeyAt nearTo (beat, value) (listed n (now (beats .entry)) (now (values .entry))) r ⌝ }
 {
-    let row = by_rows::row_key(beat);
+    let row = row_sort::row_key(beat);
     let at = place_after(beats, n, row);
     let last = keeping::place_before(at);
-    let on_row = by_rows::row_key(beats[last]) == row;
+    let on_row = row_sort::row_key(beats[last]) == row;
     keeping::change_of(
         at,
         on_row,
@@ -355,7 +355,7 @@ fn lay_rows(
 {
     let mut i = 0;
     while i < count {
-        out_beats[i] = by_rows::on_row(beats[i]);
+        out_beats[i] = row_sort::on_row(beats[i]);
         out_values[i] = values[i];
         i += 1;
     }
