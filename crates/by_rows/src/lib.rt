@@ -1,9 +1,9 @@
-// Beats by their rows: whether rows never fall or rise, and allowed beats moved to their rows.
+// Beats by their rows: whether rows never fall or rise, the place after a row, and allowed beats moved to their rows.
 use limits::Kind;
 ghost use mathlib.Core.Path.{_≡_};
 ghost use mathlib.Core.Bool.{true, false};
 ghost use lib.Dec.{T};
-ghost use lib.Ieee.{Float};
+ghost use lib.Ieee.{Float, nan};
 ghost use Rattle.picks.specs.Pick.{pick};
 ghost use Rattle.rows.specs.Rows.{allowedBeat};
 ghost use Rattle.limits.specs.Numbers.{rangeOf, allIn, miss};
@@ -11,6 +11,7 @@ ghost use Rattle.limits.specs.Neighbours.{everyTwo};
 ghost use Rattle.columns.specs.Each.{laidEach};
 ghost use Rattle.order.specs.Order.{neverFalls};
 ghost use Rattle.tidy_rows.specs.RowTidying.{rowKeyAt};
+ghost use Rattle.keeping.specs.Searching.{placeAfter};
 ghost use Rattle.by_rows.specs.ByMarks.{rowRises, onMarkedRow};
 
 // Whether no row is below the one before it.
@@ -28,6 +29,23 @@ pub fn in_order(beats: &[f64]) -> bool
         i += 1;
     }
     true
+}
+
+// How many beats, whose rows never fall, are on rows up to one (`found`, a law of `keeping`): a search by halves.
+pub fn place_after(beats: &[f64], row: u32) -> usize
+    ensures { λ r. ⌜ r ≡ placeAfter rowKeyAt nan (now (beats .entry)) row ⌝ }
+{
+    let mut low = 0;
+    let mut high = beats.len();
+    while low < high {
+        let middle = low + (high - low) / 2;
+        if row_sort::row_key(beats[middle]) <= row {
+            low = middle + 1;
+            continue;
+        }
+        high = middle;
+    }
+    low
 }
 
 // ---- allowed beats, several at a time

@@ -20,10 +20,10 @@ use Rattle.keeping.specs.declared.Change.{Change}
 use Rattle.keeping.specs.Near.{nearTo}
 use Rattle.keeping.specs.Keeping.{placed, placedAfter, placedBetween, fallsWhile}
 use Rattle.keeping.specs.Changing.{changeOf, spliced, splicedIn, countBy, Changed}
-use Rattle.keeping.specs.Searching.{UpTo}
+use Rattle.keeping.specs.Searching.{UpTo, placeAfter}
 use Rattle.keeping.proofs.PlacedByPlace.{nearAt, againstAt, changeBy, onRowAt}
 use Rattle.keeping.proofs.ChangedRightly.{changed-rightly}
-use Rattle.keeping.proofs.Searched.{reached}
+use Rattle.keeping.proofs.Searched.{found, reached}
 use Rattle.keeping.proofs.ColumnsPlaced.{taken-spliced, entries-spliced, never-falls-entries}
 use Rattle.keeping.proofs.PassTurns.{places-here, falls-here, stands-here, all-placed, none-falls}
 use Rattle.tidy_scrolls.specs.declared.Placed.{Placed}
@@ -68,11 +68,11 @@ module _ (n : ℕ) (beats values : List Float) (few : n ≤ length beats) (few�
 
   -- the same with what the code holds
   pub change-by : (e : Float × Float) (at last against key lastKey : ℕ) → last ≡ at - 1 → key ≡ rowKeyAt (e .0) → lastKey ≡ rowKeyAt (getD beats last nan)
-      → UpTo rowKeyAt nan (take n beats) key at → neverFalls rowKeyAt (take n beats) ≡ true → 0 < n → n ≤ 1024 → (o nearNext nearPrevious nearLast : Bool) → o ≡ eqb lastKey key → against ≡ pick o (last - 1) last
+      → at ≡ placeAfter rowKeyAt nan (take n beats) key → neverFalls rowKeyAt (take n beats) ≡ true → 0 < n → n ≤ 1024 → (o nearNext nearPrevious nearLast : Bool) → o ≡ eqb lastKey key → against ≡ pick o (last - 1) last
       → nearNext ≡ pick (ltb (last + 1) n) (nearTo (e .1) (getD values (last + 1) nan)) false → nearPrevious ≡ pick (ltb against n) (nearTo (e .1) (getD values against nan)) false
       → nearLast ≡ pick (ltb last n) (nearTo (e .1) (getD values last nan)) false → (c : Change) → c ≡ changeOf at o nearNext nearPrevious nearLast → Changed rowKeyAt nearTo e (listed n beats values) c
   change-by e at last against key lastKey l k lk u so some short o nearNext nearPrevious nearLast ho ha hn hp hl c hc =
-      change-found e at (rw k at u) so some short o nearNext nearPrevious nearLast (ho ∙ rw (lk, l, k)) (hn ∙ rw l) (hp ∙ rw (ha, l)) (hl ∙ rw l) c hc
+      change-found e at (rw (u ∙ ap (placeAfter rowKeyAt nan (take n beats)) k) (found rowKeyAt nan (take n beats) (rowKeyAt (e .0)) so)) so some short o nearNext nearPrevious nearLast (ho ∙ rw (lk, l, k)) (hn ∙ rw l) (hp ∙ rw (ha, l)) (hl ∙ rw l) c hc
 
 -- ---- one entry
 pub placed-first : (e : Float × Float) (n : ℕ) (beats values : List Float) → n ≡ 0 → 0 < length beats → 0 < length values

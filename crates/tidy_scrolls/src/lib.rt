@@ -21,7 +21,6 @@ ghost use Rattle.by_rows.specs.ByMarks.{rowRises};
 ghost use Rattle.keeping.specs.Near.{nearTo};
 ghost use Rattle.keeping.specs.Passing.{comes, passed, written};
 ghost use Rattle.keeping.specs.Changing.{Changed};
-ghost use Rattle.keeping.specs.Searching.{UpTo};
 ghost use Rattle.tidy_scrolls.specs.ScrollTidying.{ScrollsTidied};
 ghost use Rattle.tidy_scrolls.specs.Ways.{waiting, unheld, writtenFrom, listed, PlacedOne, PlacedAll};
 
@@ -215,25 +214,6 @@ fn tidy_rising(
 
 // ---- entries in no order: placed one by one in two columns
 
-// How many of the first n beats, whose rows never fall, are on rows up to one.
-fn place_after(beats: &[f64], n: usize, row: u32) -> usize
-    requires { ⌜ n ≤ length (now beats) ⌝ }
-    requires { ⌜ neverFalls rowKeyAt (take n (now beats)) ≡ true ⌝ }
-    ensures { λ r. ⌜ UpTo rowKeyAt nan (take n (now (beats .entry))) row r ⌝ }
-{
-    let mut low = 0;
-    let mut high = n;
-    while low < high {
-        let middle = low + (high - low) / 2;
-        if row_sort::row_key(beats[middle]) <= row {
-            low = middle + 1;
-            continue;
-        }
-        high = middle;
-    }
-    low
-}
-
 // Whether a value is near that at a place of the first n.
 fn near_at(values: &[f64], n: usize, place: usize, value: f64) -> bool
     requires { ⌜ n ≤ length (now values) ⌝ }
@@ -251,7 +231,7 @@ fn change_at(beats: &[f64], values: &[f64], n: usize, beat: f64, value: f64) -> 
     ensures { λ r. ⌜ Changed rowKeyAt nearTo (beat, value) (listed n (now (beats .entry)) (now (values .entry))) r ⌝ }
 {
     let row = row_sort::row_key(beat);
-    let at = place_after(beats, n, row);
+    let at = by_rows::place_after(&beats[..n], row);
     let last = keeping::place_before(at);
     let on_row = row_sort::row_key(beats[last]) == row;
     keeping::change_of(
