@@ -21,8 +21,9 @@ ghost use Rattle.by_rows.specs.ByMarks.{rowRises};
 ghost use Rattle.keeping.specs.Near.{nearTo};
 ghost use Rattle.keeping.specs.Passing.{comes, passed, written};
 ghost use Rattle.keeping.specs.Changing.{Changed};
+ghost use Rattle.keeping.specs.Placing.{listed, PlacedOne, PlacedAll};
 ghost use Rattle.tidy_scrolls.specs.ScrollTidying.{ScrollsTidied};
-ghost use Rattle.tidy_scrolls.specs.Ways.{waiting, unheld, writtenFrom, listed, PlacedOne, PlacedAll};
+ghost use Rattle.tidy_scrolls.specs.Ways.{waiting, unheld, writtenFrom};
 
 // ---- entries in order: no working memory
 
@@ -263,7 +264,7 @@ struct Placed {
 fn place(beats: &mut [f64], values: &mut [f64], n: usize, beat: f64, value: f64) -> Placed
     requires { ⌜ (n < 1024) × (n < length (now beats)) × (length (now beats) ≡ length (now values)) ⌝ }
     requires { ⌜ neverFalls rowKeyAt (take n (now beats)) ≡ true ⌝ }
-    ensures { λ r. ⌜ PlacedOne (beat, value) n (now (beats .entry)) (now (values .entry)) r (now (beats .exit)) (now (values .exit)) ⌝ }
+    ensures { λ r. ⌜ PlacedOne rowKeyAt nearTo (beat, value) n (now (beats .entry)) (now (values .entry)) (r .count) (r .falls) (now (beats .exit)) (now (values .exit)) ⌝ }
 {
     if n == 0 {
         beats[0] = beat;
@@ -299,7 +300,7 @@ fn place_all(
 ) -> Placed
     requires { ⌜ (length (now beats) ≤ 1024) × (length (now beats) ≡ length (now values)) ⌝ }
     requires { ⌜ (length (now beats) ≤ length (now «kept_beats»)) × (length (now «kept_beats») ≡ length (now «kept_values»)) ⌝ }
-    ensures { λ r. ⌜ PlacedAll (entries (now (beats .entry)) (now (values .entry))) r (now («kept_beats» .exit)) (now («kept_values» .exit)) ⌝ }
+    ensures { λ r. ⌜ PlacedAll rowKeyAt nearTo (entries (now (beats .entry)) (now (values .entry))) (r .count) (r .falls) (now («kept_beats» .exit)) (now («kept_values» .exit)) ⌝ }
 {
     let mut kept = Placed {
         count: 0,

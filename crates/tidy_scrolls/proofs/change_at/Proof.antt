@@ -1,7 +1,8 @@
 -- `tidy_scrolls::change_at` finds the change by place and nearness. Assumes nothing.
 use Rattle.tidy_rows.specs.RowTidying.{rowKeyAt}
+use Rattle.keeping.specs.Near.{nearTo}
 use Rattle.keeping.proofs.Searched.{place-within}
-use Rattle.tidy_scrolls.proofs.Placing.{change-by}
+use Rattle.keeping.proofs.PlacedInColumns.{change-by}
 use lib.Ieee.{nan}
 use lib.Seq.{length-take-le}
 use native.Mathlib.Omega.{arith}
@@ -61,7 +62,7 @@ returns c =
     let last = c .before .before .before .before .before .before .before .place-before in
     let lastKey = c .before .before .before .before .before .row-key2 in
     let against = c .before .before .before .held-against in
-    change-by (g .args .n) (g .args .beats .now) (g .args .values .now) (omega arith) (omega arith) (g .args .beat, g .args .value) (at .result) (last .result) (against .result) (key .result) (lastKey .result) (last .ensures) (key .ensures) (lastKey .ensures) (at .ensures) (g .pre .1) (omega arith) (omega arith) _ (c .before .before .before .before .near-at .result) (c .before .before .near-at2 .result) (c .before .near-at3 .result) refl (against .ensures) (c .before .before .before .before .near-at .ensures) (c .before .before .near-at2 .ensures) (c .before .near-at3 .ensures) (c .change-of .result) (c .change-of .ensures)
+    change-by rowKeyAt nearTo nan nan (g .args .n) (g .args .beats .now) (g .args .values .now) (omega arith) (omega arith) (g .args .beat, g .args .value) (at .result) (last .result) (against .result) (key .result) (lastKey .result) (last .ensures) (key .ensures) (lastKey .ensures) (at .ensures) (g .pre .1) (omega arith) (omega arith) _ (c .before .before .before .before .near-at .result) (c .before .before .near-at2 .result) (c .before .near-at3 .result) refl (against .ensures) (c .before .before .before .before .near-at .ensures) (c .before .before .near-at2 .ensures) (c .before .near-at3 .ensures) (c .change-of .result) (c .change-of .ensures)
 
 pub change-at-spec : {M : Type 1} → statement M
 change-at-spec =
