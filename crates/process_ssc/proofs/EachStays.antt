@@ -21,7 +21,8 @@ use Rattle.limits.proofs.Every.{every-rest, every-more}
 use Rattle.order.specs.Entries.{entries}
 use Rattle.columns.specs.Kept.{kept}
 use Rattle.process_ssc.specs.Ssc.{zero, staysSsc, stayed}
-use Rattle.process_ssc.specs.Tests.{beatStays, valueStays, Whole}
+use Rattle.process_ssc.specs.Tests.{beatStays, valueStays}
+use Rattle.raw_lists.specs.RawLists.{Whole}
 
 pub no : {A : Type 0} → false ≡ true → A
 no h = let z : _≡_ {A = ℕ} 0 1 = cc in absurd (omega arith)
@@ -115,7 +116,7 @@ value-taken v h =
     let f : T (finite v) = subst T (sym (finite-value v h)) tt in
     rw (not-below v f (from-zero v (above v f (ends .0))), ends .1, ends .0)
 
-pub whole-list : (beats values : List Float) → length beats ≤ 1024 → length beats ≡ length values → every beatStays beats ≡ true → every valueStays values ≡ true → Whole beats values
+pub whole-list : (beats values : List Float) → length beats ≤ 1024 → length beats ≡ length values → every beatStays beats ≡ true → every valueStays values ≡ true → Whole stayed beats values
 unfolding listNumber
 whole-list beats values few even h k = record {
   number = rw (le-ltb 1024 (length beats) few, le-ltb 1024 (length values) (omega arith), eq-eqb (length beats) (length values) even, every-more beatStays (inRange (rangeOf RawBeat)) beat-taken beats h, every-more valueStays (inRange (rangeOf RawTempo)) value-taken values k);
