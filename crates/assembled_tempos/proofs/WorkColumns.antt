@@ -12,7 +12,7 @@ use Rattle.limits.specs.declared.Kind.the-variants.{Beat, Value}
 use Rattle.limits.specs.Numbers.{rangeOf, inRange, every}
 use Rattle.limits.specs.Refusals.{lower}
 use Rattle.limits.proofs.NoRefusal.{lower-none}
-use Rattle.limits.proofs.ListTaken.{list-taken}
+use Rattle.limits.proofs.ListTaken.{list-taken, list-passes}
 use Rattle.order.specs.Entries.{entries, first, second}
 use Rattle.order.proofs.Columns.{length-entries, first-entries, second-entries, entries-columns}
 use Rattle.columns.specs.Laying.{roomNumber, given, LaidList}
@@ -28,7 +28,6 @@ use Rattle.format_laws.proofs.ValuesF32.{values-f32}
 use Rattle.merged_warps.specs.MergedWarps.{warpsNumber, threeNumber, mergedLists}
 use Rattle.assembled_rows.proofs.Outcomes.{number-with-room}
 use Rattle.assembled_rows.proofs.NarrowedFront.{front-laid}
-use Rattle.assembled_rows.proofs.QuantizedTaken.{list-passes}
 use Rattle.assembled_tempos.specs.declared.AssembledTempos.{AssembledTempos}
 use Rattle.assembled_tempos.specs.AssembledTempos.{ThreeLaid}
 use Rattle.assembled_tempos.specs.Inside.{Held, Processed, listsOf, WorkRooms}
