@@ -7,8 +7,8 @@ use mathlib.Core.List.{List, [], _∷_, map}
 use native.Mathlib.Omega.{arith}
 use borrow.Author.Tests.{ltb-true, le-leb, leb-true}
 use lib.Dec.{T, ltb, leb}
-use lib.IntN.{ℤ, pos, negsuc, natAbs}
-use lib.Signed.{mag, leZ}
+use lib.IntN.{ℤ, natAbs}
+use lib.Signed.{leZ}
 use lib.Ieee.{Float, binary32, binary64, lt, le}
 use lib.Ieee.Bits.{is-true}
 use Rattle.ieee.specs.Narrowing.{narrow}
@@ -28,11 +28,8 @@ use Rattle.order.specs.RowKey.{rowKey}
 use Rattle.order.proofs.RowKeys.{rows-below, rows-at-most}
 use Rattle.tidy_rows.specs.RowTidying.{rowKeyAt}
 use Rattle.tidy_rows.proofs.TakenBeats.{taken-allowed}
+use Rattle.tidy_rows.proofs.RowsRise.{in-i32}
 use Rattle.limits.specs.Neighbours.{neighbours, everyTwo, notAbove}
-
-in-i32 : (r : ℤ) → natAbs r ≤ mostRow → mag r < 2147483648
-in-i32 (pos n) h = omega arith
-in-i32 (negsuc n) h = omega arith
 
 -- the f32 row, which is the row of the quantised beat
 abbrev pub narrowRow : Float → ℤ

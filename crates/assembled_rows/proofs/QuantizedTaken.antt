@@ -6,7 +6,6 @@ use mathlib.Core.Bool.{Bool, true, false, not}
 use mathlib.Core.List.{List, [], _∷_, map}
 use native.Mathlib.Nat.{le-trans, le-of-eq, mul-one, zero-lt-suc}
 use native.Mathlib.Omega.{arith}
-use borrow.Author.Tests.{le-ltb, eq-eqb}
 use lib.Dec.{T, lit<, lit≤}
 use lib.IntN.{ℤ, pos, negsuc, natAbs}
 use lib.ListN.{length, length-map}
@@ -25,12 +24,10 @@ use Rattle.ieee.proofs.Units.{round-units}
 use Rattle.rows.specs.Rows.{row, beatOf, quantized}
 use Rattle.rows.proofs.Quantizing.{quantized-allowed}
 use Rattle.rows.proofs.RowValue.{like-48}
-use Rattle.limits.specs.declared.Range.{Range}
 use Rattle.limits.specs.declared.Kind.the-variants.{Beat, Value}
 use Rattle.limits.specs.Numbers.{inRange, rangeOf, every, allIn}
-use Rattle.limits.specs.Refusals.{listNumber}
 use Rattle.limits.proofs.Every.{every-rest}
-use Rattle.limits.proofs.ListTaken.{list-taken}
+use Rattle.limits.proofs.ListTaken.{list-taken, list-passes}
 use Rattle.limits.proofs.TakenWithin.{taken-within, within-taken}
 use Rattle.tidy_rows.specs.RowTidying.{rowsNumber}
 use Rattle.assembled_rows.specs.AssembledRows.{changeBy, assembledNumber}
@@ -121,10 +118,6 @@ changed-values-taken true values h = every-changed (inRange (rangeOf Value)) (ch
 changed-values-taken false values h = every-map (inRange (rangeOf Value)) (inRange (rangeOf Value)) (changeBy false) (λ x k. k) values h
 
 -- ---- lists
-pub list-passes : (beat value : Range) (beats values : List Float) → length beats ≤ 1024 → length beats ≡ length values → allIn beat beats ≡ true → allIn value values ≡ true → listNumber beat value beats values ≡ 0
-unfolding listNumber
-list-passes beat value beats values few even b v = rw (le-ltb 1024 (length beats) few, le-ltb 1024 (length values) (omega arith), eq-eqb (length beats) (length values) even, b, v)
-
 module _ (beats values : List Float) where
   both-passes : (change : Float → Float) → length beats ≤ 1024 → length beats ≡ length values → allIn (rangeOf Beat) beats ≡ true → allIn (rangeOf Value) (map change values) ≡ true → assembledNumber change beats values ≡ 0
   both-passes change few even b v =

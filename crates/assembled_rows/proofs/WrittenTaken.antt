@@ -23,7 +23,7 @@ use Rattle.limits.specs.declared.Kind.the-variants.{Beat, Pause, Value}
 use Rattle.limits.specs.Numbers.{inRange, rangeOf, every, allIn}
 use Rattle.limits.specs.Refusals.{listNumber}
 use Rattle.limits.proofs.Every.{every-rest}
-use Rattle.limits.proofs.ListTaken.{list-taken}
+use Rattle.limits.proofs.ListTaken.{list-taken, list-passes}
 use Rattle.limits.proofs.TakenWithin.{taken-within, within-taken}
 use Rattle.order.specs.Entries.{entries, first, second}
 use Rattle.order.proofs.OrderedList.{Each}
@@ -32,7 +32,6 @@ use Rattle.tidy_rows.specs.RowTidying.{onRow, rowKeyOf, onItsRow, tidyRows}
 use Rattle.tidy_rows.proofs.NoLonger.{tidy-no-longer}
 use Rattle.tidy_rows.proofs.RowsRise.{Allowed, kept-allowed}
 use Rattle.assembled_rows.specs.AssembledRows.{narrowedEntry, assembledRows, assembledNumber}
-use Rattle.assembled_rows.proofs.QuantizedTaken.{list-passes}
 use Rattle.assembled_rows.proofs.WrittenRises.{narrowed-on-row, writtenBeat, keptRows, written-beats}
 
 -- ---- numbers

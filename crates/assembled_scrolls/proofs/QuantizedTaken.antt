@@ -7,9 +7,9 @@ use Rattle.rows.specs.Rows.{quantized}
 use Rattle.limits.specs.declared.Kind.the-variants.{Beat, Value}
 use Rattle.limits.specs.Numbers.{rangeOf}
 use Rattle.limits.specs.Refusals.{listNumber}
-use Rattle.limits.proofs.ListTaken.{list-taken}
+use Rattle.limits.proofs.ListTaken.{list-taken, list-passes}
 use Rattle.tidy_rows.specs.RowTidying.{rowsNumber}
-use Rattle.assembled_rows.proofs.QuantizedTaken.{list-passes, quantized-beats-taken}
+use Rattle.assembled_rows.proofs.QuantizedTaken.{quantized-beats-taken}
 
 module _ (beats values : List Float) (h : rowsNumber beats values ≡ 0) where
   pub scrolls-pass : listNumber (rangeOf Beat) (rangeOf Value) (map quantized beats) values ≡ 0

@@ -12,7 +12,7 @@ use Rattle.limits.specs.declared.Kind.the-variants.{Beat, Value}
 use Rattle.limits.specs.Numbers.{rangeOf, inRange, every}
 use Rattle.limits.specs.Refusals.{lower}
 use Rattle.limits.proofs.NoRefusal.{lower-none}
-use Rattle.limits.proofs.ListTaken.{list-taken}
+use Rattle.limits.proofs.ListTaken.{list-taken, list-passes}
 use Rattle.order.specs.Entries.{entries, first, second}
 use Rattle.order.proofs.Columns.{length-entries, first-entries, second-entries, entries-columns}
 use Rattle.columns.specs.Laying.{roomNumber, given, LaidList}
@@ -20,6 +20,7 @@ use Rattle.tidy_rows.specs.RowTidying.{rowsNumber}
 use Rattle.raw_lists.specs.declared.Processed as raw
 use Rattle.raw_lists.specs.RawLists.{rawNumbers, roomFor}
 use Rattle.raw_lists.proofs.BothTaken.{both-taken}
+use Rattle.sm_bounds.proofs.ChangesTaken.{same-columns}
 use Rattle.by_format.specs.declared.TimingFormat.{TimingFormat}
 use Rattle.by_format.specs.ByFormat.{Lists, ListsLaid, processedLists}
 use Rattle.format_laws.proofs.ListsTaken.{ListsTaken, lists-taken}
@@ -28,7 +29,6 @@ use Rattle.format_laws.proofs.ValuesF32.{values-f32}
 use Rattle.merged_warps.specs.MergedWarps.{warpsNumber, threeNumber, mergedLists}
 use Rattle.assembled_rows.proofs.Outcomes.{number-with-room}
 use Rattle.assembled_rows.proofs.NarrowedFront.{front-laid}
-use Rattle.assembled_rows.proofs.QuantizedTaken.{list-passes}
 use Rattle.assembled_tempos.specs.declared.AssembledTempos.{AssembledTempos}
 use Rattle.assembled_tempos.specs.AssembledTempos.{ThreeLaid}
 use Rattle.assembled_tempos.specs.Inside.{Held, Processed, listsOf, WorkRooms}
@@ -106,9 +106,6 @@ every-append test (x ∷ xs) ys h k = go (test x) h (λ rest. every-append test 
     go : (t : Bool) → pick t (every test xs) false ≡ true → (every test xs ≡ true → every test (xs ++ ys) ≡ true) → pick t (every test (xs ++ ys)) false ≡ true
     go true h rest = rest h
     go false h rest = h
-
-same-columns : (list : List (Float × Float)) → length (map first list) ≡ length (map second list)
-same-columns list = simp length-map
 
 module _ (format : TimingFormat) (tempoBeats tempoValues stopBeats stopValues warpBeats warpLengths : List Float) (taken : threeNumber tempoBeats tempoValues stopBeats stopValues warpBeats warpLengths ≡ 0) where
   two-taken : (rawNumbers tempoBeats tempoValues stopBeats stopValues ≡ 0) × (warpsNumber warpBeats warpLengths ≡ 0)

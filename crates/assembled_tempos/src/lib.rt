@@ -14,7 +14,6 @@ ghost use Rattle.limits.specs.Neighbours.{everyTwo};
 ghost use Rattle.columns.specs.Each.{laidEach};
 ghost use Rattle.tidy_rows.specs.RowTidying.{rowsNumber};
 ghost use Rattle.assembled_rows.specs.AssembledRows.{RowsUntested};
-ghost use Rattle.picks.specs.Pick.{pick};
 ghost use Rattle.limits.specs.Refusals.{lower};
 ghost use Rattle.merged_warps.specs.MergedWarps.{threeNumber, mergedLists};
 ghost use Rattle.assembled_tempos.specs.AssembledTempos.{threeRooms, ThreeLaid, nothingAssembled};
@@ -44,13 +43,6 @@ fn refused(number: u32) -> AssembledTempos
 
 // ---- processed lists into their rooms
 
-// 7 where a result has no room.
-fn no_room(fits: bool) -> u32
-    ensures { λ r. ⌜ r ≡ pick fits 0 7 ⌝ }
-{
-    if fits { limits::TAKEN } else { limits::NO_ROOM }
-}
-
 fn rooms_number(
     tempo_beats: &[f64],
     tempo_values: &[f64],
@@ -65,9 +57,19 @@ fn rooms_number(
     requires { ⌜ Processed (now «tempo_beats») (now «tempo_values») (now «stop_beats») (now «stop_values») (now «warp_beats») (now «warp_lengths») × (length (now «warp_beats») ≤ 1024) ⌝ }
     ensures { λ r. ⌜ ((offset : Float) → r ≡ threeRooms (listsOf (now («tempo_beats» .entry)) (now («tempo_values» .entry)) (now («stop_beats» .entry)) (now («stop_values» .entry)) (now («warp_beats» .entry)) (now («warp_lengths» .entry)) offset) «tempo_room» «stop_room» «warp_room») ⌝ }
 {
-    let tempos = no_room(tempo_beats.len() <= tempo_room);
-    let stops = no_room(assembled_rows::rows_fit(stop_beats, stop_values, false, stop_room));
-    let warps = no_room(assembled_rows::rows_fit(warp_beats, warp_lengths, true, warp_room));
+    let tempos = limits::no_room(tempo_beats.len() <= tempo_room);
+    let stops = limits::no_room(assembled_rows::rows_fit(
+        stop_beats,
+        stop_values,
+        false,
+        stop_room,
+    ));
+    let warps = limits::no_room(assembled_rows::rows_fit(
+        warp_beats,
+        warp_lengths,
+        true,
+        warp_room,
+    ));
     limits::lower_of(limits::lower_of(tempos, stops), warps)
 }
 

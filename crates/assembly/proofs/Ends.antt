@@ -4,7 +4,7 @@ use mathlib.Core.Path.{_≡_, refl, sym, ap, _∙_}
 use mathlib.Core.Bool.{Bool, true, false}
 use mathlib.Core.List.{List, []}
 use native.Mathlib.Omega.{arith}
-use borrow.Author.Tests.{eq-eqb, ne-eqb, eqb-true, leb-true}
+use borrow.Author.Tests.{eq-eqb, eqb-true, leb-true}
 use lib.Dec.{leb, eqb}
 use lib.ListN.{length}
 use lib.Ieee.{Float}
@@ -13,8 +13,8 @@ use Rattle.limits.specs.Refusals.{lower}
 use Rattle.limits.proofs.NoRefusal.{lower-none}
 use Rattle.order.specs.Order.{laid}
 use Rattle.columns.specs.declared.Outcome.{Outcome}
-use Rattle.columns.specs.Laying.{roomNumber, given, LaidPair, LaidList}
-use Rattle.columns.proofs.Rooms.{list-of-pair}
+use Rattle.columns.specs.Laying.{roomNumber, LaidPair, LaidList}
+use Rattle.columns.proofs.Rooms.{nothing-given, list-of-pair}
 use Rattle.raw_lists.specs.RawLists.{roomFor}
 use Rattle.speeds.specs.Speed.{SpeedEntry}
 use Rattle.speeds.specs.LaidSpeeds.{leastOf, LaidSpeeds}
@@ -33,10 +33,6 @@ use Rattle.assembled_tempos.proofs.RowsFit.{fit-number}
 use Rattle.assembly.specs.Assembly.{listOf, assembledDelays, assembledFakes, othersNumber, othersLater, SpeedsLaid}
 
 -- ---- four columns under one number
-
-nothing-given : {A : Type 0} (result : List A) (n : ℕ) → (n ≡ 0 → ⊥) → given n result ≡ []
-unfolding given
-nothing-given result n h = rw (ne-eqb n 0 h)
 
 pub speeds-refused : {number : ℕ} {result : List SpeedEntry} {beatsOld ratiosOld delaysOld : List Float} {unitsOld : List ℕ} → (number ≡ 0 → ⊥) → SpeedsLaid number result 0 beatsOld beatsOld ratiosOld ratiosOld delaysOld delaysOld unitsOld unitsOld
 unfolding laid

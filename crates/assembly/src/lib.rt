@@ -3,7 +3,6 @@ use by_format::TimingFormat;
 use limits::Kind;
 ghost use mathlib.Core.Path.{_≡_};
 ghost use lib.ListN.{length};
-ghost use Rattle.picks.specs.Pick.{pick};
 ghost use Rattle.limits.specs.Refusals.{lower};
 ghost use Rattle.columns.specs.Laying.{LaidList};
 ghost use Rattle.raw_lists.specs.RawLists.{roomFor};
@@ -60,12 +59,6 @@ fn others_number(
     )
 }
 
-fn no_room(fits: bool) -> u32
-    ensures { λ r. ⌜ r ≡ pick fits 0 7 ⌝ }
-{
-    if fits { limits::TAKEN } else { limits::NO_ROOM }
-}
-
 // The lowest of what they answer where they are taken: 6, or 7 by the room of each.
 fn others_later(
     delay_beats: &[f64],
@@ -85,7 +78,12 @@ fn others_later(
 ) -> u32
     ensures { λ r. ⌜ (othersNumber (now («delay_beats» .entry)) (now («delay_values» .entry)) (now («speed_beats» .entry)) (now («speed_ratios» .entry)) (now («speed_delays» .entry)) (now («speed_units» .entry)) (now («scroll_beats» .entry)) (now («scroll_values» .entry)) (now («fake_beats» .entry)) (now («fake_lengths» .entry)) ≡ 0 → r ≡ othersLater (now («delay_beats» .entry)) (now («delay_values» .entry)) (now («speed_beats» .entry)) (now («speed_ratios» .entry)) (now («speed_delays» .entry)) (now («speed_units» .entry)) (now («scroll_beats» .entry)) (now («scroll_values» .entry)) (now («fake_beats» .entry)) (now («fake_lengths» .entry)) «delay_room» «speed_room» «scroll_room» «fake_room») ⌝ }
 {
-    let delays = no_room(assembled_rows::rows_fit(delay_beats, delay_values, false, delay_room));
+    let delays = limits::no_room(assembled_rows::rows_fit(
+        delay_beats,
+        delay_values,
+        false,
+        delay_room,
+    ));
     let speeds = assembled_speeds::speeds_number(
         speed_beats,
         speed_ratios,
@@ -94,7 +92,12 @@ fn others_later(
         speed_room,
     );
     let scrolls = assembled_scrolls::scrolls_number(scroll_beats, scroll_values, scroll_room);
-    let fakes = no_room(assembled_rows::rows_fit(fake_beats, fake_lengths, true, fake_room));
+    let fakes = limits::no_room(assembled_rows::rows_fit(
+        fake_beats,
+        fake_lengths,
+        true,
+        fake_room,
+    ));
     limits::lower_of(
         limits::lower_of(limits::lower_of(delays, speeds), scrolls),
         fakes,

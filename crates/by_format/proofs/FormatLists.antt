@@ -51,7 +51,7 @@ module _ {tempoBeats tempoValues stopBeats stopValues : List Float} {outcome : P
 -- ---- tempos given and not given
 
 -- 60 at beat 0 is taken, as nothing is
-sixty-taken : rawNumber (beatZero ∷ []) (sixty ∷ []) ≡ rawNumber [] []
+pub sixty-taken : rawNumber (beatZero ∷ []) (sixty ∷ []) ≡ rawNumber [] []
 unfolding listNumber every inRange le lt eq neg
 sixty-taken = refl
 

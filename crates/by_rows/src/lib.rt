@@ -1,31 +1,18 @@
-// Beats by their rows: the row as a key, the beat of the row, and whether rows never fall.
+// Beats by their rows: whether rows never fall or rise, the place after a row, and allowed beats moved to their rows.
 use limits::Kind;
 ghost use mathlib.Core.Path.{_≡_};
 ghost use mathlib.Core.Bool.{true, false};
 ghost use lib.Dec.{T};
-ghost use lib.Ieee.{Float};
+ghost use lib.Ieee.{Float, nan};
 ghost use Rattle.picks.specs.Pick.{pick};
 ghost use Rattle.rows.specs.Rows.{allowedBeat};
 ghost use Rattle.limits.specs.Numbers.{rangeOf, allIn, miss};
 ghost use Rattle.limits.specs.Neighbours.{everyTwo};
 ghost use Rattle.columns.specs.Each.{laidEach};
 ghost use Rattle.order.specs.Order.{neverFalls};
-ghost use Rattle.tidy_rows.specs.RowTidying.{rowKeyAt, onRow};
+ghost use Rattle.tidy_rows.specs.RowTidying.{rowKeyAt};
+ghost use Rattle.keeping.specs.Searching.{placeAfter};
 ghost use Rattle.by_rows.specs.ByMarks.{rowRises, onMarkedRow};
-
-// The beat moved to its row.
-pub fn on_row(beat: f64) -> f64
-    ensures { λ r. ⌜ r ≡ onRow beat ⌝ }
-{
-    rows::note_row_to_beat(rows::beat_to_note_row(beat))
-}
-
-// The row of a beat, as a key.
-pub fn row_key(beat: f64) -> u32
-    ensures { λ r. ⌜ r ≡ rowKeyAt beat ⌝ }
-{
-    order::key_of_row(rows::beat_to_note_row(beat))
-}
 
 // Whether no row is below the one before it.
 pub fn in_order(beats: &[f64]) -> bool
@@ -34,7 +21,7 @@ pub fn in_order(beats: &[f64]) -> bool
     let mut last = 0;
     let mut i = 0;
     while i < beats.len() {
-        let row = row_key(beats[i]);
+        let row = row_sort::row_key(beats[i]);
         if row < last {
             return false;
         }
@@ -42,6 +29,23 @@ pub fn in_order(beats: &[f64]) -> bool
         i += 1;
     }
     true
+}
+
+// How many beats, whose rows never fall, are on rows up to one (`found`, a law of `keeping`): a search by halves.
+pub fn place_after(beats: &[f64], row: u32) -> usize
+    ensures { λ r. ⌜ r ≡ placeAfter rowKeyAt nan (now (beats .entry)) row ⌝ }
+{
+    let mut low = 0;
+    let mut high = beats.len();
+    while low < high {
+        let middle = low + (high - low) / 2;
+        if row_sort::row_key(beats[middle]) <= row {
+            low = middle + 1;
+            continue;
+        }
+        high = middle;
+    }
+    low
 }
 
 // ---- allowed beats, several at a time

@@ -14,7 +14,7 @@ use Rattle.order.specs.Entries.{first, second}
 use Rattle.columns.specs.declared.Outcome.{Outcome}
 use Rattle.columns.specs.Laying.{roomNumber, refusedBy, given, LaidPair, LaidList}
 
-nothing-given : {A : Type 0} (result : List A) (n : ℕ) → (n ≡ 0 → ⊥) → given n result ≡ []
+pub nothing-given : {A : Type 0} (result : List A) (n : ℕ) → (n ≡ 0 → ⊥) → given n result ≡ []
 unfolding given
 nothing-given result n h = rw (ne-eqb n 0 h)
 

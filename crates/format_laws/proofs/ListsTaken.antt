@@ -13,7 +13,7 @@ use Rattle.limits.specs.declared.Kind.the-variants.{Beat, Value, TidyTempo}
 use Rattle.limits.specs.Numbers.{rangeOf, inRange, allIn, every}
 use Rattle.limits.specs.Refusals.{listNumber}
 use Rattle.limits.proofs.Every.{every-rest}
-use Rattle.limits.proofs.ListTaken.{list-taken}
+use Rattle.limits.proofs.ListTaken.{list-taken, list-passes}
 use Rattle.limits.proofs.TakenWithin.{within-taken}
 use Rattle.limits.proofs.TempoSizes.{tempo-at-most}
 use Rattle.order.specs.Entries.{entries, first, second}
@@ -33,7 +33,6 @@ use Rattle.sm_walk.specs.Changes.{left}
 use Rattle.sm_laws.specs.Beats as beats
 use Rattle.sm_bounds.proofs.AssemblyTakes.{sm-stops-taken, sm-warps-taken}
 use Rattle.sm_laws.proofs.ChangesInOrder.{changeKey}
-use Rattle.assembled_rows.proofs.QuantizedTaken.{list-passes}
 use Rattle.sm_lent.specs.Sm.{written}
 use Rattle.process_sm.proofs.FewTidied.{entries-few, few-tidied}
 use Rattle.by_format.specs.declared.TimingFormat.{TimingFormat}

@@ -1,22 +1,17 @@
 -- Where no tempo is given, the one of 60 at beat 0 is taken as nothing is, and the list is no longer than it may be. Assumes nothing.
 use Prim.Native.Nat.{_≤_, max}
-use mathlib.Core.Path.{_≡_, refl}
+use mathlib.Core.Path.{_≡_}
 use mathlib.Core.Bool.{Bool, true, false}
 use mathlib.Core.List.{List, [], _∷_}
 use native.Mathlib.Omega.{arith}
 use lib.ListN.{length}
-use lib.Ieee.{Float, le, lt, eq, neg}
+use lib.Ieee.{Float}
 use borrow.Author.Tests.{ne-eqb}
 use Rattle.picks.specs.Pick.{pick}
-use Rattle.limits.specs.Numbers.{inRange, every}
-use Rattle.limits.specs.Refusals.{listNumber}
-use Rattle.tidy_tempos.specs.TempoTidying.{beatZero, sixty}
-use Rattle.raw_lists.specs.RawLists.{rawNumber, rawNumbers}
+use Rattle.tidy_tempos.specs.TempoTidying.{beatZero}
+use Rattle.raw_lists.specs.RawLists.{rawNumbers}
 use Rattle.by_format.specs.ByFormat.{noneGiven, tempoBeatsOf, tempoValuesOf}
-
-sixty-taken : rawNumber (beatZero ∷ []) (sixty ∷ []) ≡ rawNumber [] []
-unfolding listNumber every inRange le lt eq neg
-sixty-taken = refl
+use Rattle.by_format.proofs.FormatLists.{sixty-taken}
 
 pub given-number : (beats values stopBeats stopValues : List Float) → rawNumbers (tempoBeatsOf beats values) (tempoValuesOf beats values) stopBeats stopValues ≡ rawNumbers beats values stopBeats stopValues
 unfolding tempoBeatsOf tempoValuesOf

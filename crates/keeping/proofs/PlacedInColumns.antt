@@ -18,11 +18,11 @@ use Rattle.order.proofs.Columns.{length-entries, entries-getD}
 use Rattle.keeping.specs.declared.Change.{Change}
 use Rattle.keeping.specs.Keeping.{rowOf, placed, placedAfter, placedBetween, fallsWhile}
 use Rattle.keeping.specs.Changing.{changeOf, spliced, splicedIn, countBy, Changed}
-use Rattle.keeping.specs.Searching.{UpTo}
+use Rattle.keeping.specs.Searching.{UpTo, placeAfter}
 use Rattle.keeping.specs.Placing.{listed, PlacedOne, PlacedAll}
 use Rattle.keeping.proofs.PlacedByPlace.{nearAt, againstAt, changeBy, onRowAt}
 use Rattle.keeping.proofs.ChangedRightly.{changed-rightly}
-use Rattle.keeping.proofs.Searched.{reached}
+use Rattle.keeping.proofs.Searched.{found, reached}
 use Rattle.keeping.proofs.ColumnsPlaced.{taken-spliced, entries-spliced, never-falls-entries}
 use Rattle.keeping.proofs.PassTurns.{places-here, falls-here, stands-here, all-placed, none-falls}
 
@@ -78,11 +78,11 @@ module _ {B W : Type 0} (row : B → ℕ) (near : W → W → Bool) (noBeat : B)
 
     -- with what the code holds
     pub change-by : (e : B × W) (at last against key lastKey : ℕ) → last ≡ at - 1 → key ≡ row (e .0) → lastKey ≡ row (getD beats last noBeat)
-        → UpTo row noBeat (take n beats) key at → neverFalls row (take n beats) ≡ true → 0 < n → n ≤ 1024 → (o nearNext nearPrevious nearLast : Bool) → o ≡ eqb lastKey key → against ≡ pick o (last - 1) last
+        → at ≡ placeAfter row noBeat (take n beats) key → neverFalls row (take n beats) ≡ true → 0 < n → n ≤ 1024 → (o nearNext nearPrevious nearLast : Bool) → o ≡ eqb lastKey key → against ≡ pick o (last - 1) last
         → nearNext ≡ pick (ltb (last + 1) n) (near (e .1) (getD values (last + 1) noValue)) false → nearPrevious ≡ pick (ltb against n) (near (e .1) (getD values against noValue)) false
         → nearLast ≡ pick (ltb last n) (near (e .1) (getD values last noValue)) false → (c : Change) → c ≡ changeOf at o nearNext nearPrevious nearLast → Changed row near e (listed n beats values) c
     change-by e at last against key lastKey l k lk u so some short o nearNext nearPrevious nearLast ho ha hn hp hl c hc =
-        change-found e at (rw k at u) so some short o nearNext nearPrevious nearLast (ho ∙ rw (lk, l, k)) (hn ∙ rw l) (hp ∙ rw (ha, l)) (hl ∙ rw l) c hc
+        change-found e at (rw (u ∙ ap (placeAfter row noBeat (take n beats)) k) (found row noBeat (take n beats) (row (e .0)) so)) so some short o nearNext nearPrevious nearLast (ho ∙ rw (lk, l, k)) (hn ∙ rw l) (hp ∙ rw (ha, l)) (hl ∙ rw l) c hc
 
   pub placed-first : (e : B × W) (beats : List B) (values : List W) → 0 < length beats → 0 < length values
       → PlacedOne row near e 0 beats values 1 false (set beats 0 (e .0)) (set values 0 (e .1))

@@ -52,6 +52,13 @@ pub fn lower_of(one: u32, other: u32) -> u32
     other
 }
 
+// 7 where a result does not fit its room.
+pub fn no_room(fits: bool) -> u32
+    ensures { λ r. ⌜ r ≡ pick fits 0 7 ⌝ }
+{
+    if fits { TAKEN } else { NO_ROOM }
+}
+
 // ---- what is taken
 
 // What a number is for.

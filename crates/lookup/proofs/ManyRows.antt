@@ -10,18 +10,15 @@ use lib.ListN.{length}
 use Rattle.order.specs.Order.{laid}
 use Rattle.columns.specs.Laying.{roomNumber, refusedBy, given}
 use Rattle.columns.specs.Each.{laidEach}
+use Rattle.columns.proofs.Rooms.{nothing-given}
 use Rattle.columns.proofs.EachOverFront.{each-over-front}
 use Rattle.lookup.specs.Lookups.{byte, Judged}
 
 -- ---- the outcome
 module _ (tests : ℕ) (judge : ℤ → Bool) (rows : List ℤ) (old : List ℕ) where
-  nothing-given : (n : ℕ) → (n ≡ 0 → ⊥) → given n rows ≡ []
-  unfolding given
-  nothing-given n h = rw (ne-eqb n 0 h)
-
   left-alone : (n : ℕ) → (n ≡ 0 → ⊥) → n ≡ roomNumber tests (length rows) (length old) → Judged tests judge rows (refusedBy n) old old
   unfolding laid
-  left-alone n h e = record { number = e; count = rw (nothing-given n h); answers = rw (nothing-given n h) }
+  left-alone n h e = record { number = e; count = rw (nothing-given rows n h); answers = rw (nothing-given rows n h) }
 
   pub refused-by-tests : (n : ℕ) → n ≡ tests → (n ≡ 0 → ⊥) → Judged tests judge rows (refusedBy n) old old
   unfolding roomNumber

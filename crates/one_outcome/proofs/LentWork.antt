@@ -15,4 +15,8 @@ module _ {tempoBeats tempoValues stopBeats stopValues : List Float} {a b : Proce
   one-outcome = (processed.one-outcome (x .lists) (y .lists), processed.one-work (x .work) (y .work))
 
   pub one-rooms : ((tbA ≡ tbB) × (tvA ≡ tvB)) × ((sbA ≡ sbB) × (svA ≡ svB)) × ((wbA ≡ wbB) × (wlA ≡ wlB))
-  one-rooms = (processed.one-tempos (x .lists) (y .lists), processed.one-stops (x .lists) (y .lists), processed.one-warps (x .lists) (y .lists))
+  one-rooms =
+      let t = processed.one-tempos (x .lists) (y .lists) in
+      let s = processed.one-stops (x .lists) (y .lists) in
+      let w = processed.one-warps (x .lists) (y .lists) in
+      ((t .1, t .2), (s .1, s .2), (w .1, w .2))

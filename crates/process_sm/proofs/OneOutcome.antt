@@ -3,28 +3,15 @@ use Prim.Native.Nat.{ℕ}
 use mathlib.Core.Path.{_≡_, sym, ap, _∙_}
 use mathlib.Core.List.{List}
 use lib.Dec.{eqb}
-use lib.ListN.{length}
 use lib.Ieee.{Float}
 use Rattle.picks.specs.Pick.{pick}
-use Rattle.order.specs.Entries.{first, second}
-use Rattle.columns.specs.Laying.{given, columnLaid, LaidList}
+use Rattle.columns.proofs.OneOutcome.{one-list}
 use Rattle.raw_lists.specs.declared.Processed.{Processed}
 use Rattle.sm_walk.specs.Chart.{Output}
-use Rattle.sm_walk.specs.Columns.{Columns, columns}
+use Rattle.sm_walk.specs.Columns.{Columns}
+use Rattle.sm_laws.proofs.OneOutcome.{same-columns}
 use Rattle.sm_lent.specs.Sm.{zero, SmLaid}
 use Rattle.sm_lent.specs.Lent.{WorkLaid}
-
--- a list under numbers that are one
-module _ {n m : ℕ} {result : List (Float × Float)} {firstOld secondOld : List Float} {countA countB : ℕ} {firstA firstB secondA secondB : List Float}
-    (e : n ≡ m) (x : LaidList n result countA firstOld firstA secondOld secondA) (y : LaidList m result countB firstOld firstB secondOld secondB) where
-  same-count : countA ≡ countB
-  same-count = x .counted ∙ ap (λ (k : ℕ). length (given k result)) e ∙ sym (y .counted)
-
-  same-rooms : (firstA ≡ firstB) × (secondA ≡ secondB)
-  same-rooms = (
-    x .firstIs ∙ ap (λ (k : ℕ). columnLaid first k result firstOld) e ∙ sym (y .firstIs),
-    x .secondIs ∙ ap (λ (k : ℕ). columnLaid second k result secondOld) e ∙ sym (y .secondIs),
-  )
 
 abbrev made : ℕ → ℕ → ℕ → ℕ → Float → Processed
 made number tempos stops warps offset = record { number = number; tempos = tempos; stops = stops; warps = warps; offset = offset }
@@ -37,25 +24,21 @@ module _ {tests : ℕ} {tempos stops warps : List (Float × Float)} {offset : Fl
   one-number : a .number ≡ b .number
   one-number = x .number ∙ sym (y .number)
 
+  pub one-tempos : (a .tempos ≡ b .tempos) × (tbA ≡ tbB) × (tvA ≡ tvB)
+  one-tempos = one-list (x .temposLaid) (rw (sym one-number) at (y .temposLaid))
+
+  pub one-stops : (a .stops ≡ b .stops) × (sbA ≡ sbB) × (svA ≡ svB)
+  one-stops = one-list (x .stopsLaid) (rw (sym one-number) at (y .stopsLaid))
+
+  pub one-warps : (a .warps ≡ b .warps) × (wbA ≡ wbB) × (wlA ≡ wlB)
+  one-warps = one-list (x .warpsLaid) (rw (sym one-number) at (y .warpsLaid))
+
   pub one-outcome : a ≡ b
   one-outcome =
       same-processed (a .number) (b .number) (a .tempos) (b .tempos) (a .stops) (b .stops) (a .warps) (b .warps) (a .offset) (b .offset)
-      one-number (same-count one-number (x .temposLaid) (y .temposLaid)) (same-count one-number (x .stopsLaid) (y .stopsLaid)) (same-count one-number (x .warpsLaid) (y .warpsLaid))
-      (x .offsetIs ∙ ap (λ (k : ℕ). pick (eqb k 0) offset zero) one-number ∙ sym (y .offsetIs))
-
-  pub one-tempos : (tbA ≡ tbB) × (tvA ≡ tvB)
-  one-tempos = same-rooms one-number (x .temposLaid) (y .temposLaid)
-
-  pub one-stops : (sbA ≡ sbB) × (svA ≡ svB)
-  one-stops = same-rooms one-number (x .stopsLaid) (y .stopsLaid)
-
-  pub one-warps : (wbA ≡ wbB) × (wlA ≡ wlB)
-  one-warps = same-rooms one-number (x .warpsLaid) (y .warpsLaid)
+      one-number (one-tempos .0) (one-stops .0) (one-warps .0) (x .offsetIs ∙ ap (λ (k : ℕ). pick (eqb k 0) offset zero) one-number ∙ sym (y .offsetIs))
 
 -- the work columns
-same-columns : (a b c d e f a′ b′ c′ d′ e′ f′ : List Float) → a ≡ a′ → b ≡ b′ → c ≡ c′ → d ≡ d′ → e ≡ e′ → f ≡ f′ → columns a b c d e f ≡ columns a′ b′ c′ d′ e′ f′
-same-columns a b c d e f a′ b′ c′ d′ e′ f′ p q r s t u = rw (p, q, r, s, t, u)
-
 pub one-work : {number : ℕ} {out : Output} {old roomsA roomsB : Columns} → WorkLaid number out old roomsA → WorkLaid number out old roomsB → roomsA ≡ roomsB
 one-work {number} {out} {old} {roomsA} {roomsB} x y =
     same-columns (roomsA .tempoBeats) (roomsA .tempoValues) (roomsA .stopBeats) (roomsA .stopValues) (roomsA .warpBeats) (roomsA .warpLengths)

@@ -12,16 +12,16 @@ use lib.Ieee.{Float, nan, inf, fin, up, down, lt, le, eq}
 use lib.Ieee.Fits.{down-pos}
 use lib.Ieee.Scale.{finite}
 use Rattle.picks.specs.Pick.{pick}
-use borrow.Author.Tests.{le-ltb, eq-eqb}
 use Rattle.ieee.proofs.FloatOrder.{lt-or-le, lt-le, lt-not-le, le-sizes}
 use Rattle.limits.specs.declared.Kind.the-variants.{RawBeat, RawTempo}
 use Rattle.limits.specs.Numbers.{rangeOf, inRange, sizeOf, nothing, every}
-use Rattle.limits.specs.Refusals.{listNumber}
+use Rattle.limits.proofs.ListTaken.{list-passes}
 use Rattle.limits.proofs.Every.{every-rest, every-more}
 use Rattle.order.specs.Entries.{entries}
 use Rattle.columns.specs.Kept.{kept}
 use Rattle.process_ssc.specs.Ssc.{zero, staysSsc, stayed}
-use Rattle.process_ssc.specs.Tests.{beatStays, valueStays, Whole}
+use Rattle.process_ssc.specs.Tests.{beatStays, valueStays}
+use Rattle.raw_lists.specs.RawLists.{Whole}
 
 pub no : {A : Type 0} → false ≡ true → A
 no h = let z : _≡_ {A = ℕ} 0 1 = cc in absurd (omega arith)
@@ -115,9 +115,8 @@ value-taken v h =
     let f : T (finite v) = subst T (sym (finite-value v h)) tt in
     rw (not-below v f (from-zero v (above v f (ends .0))), ends .1, ends .0)
 
-pub whole-list : (beats values : List Float) → length beats ≤ 1024 → length beats ≡ length values → every beatStays beats ≡ true → every valueStays values ≡ true → Whole beats values
-unfolding listNumber
+pub whole-list : (beats values : List Float) → length beats ≤ 1024 → length beats ≡ length values → every beatStays beats ≡ true → every valueStays values ≡ true → Whole stayed beats values
 whole-list beats values few even h k = record {
-  number = rw (le-ltb 1024 (length beats) few, le-ltb 1024 (length values) (omega arith), eq-eqb (length beats) (length values) even, every-more beatStays (inRange (rangeOf RawBeat)) beat-taken beats h, every-more valueStays (inRange (rangeOf RawTempo)) value-taken values k);
+  number = list-passes (rangeOf RawBeat) (rangeOf RawTempo) beats values few even (every-more beatStays (inRange (rangeOf RawBeat)) beat-taken beats h) (every-more valueStays (inRange (rangeOf RawTempo)) value-taken values k);
   stay = each-stays beats values even h k;
 }

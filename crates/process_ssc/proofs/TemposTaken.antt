@@ -8,7 +8,6 @@ use lib.Dec.{T}
 use lib.ListN.{length, length-map}
 use lib.Ieee.{Float, nan, inf, fin, lt, le}
 use lib.Ieee.Scale.{finite}
-use borrow.Author.Tests.{le-ltb, eq-eqb}
 use Rattle.picks.specs.Pick.{pick}
 use Rattle.rows.specs.Rows.{quantized}
 use Rattle.rows.proofs.Quantizing.{quantized-allowed}
@@ -16,7 +15,7 @@ use Rattle.limits.specs.declared.Kind.the-variants.{Beat, RawBeat, RawTempo, Ti
 use Rattle.limits.specs.Numbers.{rangeOf, inRange, allIn, every, upTo, tempo}
 use Rattle.limits.specs.Refusals.{listNumber}
 use Rattle.limits.proofs.Every.{every-rest}
-use Rattle.limits.proofs.ListTaken.{list-taken}
+use Rattle.limits.proofs.ListTaken.{list-taken, list-passes}
 use Rattle.limits.proofs.TakenWithin.{taken-within, within-taken, finite-taken}
 use Rattle.order.specs.Entries.{entries, first, second}
 use Rattle.order.proofs.Columns.{length-entries}
@@ -58,10 +57,9 @@ all-taken (beat ∷ beats) (value ∷ values) b v =
     go false e rest one = rest
 
 pub tempos-taken : (beats values : List Float) → rawNumber beats values ≡ 0 → listNumber (rangeOf Beat) (rangeOf TidyTempo) (map first (stayed beats values)) (map second (stayed beats values)) ≡ 0
-unfolding listNumber
 tempos-taken beats values h =
     let raw = list-taken h in
     let all = all-taken beats values (raw .beatsIn) (raw .valuesIn) in
     let list = stayed beats values in
     let few : length list ≤ 1024 = omega (arith, few-kept staysSsc onRow (entries beats values), length-entries beats values (raw .even), raw .few) in
-    rw (le-ltb 1024 (length (map first list)) (simp length-map few), le-ltb 1024 (length (map second list)) (simp length-map few), eq-eqb (length (map first list)) (length (map second list)) (simp length-map), all .0, all .1)
+    list-passes (rangeOf Beat) (rangeOf TidyTempo) (map first list) (map second list) (simp length-map few) (simp length-map) (all .0) (all .1)

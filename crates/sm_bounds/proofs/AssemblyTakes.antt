@@ -5,7 +5,6 @@ use mathlib.Core.List.{List, [], _∷_, map}
 use mathlib.Core.Path.{_≡_, refl}
 use native.Mathlib.Nat.{max-le}
 use native.Mathlib.Omega.{arith}
-use borrow.Author.Tests.{le-ltb, eq-eqb}
 use lib.ListN.{length, length-map}
 use lib.Dec.{lit≤}
 use lib.Ieee.{Float, binary32}
@@ -15,6 +14,7 @@ use Rattle.limits.specs.declared.Range.{Range}
 use Rattle.limits.specs.declared.Kind.the-variants.{Beat, Value, TidyTempo, Tempo}
 use Rattle.limits.specs.Numbers.{inRange, rangeOf, every, allIn}
 use Rattle.limits.specs.Refusals.{listNumber}
+use Rattle.limits.proofs.ListTaken.{list-passes}
 use Rattle.limits.proofs.TakenWithin.{within-taken}
 use Rattle.order.specs.Entries.{first, second}
 use Rattle.order.proofs.OrderedList.{Each}
@@ -43,8 +43,7 @@ module _ (range : Range) where
   values-in (e ∷ list) p = rw (p .0) (values-in list (p .1))
 
 list-number : (beat value : Range) (list : List (Float × Float)) → length list ≤ 1024 → allIn beat (map first list) ≡ true → allIn value (map second list) ≡ true → listNumber beat value (map first list) (map second list) ≡ 0
-unfolding listNumber
-list-number beat value list few b v = rw (length-map list first, length-map list second, le-ltb 1024 (length list) few, eq-eqb (length list) (length list) refl, b, v)
+list-number beat value list few b v = list-passes beat value (map first list) (map second list) (simp length-map few) (simp length-map) b v
 
 is-in : (range : Range) {P : Float → Type 0} → ((x : Float) → P x → inRange range x ≡ true) → (list : List (Float × Float)) → Values P list → allIn range (map second list) ≡ true
 is-in range so list p = values-in range list (each-so (beatKey binary32) (λ e h. so (e .1) h) list p)

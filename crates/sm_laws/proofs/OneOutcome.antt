@@ -13,7 +13,7 @@ walked number tempos stops warps offset = record { number = number; tempos = tem
 same-walked : (n m : ℕ) (t u : ℕ) (s r : ℕ) (w v : ℕ) (o p : Float) → n ≡ m → t ≡ u → s ≡ r → w ≡ v → o ≡ p → walked n t s w o ≡ walked m u r v p
 same-walked n m t u s r w v o p a b c d e = rw (a, b, c, d, e)
 
-same-columns : (a b c d e f a′ b′ c′ d′ e′ f′ : List Float) → a ≡ a′ → b ≡ b′ → c ≡ c′ → d ≡ d′ → e ≡ e′ → f ≡ f′ → columns a b c d e f ≡ columns a′ b′ c′ d′ e′ f′
+pub same-columns : (a b c d e f a′ b′ c′ d′ e′ f′ : List Float) → a ≡ a′ → b ≡ b′ → c ≡ c′ → d ≡ d′ → e ≡ e′ → f ≡ f′ → columns a b c d e f ≡ columns a′ b′ c′ d′ e′ f′
 same-columns a b c d e f a′ b′ c′ d′ e′ f′ p q r s t u = rw (p, q, r, s, t, u)
 
 module _ {tempos stops : List (Float × Float)} {refusal : ℕ} {old : Columns} {a b : Walked} {roomsA roomsB : Columns}

@@ -15,6 +15,7 @@ use Rattle.limits.proofs.Every.{every-rest}
 use Rattle.order.specs.Order.{laid}
 use Rattle.order.specs.Entries.{entries, first, second}
 use Rattle.columns.specs.Laying.{given, columnLaid}
+use Rattle.columns.proofs.Rooms.{nothing-given}
 use Rattle.sm_machine.specs.Machine.{naught}
 use Rattle.sm_walk.specs.declared.Finished.{Finished}
 use Rattle.sm_walk.specs.Chart.{processed, offsetOf}
@@ -36,22 +37,18 @@ number-by-rooms tb tv sb sv into number tempoRoom stopRoom warpRoom t s w e = rw
 
 -- ---- a refusal
 
-nothing-given : (n : ℕ) (list : List (Float × Float)) → (n ≡ 0 → ⊥) → given n list ≡ []
-unfolding given
-nothing-given n list h = rw (ne-eqb n 0 h)
-
 none-laid : (field : Float × Float → Float) (n : ℕ) (list : List (Float × Float)) (old : List Float) → (n ≡ 0 → ⊥) → old ≡ columnLaid field n list old
 unfolding laid
-none-laid field n list old h = rw (nothing-given n list h)
+none-laid field n list old h = rw (nothing-given list n h)
 
 pub refused-laid : (tempos stops : List (Float × Float)) (n : ℕ) (old : Columns) → (n ≡ 0 → ⊥) → WalkLaid tempos stops n (record { number = n; tempos = 0; stops = 0; warps = 0; offset = naught }) old old
 refused-laid tempos stops n old h =
     let out = processed tempos stops in
     record {
       number = refl;
-      tempos = rw (nothing-given n (out .tempos) h);
-      stops = rw (nothing-given n (out .stops) h);
-      warps = rw (nothing-given n (out .warps) h);
+      tempos = rw (nothing-given (out .tempos) n h);
+      stops = rw (nothing-given (out .stops) n h);
+      warps = rw (nothing-given (out .warps) n h);
       offset = rw (ne-eqb n 0 h);
       tempoBeats = none-laid first n (out .tempos) (old .tempoBeats) h;
       tempoValues = none-laid second n (out .tempos) (old .tempoValues) h;

@@ -121,7 +121,7 @@ fn count_kept(beats: &[f64], ratios: &[f64], delays: &[f64], units: &[u8], n: us
     let mut count = 0;
     let mut i = 0;
     while i < n {
-        let row = by_rows::row_key(beats[i]);
+        let row = row_sort::row_key(beats[i]);
         let next = pass(held, row, beats[i], speed_at(ratios, delays, units, i));
         if writes(held, row) {
             count += 1;
@@ -154,7 +154,7 @@ fn write_speed(
     ensures { λ _. ⌜ now («out_delays» .exit) ≡ set (now («out_delays» .entry)) at (value .delay) ⌝ }
     ensures { λ _. ⌜ now («out_units» .exit) ≡ set (now («out_units» .entry)) at (value .unit) ⌝ }
 {
-    out_beats[at] = by_rows::on_row(beat);
+    out_beats[at] = row_sort::on_row(beat);
     out_ratios[at] = value.ratio;
     out_delays[at] = value.delay;
     out_units[at] = value.unit;
@@ -180,7 +180,7 @@ fn lay_kept(
     let mut count = 0;
     let mut i = 0;
     while i < n {
-        let row = by_rows::row_key(beats[i]);
+        let row = row_sort::row_key(beats[i]);
         let next = pass(held, row, beats[i], speed_at(ratios, delays, units, i));
         if writes(held, row) {
             let waiting = held.value;
@@ -227,10 +227,10 @@ fn all_kept(beats: &[f64], ratios: &[f64], delays: &[f64], units: &[u8], n: usiz
     if n == 0 {
         return true;
     }
-    let mut last = by_rows::row_key(beats[0]);
+    let mut last = row_sort::row_key(beats[0]);
     let mut i = 1;
     while i < n {
-        let row = by_rows::row_key(beats[i]);
+        let row = row_sort::row_key(beats[i]);
         if row <= last {
             return false;
         }

@@ -13,30 +13,10 @@ ghost use Rattle.picks.specs.Pick.{pick};
 ghost use Rattle.order.specs.Order.{neverFalls};
 ghost use Rattle.tidy_rows.specs.RowTidying.{rowKeyAt, onRow};
 ghost use Rattle.keeping.specs.Changing.{countBy, Changed};
-ghost use Rattle.keeping.specs.Searching.{UpTo};
 ghost use Rattle.keeping.specs.Placing.{PlacedOne, PlacedAll};
 ghost use Rattle.speeds.specs.Speed.{valueOf, nearSpeed, noSpeed, speedValues, speedEntries, speedOnRow};
 ghost use Rattle.speeds.specs.LaidSpeeds.{leastOf, LaidRooms};
 ghost use Rattle.speed_places.specs.PlacedSpeeds.{listedSpeeds, PlacedTidied};
-
-// How many of the first n beats, whose rows never fall, are on rows up to one.
-fn place_after(beats: &[f64], n: usize, row: u32) -> usize
-    requires { ⌜ n ≤ length (now beats) ⌝ }
-    requires { ⌜ neverFalls rowKeyAt (take n (now beats)) ≡ true ⌝ }
-    ensures { λ r. ⌜ UpTo rowKeyAt nan (take n (now (beats .entry))) row r ⌝ }
-{
-    let mut low = 0;
-    let mut high = n;
-    while low < high {
-        let middle = low + (high - low) / 2;
-        if by_rows::row_key(beats[middle]) <= row {
-            low = middle + 1;
-            continue;
-        }
-        high = middle;
-    }
-    low
-}
 
 fn speed_at(ratios: &[f64], delays: &[f64], units: &[u8], i: usize) -> Speed
     requires { ⌜ (i < length (now ratios)) × (i < length (now delays)) × (i < length (now units)) ⌝ }
@@ -81,10 +61,10 @@ fn change_at(
     requires { ⌜ neverFalls rowKeyAt (take n (now beats)) ≡ true ⌝ }
     ensures { λ r. ⌜ Changed rowKeyAt nearSpeed (beat, valueOf value) (listedSpeeds n (now (beats .entry)) (now (ratios .entry)) (now (delays .entry)) (now (units .entry))) r ⌝ }
 {
-    let row = by_rows::row_key(beat);
-    let at = place_after(beats, n, row);
+    let row = row_sort::row_key(beat);
+    let at = by_rows::place_after(&beats[..n], row);
     let last = keeping::place_before(at);
-    let on_row = by_rows::row_key(beats[last]) == row;
+    let on_row = row_sort::row_key(beats[last]) == row;
     keeping::change_of(
         at,
         on_row,
@@ -273,7 +253,7 @@ fn write_speed(
     ensures { λ _. ⌜ now («out_delays» .exit) ≡ set (now («out_delays» .entry)) at (value .delay) ⌝ }
     ensures { λ _. ⌜ now («out_units» .exit) ≡ set (now («out_units» .entry)) at (value .unit) ⌝ }
 {
-    out_beats[at] = by_rows::on_row(beat);
+    out_beats[at] = row_sort::on_row(beat);
     out_ratios[at] = value.ratio;
     out_delays[at] = value.delay;
     out_units[at] = value.unit;

@@ -8,24 +8,21 @@ use lib.Ieee.{Float}
 use borrow.Author.Tests.{eq-eqb, ne-eqb, le-leb, lt-leb}
 use Rattle.order.specs.Order.{laid}
 use Rattle.columns.specs.Laying.{roomNumber, refusedBy, given}
+use Rattle.columns.proofs.Rooms.{nothing-given}
 use Rattle.speeds.specs.Speed.{SpeedEntry}
 use Rattle.speeds.specs.LaidSpeeds.{leastOf, LaidSpeeds, LaidRooms}
 
 module _ (tests : ℕ) (result : List SpeedEntry) (beatsOld ratiosOld delaysOld : List Float) (unitsOld : List ℕ) where
-  nothing-given : (n : ℕ) → (n ≡ 0 → ⊥) → given n result ≡ []
-  unfolding given
-  nothing-given n h = rw (ne-eqb n 0 h)
-
   left-alone : (n : ℕ) → (n ≡ 0 → ⊥) → n ≡ roomNumber tests (length result) (leastOf (length beatsOld) (length ratiosOld) (length delaysOld) (length unitsOld)) → LaidSpeeds tests result (refusedBy n) beatsOld beatsOld ratiosOld ratiosOld delaysOld delaysOld unitsOld unitsOld
   unfolding laid
   left-alone n h e =
       record {
         number = e;
-        count = rw (nothing-given n h);
-        beatsAre = rw (nothing-given n h);
-        ratiosAre = rw (nothing-given n h);
-        delaysAre = rw (nothing-given n h);
-        unitsAre = rw (nothing-given n h);
+        count = rw (nothing-given result n h);
+        beatsAre = rw (nothing-given result n h);
+        ratiosAre = rw (nothing-given result n h);
+        delaysAre = rw (nothing-given result n h);
+        unitsAre = rw (nothing-given result n h);
       }
 
   -- by the tests before

@@ -50,7 +50,7 @@ abbrev pub BeatsRise : List (Float × Float) → Type 0
 BeatsRise [] = Unit {0}
 BeatsRise (e ∷ l) = BeatAbove (e .0) l × BeatsRise l
 
-in-i32 : (r : ℤ) → natAbs r ≤ mostRow → mag r < 2147483648
+pub in-i32 : (r : ℤ) → natAbs r ≤ mostRow → mag r < 2147483648
 in-i32 (pos n) h = omega arith
 in-i32 (negsuc n) h = omega arith
 

@@ -1,4 +1,3 @@
 pub mod Turns
-pub mod Placing
 pub mod Outcomes
 pub mod AllKept

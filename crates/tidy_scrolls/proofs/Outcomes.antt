@@ -3,41 +3,36 @@ use Prim.Native.Nat.{ℕ, _≤_, _<_, min}
 use mathlib.Core.Path.{_≡_, refl, sym, ap, _∙_}
 use mathlib.Core.Bool.{Bool, true, false}
 use mathlib.Core.List.{List, [], map}
-use mathlib.Core.Logic.{_⊎_, inl, inr}
 use lib.Dec.{ltb, eqb}
-use borrow.Author.Tests.{ne-eqb, le-leb}
-use Rattle.keeping.specs.Keeping.{rowOf}
+use borrow.Author.Tests.{le-ltb}
 use Rattle.limits.specs.Numbers.{allIn}
 use Rattle.tidy_scrolls.specs.declared.Placed.{Placed}
-use Rattle.tidy_scrolls.specs.Ways.{listed, PlacedAll}
-use Rattle.tidy_scrolls.proofs.Turns.{length-listed}
+use Rattle.keeping.specs.Placing.{listed, placingNumber, PlacedAll}
+use Rattle.keeping.proofs.PlacedInColumns.{length-listed}
 use native.Mathlib.Omega.{arith}
 use lib.ListN.{length, length-map}
-use lib.Ieee.{Float, nan, lt, sub}
+use lib.Ieee.{Float, nan}
 use Rattle.picks.specs.Pick.{pick}
 use Rattle.limits.specs.declared.Kind.the-variants.{Beat, Value}
 use Rattle.limits.specs.Numbers.{rangeOf}
-use Rattle.limits.specs.Refusals.{lower, listNumber}
+use Rattle.limits.specs.Refusals.{listNumber}
 use Rattle.limits.proofs.ListTaken.{list-taken}
 use Rattle.order.specs.Order.{run, neverFalls}
 use Rattle.order.specs.Entries.{entries}
+use Rattle.order.proofs.Columns.{length-entries}
 use Rattle.columns.specs.Laying.{refusedBy}
 use Rattle.columns.proofs.Rooms.{refused-by-tests, refused-for-room, taken}
 use Rattle.tidy_rows.specs.RowTidying.{rowKeyAt, onItsRow}
 use Rattle.tidy_rows.specs.Ways.{Laid}
 use Rattle.keeping.specs.Near.{nearTo}
-use Rattle.keeping.specs.Keeping.{placed, fallsWhile, keptOf, keepNumber}
+use Rattle.keeping.specs.Keeping.{rowOf, placed, fallsWhile}
 use Rattle.keeping.specs.Passing.{written}
+use Rattle.keeping.proofs.Answered as answered
 use Rattle.keeping.proofs.InOnePass.{in-one-pass, few-written}
 use Rattle.keeping.proofs.ColumnsPlaced.{never-falls-entries}
 use Rattle.keeping.proofs.NearNothing.{near-nothing}
 use Rattle.tidy_scrolls.specs.ScrollTidying.{tidyScrolls, scrollsNumber, ScrollsTidied}
 use Rattle.tidy_scrolls.specs.Ways.{unheld, writtenFrom}
-
-lower-first : (one other : ℕ) → (one ≡ 0 → ⊥) → one ≤ 6 → (other ≡ 0) ⊎ (other ≡ 6) → lower one other ≡ one
-unfolding lower
-lower-first one other h few (inl e) = rw (ne-eqb one 0 h, e)
-lower-first one other h few (inr e) = rw (ne-eqb one 0 h, e, le-leb one 6 few)
 
 list-few : (long longer even beats values : Bool) → pick {A = ℕ} long 1 (pick longer 1 (pick even (pick beats (pick values 0 4) 3) 2)) ≤ 6
 list-few true longer even beats values = omega arith
@@ -47,46 +42,49 @@ list-few false false true false values = omega arith
 list-few false false true true true = omega arith
 list-few false false true true false = omega arith
 
-none-or-six : (ordered falls : Bool) → (pick {A = ℕ} ordered 0 (pick falls 6 0) ≡ 0) ⊎ (pick {A = ℕ} ordered 0 (pick falls 6 0) ≡ 6)
-none-or-six true falls = inl refl
-none-or-six false true = inr refl
-none-or-six false false = inl refl
-
 module _ (beats values : List Float) where
+  abbrev es : List (Float × Float)
+  es = entries beats values
+
+  abbrev tests : ℕ
+  tests = listNumber (rangeOf Beat) (rangeOf Value) beats values
+
+  tests-few : tests ≤ 6
+  unfolding listNumber
+  tests-few = list-few (ltb 1024 (length beats)) (ltb 1024 (length values)) (eqb (length beats) (length values)) (allIn (rangeOf Beat) beats) (allIn (rangeOf Value) values)
+
   -- refused by the tests of the list
-  pub number-of-list : (listNumber (rangeOf Beat) (rangeOf Value) beats values ≡ 0 → ⊥) → scrollsNumber beats values ≡ listNumber (rangeOf Beat) (rangeOf Value) beats values
-  unfolding scrollsNumber keepNumber listNumber
-  number-of-list h =
-      lower-first (listNumber (rangeOf Beat) (rangeOf Value) beats values) (keepNumber rowKeyAt nearTo (entries beats values)) h
-      (list-few (ltb 1024 (length beats)) (ltb 1024 (length values)) (eqb (length beats) (length values)) (allIn (rangeOf Beat) beats) (allIn (rangeOf Value) values))
-      (none-or-six (neverFalls (rowOf rowKeyAt nearTo) (entries beats values)) (fallsWhile rowKeyAt nearTo [] (entries beats values)))
+  pub number-of-list : (tests ≡ 0 → ⊥) → scrollsNumber beats values ≡ tests
+  unfolding scrollsNumber
+  number-of-list h = answered.tests-first rowKeyAt nearTo es tests h tests-few
 
-  module _ (tests : listNumber (rangeOf Beat) (rangeOf Value) beats values ≡ 0) where
+  module _ (none : tests ≡ 0) where
     pub even-columns : length beats ≡ length values
-    even-columns = list-taken tests .even
+    even-columns = list-taken none .even
 
-    number-then : scrollsNumber beats values ≡ keepNumber rowKeyAt nearTo (entries beats values)
-    unfolding scrollsNumber lower
-    number-then = rw tests
+    few : length es ≤ 1024
+    few = omega (arith, length-entries beats values even-columns, list-taken none .few)
 
-    rows-so : neverFalls rowKeyAt beats ≡ neverFalls (λ (e : Float × Float). rowKeyAt (e .0)) (entries beats values)
-    rows-so = sym (never-falls-entries rowKeyAt nearTo beats values even-columns)
+    rows-so : neverFalls (rowOf rowKeyAt nearTo) es ≡ neverFalls rowKeyAt beats
+    rows-so = never-falls-entries rowKeyAt nearTo beats values even-columns
 
     module _ (ordered : neverFalls rowKeyAt beats ≡ true) where
       pub ordered-number : scrollsNumber beats values ≡ 0
-      ordered-number = number-then ∙ unfold keepNumber in rw (sym rows-so ∙ ordered)
+      unfolding scrollsNumber
+      ordered-number = answered.ordered-number rowKeyAt nearTo es tests none (rows-so ∙ ordered)
 
-      pub ordered-list : tidyScrolls beats values ≡ writtenFrom unheld (entries beats values)
-      unfolding tidyScrolls keptOf
-      ordered-list = rw (sym rows-so ∙ ordered) (ap (map onItsRow) (in-one-pass rowKeyAt nearTo nan near-nothing 0 (unheld .beat, unheld .value) (entries beats values) (sym rows-so ∙ ordered)))
+      pub ordered-list : tidyScrolls beats values ≡ writtenFrom unheld es
+      unfolding tidyScrolls
+      ordered-list = ap (map onItsRow) (answered.ordered-list rowKeyAt nearTo es tests none (rows-so ∙ ordered) ∙ in-one-pass rowKeyAt nearTo nan near-nothing 0 (unheld .beat, unheld .value) es (rows-so ∙ ordered))
 
     module _ (unordered : neverFalls rowKeyAt beats ≡ false) where
-      pub placed-number : (falls : Bool) → falls ≡ fallsWhile rowKeyAt nearTo [] (entries beats values) → scrollsNumber beats values ≡ pick falls 6 0
-      placed-number falls f = number-then ∙ unfold keepNumber in rw (sym rows-so ∙ unordered, f)
+      pub placed-number : (falls : Bool) → falls ≡ fallsWhile rowKeyAt nearTo [] es → scrollsNumber beats values ≡ pick falls 6 0
+      unfolding scrollsNumber placingNumber
+      placed-number falls f = answered.placed-number rowKeyAt nearTo es tests none (rows-so ∙ unordered) few ∙ rw (le-ltb 1024 (length es) few, f)
 
-      pub placed-list : tidyScrolls beats values ≡ map onItsRow (run (placed rowKeyAt nearTo) [] (entries beats values))
-      unfolding tidyScrolls keptOf
-      placed-list = rw (sym rows-so ∙ unordered)
+      pub placed-list : tidyScrolls beats values ≡ map onItsRow (run (placed rowKeyAt nearTo) [] es)
+      unfolding tidyScrolls
+      placed-list = ap (map onItsRow) (answered.placed-list rowKeyAt nearTo es tests none (rows-so ∙ unordered))
 
 -- ---- the outcomes
 module _ (beats values beatsOld valuesOld : List Float) where
@@ -109,7 +107,7 @@ module _ (beats values beatsOld valuesOld : List Float) where
           taken (scrollsNumber beats values) (tidyScrolls beats values) beatsOld valuesOld count beatsNew valuesNew (ordered-number beats values tests ordered) (omega (arith, kept-many)) (c ∙ sym kept-many)
           (rw (ordered-list beats values tests ordered) (l .beatsAre)) (rw (ordered-list beats values tests ordered) (l .valuesAre))
 
-    module _ (unordered : neverFalls rowKeyAt beats ≡ false) (kept : Placed) (keptBeats keptValues : List Float) (so : PlacedAll (entries beats values) kept keptBeats keptValues) where
+    module _ (unordered : neverFalls rowKeyAt beats ≡ false) (kept : Placed) (keptBeats keptValues : List Float) (so : PlacedAll rowKeyAt nearTo (entries beats values) (kept .count) (kept .falls) keptBeats keptValues) where
       pub falls-refused : kept .falls ≡ true → ScrollsTidied beats values (refusedBy 6) beatsOld beatsOld valuesOld valuesOld
       falls-refused f =
           let six : scrollsNumber beats values ≡ 6 = placed-number beats values tests unordered true (sym f ∙ so .falling) in

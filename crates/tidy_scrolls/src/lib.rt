@@ -21,9 +21,9 @@ ghost use Rattle.by_rows.specs.ByMarks.{rowRises};
 ghost use Rattle.keeping.specs.Near.{nearTo};
 ghost use Rattle.keeping.specs.Passing.{comes, passed, written};
 ghost use Rattle.keeping.specs.Changing.{Changed};
-ghost use Rattle.keeping.specs.Searching.{UpTo};
+ghost use Rattle.keeping.specs.Placing.{listed, PlacedOne, PlacedAll};
 ghost use Rattle.tidy_scrolls.specs.ScrollTidying.{ScrollsTidied};
-ghost use Rattle.tidy_scrolls.specs.Ways.{waiting, unheld, writtenFrom, listed, PlacedOne, PlacedAll};
+ghost use Rattle.tidy_scrolls.specs.Ways.{waiting, unheld, writtenFrom};
 
 // ---- entries in order: no working memory
 
@@ -108,7 +108,7 @@ fn count_kept(beats: &[f64], values: &[f64]) -> usize
     let mut count = 0;
     let mut i = 0;
     while i < beats.len() {
-        let row = by_rows::row_key(beats[i]);
+        let row = row_sort::row_key(beats[i]);
         let next = pass(held, row, beats[i], values[i]);
         if writes(held, row) {
             count += 1;
@@ -135,10 +135,10 @@ fn lay_kept(beats: &[f64], values: &[f64], out_beats: &mut [f64], out_values: &m
     let mut count = 0;
     let mut i = 0;
     while i < beats.len() {
-        let row = by_rows::row_key(beats[i]);
+        let row = row_sort::row_key(beats[i]);
         let next = pass(held, row, beats[i], values[i]);
         if writes(held, row) {
-            out_beats[count] = by_rows::on_row(held.beat);
+            out_beats[count] = row_sort::on_row(held.beat);
             out_values[count] = held.value;
             count += 1;
             held = next;
@@ -149,7 +149,7 @@ fn lay_kept(beats: &[f64], values: &[f64], out_beats: &mut [f64], out_values: &m
         i += 1;
     }
     if held.waits {
-        out_beats[count] = by_rows::on_row(held.beat);
+        out_beats[count] = row_sort::on_row(held.beat);
         out_values[count] = held.value;
         return count + 1;
     }
@@ -215,25 +215,6 @@ fn tidy_rising(
 
 // ---- entries in no order: placed one by one in two columns
 
-// How many of the first n beats, whose rows never fall, are on rows up to one.
-fn place_after(beats: &[f64], n: usize, row: u32) -> usize
-    requires { ⌜ n ≤ length (now beats) ⌝ }
-    requires { ⌜ neverFalls rowKeyAt (take n (now beats)) ≡ true ⌝ }
-    ensures { λ r. ⌜ UpTo rowKeyAt nan (take n (now (beats .entry))) row r ⌝ }
-{
-    let mut low = 0;
-    let mut high = n;
-    while low < high {
-        let middle = low + (high - low) / 2;
-        if by_rows::row_key(beats[middle]) <= row {
-            low = middle + 1;
-            continue;
-        }
-        high = middle;
-    }
-    low
-}
-
 // Whether a value is near that at a place of the first n.
 fn near_at(values: &[f64], n: usize, place: usize, value: f64) -> bool
     requires { ⌜ n ≤ length (now values) ⌝ }
@@ -250,10 +231,10 @@ fn change_at(beats: &[f64], values: &[f64], n: usize, beat: f64, value: f64) -> 
     requires { ⌜ neverFalls rowKeyAt (take n (now beats)) ≡ true ⌝ }
     ensures { λ r. ⌜ Changed rowKeyAt nearTo (beat, value) (listed n (now (beats .entry)) (now (values .entry))) r ⌝ }
 {
-    let row = by_rows::row_key(beat);
-    let at = place_after(beats, n, row);
+    let row = row_sort::row_key(beat);
+    let at = by_rows::place_after(&beats[..n], row);
     let last = keeping::place_before(at);
-    let on_row = by_rows::row_key(beats[last]) == row;
+    let on_row = row_sort::row_key(beats[last]) == row;
     keeping::change_of(
         at,
         on_row,
@@ -283,7 +264,7 @@ struct Placed {
 fn place(beats: &mut [f64], values: &mut [f64], n: usize, beat: f64, value: f64) -> Placed
     requires { ⌜ (n < 1024) × (n < length (now beats)) × (length (now beats) ≡ length (now values)) ⌝ }
     requires { ⌜ neverFalls rowKeyAt (take n (now beats)) ≡ true ⌝ }
-    ensures { λ r. ⌜ PlacedOne (beat, value) n (now (beats .entry)) (now (values .entry)) r (now (beats .exit)) (now (values .exit)) ⌝ }
+    ensures { λ r. ⌜ PlacedOne rowKeyAt nearTo (beat, value) n (now (beats .entry)) (now (values .entry)) (r .count) (r .falls) (now (beats .exit)) (now (values .exit)) ⌝ }
 {
     if n == 0 {
         beats[0] = beat;
@@ -319,7 +300,7 @@ fn place_all(
 ) -> Placed
     requires { ⌜ (length (now beats) ≤ 1024) × (length (now beats) ≡ length (now values)) ⌝ }
     requires { ⌜ (length (now beats) ≤ length (now «kept_beats»)) × (length (now «kept_beats») ≡ length (now «kept_values»)) ⌝ }
-    ensures { λ r. ⌜ PlacedAll (entries (now (beats .entry)) (now (values .entry))) r (now («kept_beats» .exit)) (now («kept_values» .exit)) ⌝ }
+    ensures { λ r. ⌜ PlacedAll rowKeyAt nearTo (entries (now (beats .entry)) (now (values .entry))) (r .count) (r .falls) (now («kept_beats» .exit)) (now («kept_values» .exit)) ⌝ }
 {
     let mut kept = Placed {
         count: 0,
@@ -355,7 +336,7 @@ fn lay_rows(
 {
     let mut i = 0;
     while i < count {
-        out_beats[i] = by_rows::on_row(beats[i]);
+        out_beats[i] = row_sort::on_row(beats[i]);
         out_values[i] = values[i];
         i += 1;
     }

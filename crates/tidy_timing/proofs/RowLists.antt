@@ -1,16 +1,13 @@
 -- A row list as assembly writes it passes the tests of the clock and of the lookups: its numbers are taken, and its rows rise strictly, as f64 and as f32. Assumes nothing.
-use Prim.Native.Nat.{ℕ, _≤_, _<_}
+use Prim.Native.Nat.{ℕ, _≤_}
 use mathlib.Core.Path.{_≡_, refl, sym, ap, _∙_}
 use mathlib.Core.Bool.{Bool, true, false}
 use mathlib.Core.List.{List, [], _∷_, map}
-use native.Mathlib.Omega.{arith}
 use borrow.Author.Tests.{lt-ltb, eq-eqb}
-use lib.Dec.{T}
-use lib.IntN.{ℤ, pos, negsuc, natAbs}
-use lib.Signed.{ltZ, mag}
+use lib.Signed.{ltZ}
 use lib.Ieee.{Float, binary32, binary64}
 use Rattle.picks.specs.Pick.{pick}
-use Rattle.rows.specs.Rows.{row, mostRow, allowedBeat}
+use Rattle.rows.specs.Rows.{row}
 use Rattle.rows.proofs.RowWithin.{row-within}
 use Rattle.limits.specs.declared.Range.{Range}
 use Rattle.limits.specs.declared.Kind.the-variants.{Beat, Value, Pause}
@@ -23,6 +20,7 @@ use Rattle.order.specs.Order.{Above, Rises}
 use Rattle.order.specs.Entries.{first, second}
 use Rattle.order.specs.RowKey.{rowKey}
 use Rattle.order.proofs.RowKeys.{rows-below}
+use Rattle.tidy_rows.proofs.RowsRise.{in-i32}
 use Rattle.timing_tests.specs.TimingNumbers.{risesFrom, rises}
 use Rattle.lookup.specs.Lookups.{isBelow, rowsRise, risingNumber}
 use Rattle.assembled_rows.specs.AssembledRows.{assembledRows, assembledNumber}
@@ -30,10 +28,6 @@ use Rattle.assembled_rows.proofs.WrittenRises.{rowKeyIn, written-rises}
 use Rattle.assembled_rows.proofs.WrittenTaken.{written-taken, written-pauses-taken}
 
 -- ---- rows that rise by key rise by the tests
-
-in-i32 : (r : ℤ) → natAbs r ≤ mostRow → mag r < 2147483648
-in-i32 (pos n) h = omega arith
-in-i32 (negsuc n) h = omega arith
 
 -- f64 rows, as the clock compares them
 above-rises : (a : Float) (beats : List Float) → inRange (rangeOf Beat) a ≡ true → allIn (rangeOf Beat) beats ≡ true → Above (rowKeyIn binary64) (rowKeyIn binary64 a) beats → Rises (rowKeyIn binary64) beats → risesFrom (row binary64 a) beats ≡ true

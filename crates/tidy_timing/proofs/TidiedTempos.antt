@@ -29,7 +29,7 @@ use Rattle.tidy_tempos.specs.TempoTidying.{beatKeyOf, fromZero, changes, tidyTe
 use Rattle.timing_tests.specs.TimingNumbers.{rises, startsAtZero}
 use Rattle.assembled_rows.specs.AssembledRows.{narrowedEntry}
 use Rattle.assembled_rows.proofs.InRowOrder.{quantized-below}
-use Rattle.assembled_rows.proofs.QuantizedTaken.{list-passes}
+use Rattle.limits.proofs.ListTaken.{list-passes}
 use Rattle.format_laws.proofs.TemposOnGrid.{OnGrid, Narrowed}
 use Rattle.format_laws.proofs.TidiedOnGrid.{Tidied}
 use Rattle.tidy_timing.proofs.RowLists.{key-rises}

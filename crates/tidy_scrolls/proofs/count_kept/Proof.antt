@@ -1,6 +1,6 @@
-use Rattle.tidy_scrolls.proofs.Turns.{turn-writes, turn-waits, ends-waiting, ends}
 -- `tidy_scrolls::count_kept` counts what the pass would write. Assumes nothing.
-use Rattle.tidy_scrolls.specs.Ways.{waiting, unheld, writtenFrom, listed}
+use Rattle.tidy_scrolls.proofs.Turns.{turn-writes, turn-waits, ends-waiting, ends}
+use Rattle.tidy_scrolls.specs.Ways.{waiting, unheld, writtenFrom}
 use Rattle.keeping.specs.Passing.{written}
 use Rattle.keeping.specs.Near.{nearTo}
 use Rattle.tidy_rows.specs.RowTidying.{rowKeyAt, onItsRow}

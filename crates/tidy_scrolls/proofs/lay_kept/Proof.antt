@@ -1,8 +1,8 @@
+-- `tidy_scrolls::lay_kept` lays what the pass writes. Assumes nothing.
 use mathlib.Core.Path.{refl}
 use mathlib.Core.List.{[]}
 use Rattle.tidy_scrolls.proofs.Turns.{turn-writes, turn-waits, ends-waiting, ends, LayingRows, rows-none, rows-same, rows-room, rows-more, rows-count, rows-all}
--- `tidy_scrolls::lay_kept` lays what the pass writes. Assumes nothing.
-use Rattle.tidy_scrolls.specs.Ways.{waiting, unheld, writtenFrom, listed}
+use Rattle.tidy_scrolls.specs.Ways.{waiting, unheld, writtenFrom}
 use Rattle.keeping.specs.Passing.{written}
 use Rattle.keeping.specs.Near.{nearTo}
 use Rattle.tidy_rows.specs.RowTidying.{rowKeyAt, onItsRow}

@@ -1,20 +1,12 @@
-use Rattle.tidy_scrolls.proofs.Turns.{listed-here, listed-end}
-use lib.ListN.{getD}
-use lib.Ieee.{Float}
-use mathlib.Core.Path.{refl}
-use Rattle.tidy_scrolls.proofs.Turns.{LayingRows, rows-none, rows-room, rows-more, rows-all}
 -- `tidy_scrolls::lay_rows` lays the kept entries, each on its row. Assumes nothing.
-use Rattle.tidy_scrolls.specs.Ways.{waiting, unheld, writtenFrom, listed}
-use Rattle.keeping.specs.Passing.{written}
-use Rattle.keeping.specs.Near.{nearTo}
-use Rattle.tidy_rows.specs.RowTidying.{rowKeyAt, onItsRow}
-use Rattle.order.specs.Entries.{entries, first, second}
-use lib.Ieee.{nan}
-use lib.ListN.{length, drop, length-map}
+use Prim.Native.Nat.{_+_, _-_, _≤_}
+use mathlib.Core.Path.{refl}
 use native.Mathlib.Omega.{arith}
-use mathlib.Core.List.{map}
-use mathlib.Core.Path.{_≡_, sym, ap, _∙_}
-use Prim.Native.Nat.{_+_, _-_, _≤_, _<_}
+use lib.ListN.{drop, getD}
+use lib.Ieee.{Float, nan}
+use Rattle.keeping.specs.Placing.{listed}
+use Rattle.keeping.proofs.PlacedInColumns.{listed-here, listed-end}
+use Rattle.tidy_scrolls.proofs.Turns.{LayingRows, rows-none, rows-more, rows-all}
 use borrow.Author.Needs.{needs}
 use Rattle.tidy_scrolls.proofs.lay_rows.Statement.{statement}
 use Rattle.tidy_scrolls.proofs.lay_rows.Tie as tie
@@ -72,7 +64,7 @@ loop-again c =
     let values = g .args .values .now in
     let i = at .loop .i in
     let whole = listed (g .args .count) beats values in
-    let turn = listed-here (g .args .count) beats values (omega arith) (omega arith) i (omega arith) in
+    let turn = listed-here (g .args .count) beats values (omega arith) (omega arith) i nan nan (omega arith) in
     let e : Float × Float = (getD beats i nan, getD values i nan) in
     (omega arith, rows-more whole (drop i whole) (g .args .out-beats .now) (at .loop .out-beats) (g .args .out-values .now) (at .loop .out-values) i (at .loop .inv .1) e (drop (i + 1) whole) turn (c .before .on-row .result) (getD values i nan) (c .before .on-row .ensures) refl (omega arith) (omega arith))
 

@@ -1,10 +1,10 @@
+-- `tidy_scrolls::pass` meets its contract. Assumes nothing.
 use Rattle.tidy_scrolls.specs.Ways.{waiting}
 use Rattle.keeping.proofs.PassTurns.{passed-later, passed-away, passed-by, passed-over, passed-alone}
 use Rattle.keeping.specs.Near.{nearTo}
 use Rattle.tidy_rows.specs.RowTidying.{rowKeyAt}
 use lib.Ieee.{Float}
 use native.Mathlib.Omega.{arith}
--- `tidy_scrolls::pass` meets its contract. Assumes nothing.
 use mathlib.Core.Path.{sym, _∙_}
 use borrow.Author.Needs.{needs}
 use Rattle.tidy_scrolls.proofs.pass.Statement.{statement}

@@ -1,5 +1,8 @@
 -- `tidy_scrolls::place` writes the first entry, or makes the change. Assumes nothing.
-use Rattle.tidy_scrolls.proofs.Placing.{placed-first, high-fits, placed-later}
+use Rattle.tidy_rows.specs.RowTidying.{rowKeyAt}
+use Rattle.keeping.specs.Near.{nearTo}
+use Rattle.keeping.proofs.PlacedInColumns.{placed-first, high-fits, placed-later}
+use lib.Ieee.{nan}
 use Rattle.keeping.specs.Changing.{countBy}
 use native.Mathlib.Omega.{arith}
 use mathlib.Core.Path.{_≡_, refl, sym, _∙_}
@@ -23,7 +26,7 @@ same-length-2 c = search needs
 returns : tie.Need-returns
 returns c =
     let g = c .before .before .before in
-    placed-first (g .args .beat, g .args .value) (g .args .n) (g .args .beats .now) (g .args .values .now) (c .if1 .taken) (omega arith) (omega arith)
+    rw (c .if1 .taken) (placed-first rowKeyAt nearTo nan nan (g .args .beat, g .args .value) (g .args .beats .now) (g .args .values .now) (omega arith) (omega arith))
 
 change-at-requires : tie.Need-change-at-requires
 change-at-requires c κs = search needs
@@ -31,7 +34,7 @@ change-at-requires c κs = search needs
 value-of-requires : tie.Need-value-of-requires
 value-of-requires c κs =
     let g = c .before .before .before .before .before .before .before in
-    (c .before .change-at .ensures .moving, omega (arith, high-fits (g .args .beat, g .args .value) (g .args .n) (g .args .beats .now) (g .args .values .now) (omega arith) (g .pre .0 .2) (c .before .change-at .result) (c .before .change-at .ensures)))
+    (c .before .change-at .ensures .moving, omega (arith, high-fits rowKeyAt nearTo nan nan (g .args .beat, g .args .value) (g .args .n) (g .args .beats .now) (g .args .values .now) (omega arith) (g .pre .0 .2) (c .before .change-at .result) (c .before .change-at .ensures)))
 
 splice-requires : tie.Need-splice-requires
 splice-requires c κs = search needs
@@ -45,7 +48,7 @@ sub-left c = search needs
 sub-left-2 : tie.Need-sub-left-2
 sub-left-2 c =
     let g = c .before .before .before .before .before .before .before .before .before .before .before .before .before .before .before .before .before in
-    omega (arith, high-fits (g .args .beat, g .args .value) (g .args .n) (g .args .beats .now) (g .args .values .now) (omega arith) (g .pre .0 .2) (c .before .before .before .before .before .before .before .before .before .before .before .change-at .result) (c .before .before .before .before .before .before .before .before .before .before .before .change-at .ensures))
+    omega (arith, high-fits rowKeyAt nearTo nan nan (g .args .beat, g .args .value) (g .args .n) (g .args .beats .now) (g .args .values .now) (omega arith) (g .pre .0 .2) (c .before .before .before .before .before .before .before .before .before .before .before .change-at .result) (c .before .before .before .before .before .before .before .before .before .before .before .change-at .ensures))
 
 add-t24 : tie.Need-add-t24
 add-t24 c = search needs
@@ -59,7 +62,7 @@ same-length-4 c = search needs
 returns-2 : tie.Need-returns-2
 returns-2 c =
     let g = c .before .before .before .before .before .before .before .before .before .before .before .before .before .before .before .before .before .before in
-    rw (c .before .before .before .before .before .before .before .before .splice .ensures, c .before .before .before .before .splice2 .ensures) (placed-later (g .args .beat, g .args .value) (g .args .n) (g .args .beats .now) (g .args .values .now) (omega arith) (g .pre .0 .2) (c .before .before .before .before .before .before .before .before .before .before .before .before .change-at .result) (c .before .before .before .before .before .before .before .before .before .before .before .before .change-at .ensures) (c .before .before .before .before .before .before .before .before .before .before .value-of .result) (c .before .before .before .before .before .before .before .before .before .before .value-of .ensures) _ (rw (c .if2 .taken)) refl)
+    rw (c .before .before .before .before .before .before .before .before .splice .ensures, c .before .before .before .before .splice2 .ensures) (placed-later rowKeyAt nearTo nan nan (g .args .beat, g .args .value) (g .args .n) (g .args .beats .now) (g .args .values .now) (omega arith) (g .pre .0 .2) (c .before .before .before .before .before .before .before .before .before .before .before .before .change-at .result) (c .before .before .before .before .before .before .before .before .before .before .before .before .change-at .ensures) (c .before .before .before .before .before .before .before .before .before .before .value-of .result) (c .before .before .before .before .before .before .before .before .before .before .value-of .ensures) _ _ (rw (c .if2 .taken)) refl)
 
 same-length-5 : tie.Need-same-length-5
 same-length-5 c = search needs
@@ -70,7 +73,7 @@ same-length-6 c = search needs
 returns-3 : tie.Need-returns-3
 returns-3 c =
     let g = c .before .before .before .before .before .before .before .before .before .before .before .before .before .before .before .before .before .before in
-    rw (c .before .before .before .before .before .before .before .before .splice .ensures, c .before .before .before .before .splice2 .ensures) (placed-later (g .args .beat, g .args .value) (g .args .n) (g .args .beats .now) (g .args .values .now) (omega arith) (g .pre .0 .2) (c .before .before .before .before .before .before .before .before .before .before .before .before .change-at .result) (c .before .before .before .before .before .before .before .before .before .before .before .before .change-at .ensures) (c .before .before .before .before .before .before .before .before .before .before .value-of .result) (c .before .before .before .before .before .before .before .before .before .before .value-of .ensures) _ (rw (c .if2 .left) (omega arith)) refl)
+    rw (c .before .before .before .before .before .before .before .before .splice .ensures, c .before .before .before .before .splice2 .ensures) (placed-later rowKeyAt nearTo nan nan (g .args .beat, g .args .value) (g .args .n) (g .args .beats .now) (g .args .values .now) (omega arith) (g .pre .0 .2) (c .before .before .before .before .before .before .before .before .before .before .before .before .change-at .result) (c .before .before .before .before .before .before .before .before .before .before .before .before .change-at .ensures) (c .before .before .before .before .before .before .before .before .before .before .value-of .result) (c .before .before .before .before .before .before .before .before .before .before .value-of .ensures) _ _ (rw (c .if2 .left) (omega arith)) refl)
 
 pub place-spec : {M : Type 1} → statement M
 place-spec =

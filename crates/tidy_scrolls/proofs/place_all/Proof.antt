@@ -1,16 +1,20 @@
 -- `tidy_scrolls::place_all` places entry after entry. Assumes nothing.
 use native.Mathlib.Omega.{arith}
-use mathlib.Core.Path.{_≡_, refl, sym, _∙_}
-use Prim.Native.Nat.{ℕ, _-_}
-use Rattle.tidy_scrolls.proofs.Placing.{PlacingAll, placing-none, beats-stand, placing-falls, placing-more, placing-ends}
+use mathlib.Core.Path.{_≡_, refl, _∙_}
+use Prim.Native.Nat.{_-_, _≤_}
+use Rattle.keeping.proofs.PlacedInColumns.{PlacingAll, placing-none, beats-stand, placing-falls, placing-more, placing-ends}
+use Rattle.tidy_scrolls.proofs.Turns.{at as entry-at, many, here}
+use Rattle.tidy_rows.specs.RowTidying.{rowKeyAt}
+use Rattle.keeping.specs.Near.{nearTo}
+use Rattle.order.specs.Entries.{entries}
+use lib.Ieee.{nan}
 use lib.ListN.{length}
-use Prim.Native.Nat.{_-_}
 use borrow.Author.Needs.{needs}
 use Rattle.tidy_scrolls.proofs.place_all.Statement.{statement}
 use Rattle.tidy_scrolls.proofs.place_all.Tie as tie
 
 abbrev Inv-loop : tie.InvT-loop
-Inv-loop beats values kept-beats₀ kept-values₀ kept₀ i₀ kept-beats kept-values kept i = (length kept-beats ≡ length kept-beats₀) × (length kept-values ≡ length kept-values₀) × PlacingAll beats values kept-beats kept-values kept i
+Inv-loop beats values kept-beats₀ kept-values₀ kept₀ i₀ kept-beats kept-values kept i = (i ≤ length beats) × (length kept-beats ≡ length kept-beats₀) × (length kept-values ≡ length kept-values₀) × PlacingAll rowKeyAt nearTo (entries beats values) kept-beats kept-values (kept .count) (kept .falls) i
 
 abbrev μ-loop : tie.MeasureT-loop
 μ-loop beats values kept-beats₀ kept-values₀ kept₀ i₀ kept-beats kept-values kept i = length beats - i
@@ -18,7 +22,7 @@ abbrev μ-loop : tie.MeasureT-loop
 loop-holds : tie.Need-loop-holds Inv-loop μ-loop
 loop-holds c =
     let g = c .before .before .before .before in
-    (refl, refl, placing-none (g .args .beats .now) (g .args .values .now) (g .pre .0 .1) (g .args .kept-beats .now) (g .args .kept-values .now) (g .pre .1 .1))
+    (omega arith, refl, refl, placing-none rowKeyAt nearTo (entries (g .args .beats .now) (g .args .values .now)) (g .args .kept-beats .now) (g .args .kept-values .now))
 
 same-length : tie.Need-same-length Inv-loop μ-loop
 same-length c = search needs
@@ -30,7 +34,10 @@ returns : tie.Need-returns Inv-loop μ-loop
 returns c =
     let at = c .before .before in
     let g = at .before .before .before .before .before in
-    record { falling = sym (placing-falls (g .args .beats .now) (g .args .values .now) (g .pre .0 .1) (at .loop .kept-beats) (at .loop .kept-values) (at .loop .kept) (at .loop .i) (at .loop .inv .2) (c .if1 .taken) (omega arith)); few = omega arith; all = λ f. let z : _≡_ {A = ℕ} 0 1 = cc in absurd (omega arith) }
+    let beats = g .args .beats .now in
+    let values = g .args .values .now in
+    let same = g .pre .0 .1 in
+    placing-falls rowKeyAt nearTo (entries beats values) (at .loop .kept-beats) (at .loop .kept-values) (at .loop .kept .count) (at .loop .kept .falls) (at .loop .i) (at .loop .inv .3) (entry-at beats values same (at .loop .i)) (nan, nan) (omega (arith, c .before .loop-test .taken, many beats values same)) (here beats values same (at .loop .i)) (c .if1 .taken)
 
 mul-place : tie.Need-mul-place Inv-loop μ-loop
 mul-place c = search needs
@@ -48,7 +55,8 @@ place-requires : tie.Need-place-requires Inv-loop μ-loop
 place-requires c κs =
     let at = c .before .before .before .before .before .before in
     let g = at .before .before .before .before .before in
-    ((omega (arith, at .loop .inv .2 .few), omega (arith, at .loop .inv .2 .few), at .loop .inv .2 .sized), beats-stand (g .args .beats .now) (g .args .values .now) (g .pre .0 .1) (at .loop .kept-beats) (at .loop .kept-values) (at .loop .kept) (at .loop .i) (at .loop .inv .2) (c .before .before .before .before .if1 .left) (omega arith) (omega arith))
+    let p = at .loop .inv .3 in
+    ((omega (arith, p .few), omega (arith, p .few, at .loop .inv .1), omega (arith, at .loop .inv .1, at .loop .inv .2)), beats-stand rowKeyAt nearTo (entries (g .args .beats .now) (g .args .values .now)) (at .loop .kept-beats) (at .loop .kept-values) (at .loop .kept .count) (at .loop .kept .falls) (at .loop .i) p (c .before .before .before .before .if1 .left) (omega (arith, at .loop .inv .1)) (omega (arith, at .loop .inv .1, at .loop .inv .2)))
 
 add-i : tie.Need-add-i Inv-loop μ-loop
 add-i c = search needs
@@ -61,7 +69,11 @@ loop-again c =
     let at = c .before .before .before .before .before .before .before .before .before .before .before in
     let g = at .before .before .before .before .before in
     let p = c .before .before .before .before .place in
-    (p .kept .0 ∙ at .loop .inv .0, p .kept .1 .0 ∙ at .loop .inv .1, placing-more (g .args .beats .now) (g .args .values .now) (g .pre .0 .1) (at .loop .kept-beats) (at .loop .kept-values) (at .loop .kept) (at .loop .i) (at .loop .inv .2) _ _ (p .result) (c .before .before .before .before .before .before .before .before .before .if1 .left) (c .before .before .before .before .before .before .before .before .before .before .loop-test .taken) (p .kept .0) (p .kept .1 .0) (p .ensures))
+    let more = c .before .before .before .before .before .before .before .before .before .before .loop-test .taken in
+    let beats = g .args .beats .now in
+    let values = g .args .values .now in
+    let same = g .pre .0 .1 in
+    (omega (arith, more), p .kept .0 ∙ at .loop .inv .1, p .kept .1 .0 ∙ at .loop .inv .2, placing-more rowKeyAt nearTo (entries beats values) (at .loop .kept-beats) (at .loop .kept-values) (at .loop .kept .count) (at .loop .kept .falls) (at .loop .i) (at .loop .inv .3) (entry-at beats values same (at .loop .i)) (nan, nan) (omega (arith, more, many beats values same)) (here beats values same (at .loop .i)) _ _ _ _ (c .before .before .before .before .before .before .before .before .before .if1 .left) (p .ensures))
 
 same-length-3 : tie.Need-same-length-3 Inv-loop μ-loop
 same-length-3 c = search needs
@@ -73,7 +85,9 @@ returns-2 : tie.Need-returns-2 Inv-loop μ-loop
 returns-2 c =
     let at = c .before in
     let g = at .before .before .before .before .before in
-    placing-ends (g .args .beats .now) (g .args .values .now) (g .pre .0 .1) (at .loop .kept-beats) (at .loop .kept-values) (at .loop .kept) (at .loop .i) (at .loop .inv .2) (omega arith)
+    let beats = g .args .beats .now in
+    let values = g .args .values .now in
+    placing-ends rowKeyAt nearTo (entries beats values) (at .loop .kept-beats) (at .loop .kept-values) (at .loop .kept .count) (at .loop .kept .falls) (at .loop .i) (at .loop .inv .3) (omega (arith, many beats values (g .pre .0 .1)))
 
 pub place-all-spec : {M : Type 1} → statement M
 place-all-spec =
