@@ -1,6 +1,7 @@
 #!/usr/bin/env python3
 """structure.py [--check]: writes docs/STRUCTURE.md and docs/structure.svg from crates.txt, the README's table and the first line of each source file:
-the crates by what they stand on, and for each crate its definitions and its laws. With --check it only says whether both are as they should be."""
+the crates by what they stand on, and for each crate its definitions and its laws. With --check it only says whether both are as they should be, and whether
+crates.txt lists for each crate just the crates that its files name."""
 import html
 import pathlib
 import re
@@ -11,12 +12,47 @@ KIT = {"io", "libc", "check", "bytes", "os", "std"}
 
 
 def crates():
+    """What crates.txt lists of each crate."""
     found = {}
     for line in (root / "crates.txt").read_text().splitlines():
         if ":" in line and not line.startswith("#"):
             name, needs = line.split(":")
-            found[name.strip()] = [need for need in needs.split() if need not in KIT]
+            found[name.strip()] = needs.split()
     return found
+
+
+def named(name, known):
+    """The crates that a crate's own files name: in code as a path, in definitions and proofs by their facade."""
+    found = set()
+    for path in (root / "crates" / name).rglob("*"):
+        if path.suffix == ".rt":
+            text = re.sub(r"//.*", "", path.read_text())
+            found |= set(re.findall(r"\b(\w+)::", text)) | set(re.findall(r"Rattle·(\w+)\.", text))
+        elif path.suffix == ".antt":
+            found |= set(re.findall(r"Rattle·(\w+)\.", re.sub(r"--.*", "", path.read_text())))
+    return (found & known) - {name, "std"}
+
+
+def wrong_lists(listed_of):
+    for name, listed in listed_of.items():
+        used = named(name, set(listed_of) | KIT)
+        for one in sorted(used ^ set(listed)):
+            yield f"{name} names {one}, and crates.txt does not list it" if one in used else f"crates.txt lists {one} for {name}, whose files do not name it"
+
+
+def reached(listed_of):
+    """All that each crate stands on."""
+    found = {}
+
+    def below(name):
+        if name not in found:
+            own = [one for one in listed_of[name] if one in listed_of]
+            found[name] = sorted(set(own).union(*(below(one) for one in own)), key=list(listed_of).index)
+        return found[name]
+
+    for name in listed_of:
+        below(name)
+    return {name: found[name] for name in listed_of}
 
 
 def groups():
@@ -115,7 +151,11 @@ def written(needs, edges, group_of):
 
 
 def main():
-    needs, group_of = crates(), groups()
+    listed_of, group_of = crates(), groups()
+    wrong = list(wrong_lists(listed_of))
+    if wrong:
+        sys.exit("structure: " + "; ".join(wrong))
+    needs = reached(listed_of)
     missing = [name for name in needs if name not in group_of]
     if missing:
         sys.exit(f"structure: the README's table lacks {', '.join(missing)}")

@@ -7,5 +7,4 @@ pub mod WrittenRises
 pub mod WrittenTaken
 pub mod FitsWhenTaken
 pub mod Untested
-pub mod Unique
 pub mod InTwoLoops

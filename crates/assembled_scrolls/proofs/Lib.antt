@@ -3,4 +3,3 @@ pub mod QuantizedTaken
 pub mod Outcomes
 pub mod RisingKeys
 pub mod Untested
-pub mod Unique

@@ -2,4 +2,3 @@ pub mod NarrowedSpeeds
 pub mod QuantizedTaken
 pub mod Outcomes
 pub mod Untested
-pub mod Unique

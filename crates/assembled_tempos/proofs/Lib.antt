@@ -3,3 +3,4 @@ pub mod RowsFit
 pub mod Ends
 pub mod ProcessedColumns
 pub mod WorkColumns
+pub mod OneOutcome

@@ -5,4 +5,3 @@ pub mod TemposOnGrid
 pub mod TidiedOnGrid
 pub mod ValuesF32
 pub mod ListsTaken
-pub mod OneOutcome

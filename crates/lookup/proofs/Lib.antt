@@ -6,3 +6,4 @@ pub mod ManyRows
 pub mod Sentences
 pub mod SameRow
 pub mod FakeSums
+pub mod OneOutcome

@@ -1,4 +1,4 @@
--- What the answers say, as propositions: which entry is tested, when a row is paused, warped and judgable; and that many rows have one outcome. Assumes nothing.
+-- What the answers say, as propositions: which entry is tested, when a row is paused, warped and judgable. Assumes nothing.
 use Prim.Native.Nat.{ℕ, zero, suc, _<_}
 use mathlib.Core.Path.{_≡_, refl, sym, ap, _∙_}
 use mathlib.Core.Bool.{Bool, true, false, not}
@@ -96,14 +96,3 @@ module _ (stopBeats stopValues delayBeats delayValues warpBeats warpLengths fake
       go false false a b k = (a, b)
       go false true a b k = never k
       go true f a b k = never k
-
--- ---- one outcome for many rows
-module _ (tests : ℕ) (judge : ℤ → Bool) (rows : List ℤ) (a b : Outcome) (old newA newB : List ℕ) (x : Judged tests judge rows a old newA) (y : Judged tests judge rows b old newB) where
-  pub one-number : a .number ≡ b .number
-  one-number = x .number ∙ sym (y .number)
-
-  pub one-count : a .count ≡ b .count
-  one-count = x .count ∙ ap (λ (n : ℕ). length (given n rows)) one-number ∙ sym (y .count)
-
-  pub one-room : newA ≡ newB
-  one-room = x .answers ∙ ap (λ (n : ℕ). laid (map (λ (asked : ℤ). byte (judge asked)) (given n rows)) old) one-number ∙ sym (y .answers)

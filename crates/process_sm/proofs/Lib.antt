@@ -1,4 +1,3 @@
 pub mod WorkRoom
-pub mod OneOutcome
 pub mod FewTidied
 pub mod WalkedIntoRooms

@@ -2,3 +2,4 @@ pub mod StayTests
 pub mod TemposTaken
 pub mod Outcomes
 pub mod EachStays
+pub mod OneOutcome

@@ -3,3 +3,4 @@ pub mod Turns
 pub mod DecimalDigits
 pub mod TextSizes
 pub mod WholePage
+pub mod OneOutcome

@@ -4,4 +4,4 @@ pub mod ReportFits
 pub mod ReadReport
 pub mod ByNumber
 pub mod AssembledText
-pub mod OneReport
+pub mod OneOutcome

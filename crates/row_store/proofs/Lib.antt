@@ -8,4 +8,4 @@ pub mod RowMarks
 pub mod RowsInLine
 pub mod FourLists
 pub mod PartRows
-pub mod Unique
+pub mod OneOutcome

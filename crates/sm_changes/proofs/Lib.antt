@@ -4,3 +4,4 @@ pub mod SortedChanges
 pub mod Outcomes
 pub mod EachStays
 pub mod OrderSoFar
+pub mod OneOutcome

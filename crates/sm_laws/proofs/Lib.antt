@@ -4,5 +4,4 @@ pub mod ArrowsKeepOrder
 pub mod ChangesInOrder
 pub mod WrittenInOrder
 pub mod Incident
-pub mod OneOutcome
 pub mod WalkTaken

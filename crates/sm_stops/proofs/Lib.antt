@@ -7,3 +7,4 @@ pub mod TwoByTwo
 pub mod TakenSources
 pub mod SmallNumbers
 pub mod OneFilling
+pub mod OneOutcome

@@ -6,4 +6,3 @@ pub mod RowsRise
 pub mod LastOfEachRow
 pub mod TidiedAgain
 pub mod NoLonger
-pub mod Unique
