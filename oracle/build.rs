@@ -1,8 +1,8 @@
-//! Finds the original and the port's archives.
+//! Finds the original and the port's library.
 //!
 //! `RSSP_SRC` names the folder with timing.rs, bpm.rs and math.rs, from the repository's root; by default it stands beside the repository.
 //! Each file is included whole and unchanged in a module of its name, with a child module `probe`, src/probes/NAME.rs,
-//! which sees the file's private functions. With the feature `port` the port's archives are linked.
+//! which sees the file's private functions. With the feature `port` the port's library is linked.
 
 use std::path::{Path, PathBuf};
 use std::{env, fs};
@@ -39,11 +39,9 @@ fn include_original(here: &Path, root: &Path) {
 
 fn link_port(root: &Path) {
     let folder = root.join("target/native");
+    let library = folder.join("libmarrighentu.a");
+    assert!(library.is_file(), "{} is missing: bindings/native-archive makes it", library.display());
+    println!("cargo::rerun-if-changed={}", library.display());
     println!("cargo::rustc-link-search=native={}", folder.display());
-    for name in ["exports_leaf", "exports", "exports_assembly", "lent_clock"] {
-        let archive = folder.join(format!("lib{name}.a"));
-        assert!(archive.is_file(), "{} is missing: bindings/native-archive {name}", archive.display());
-        println!("cargo::rerun-if-changed={}", archive.display());
-        println!("cargo::rustc-link-lib=static={name}");
-    }
+    println!("cargo::rustc-link-lib=static=marrighentu");
 }

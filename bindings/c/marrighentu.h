@@ -1,11 +1,12 @@
 /*
  * Chart timing for dance games, proved right: the port's functions for C.
  *
- * Link target/native/libNAME.a of exports_leaf, exports, exports_assembly and lent_clock, which `bindings/native-archive NAME` makes.
+ * Link libmarrighentu.a, which `bindings/native-archive` makes in target/native; `bindings/native-archive --pack` packs it with this header.
  *
  * A column is a pointer and its length in numbers. A column that a call reads may be read-only and may be shared; one that it writes may overlap
- * no other. The pointer of an empty column must not be null: any other address will do. That, and that each column is as long as is said, is all
- * that a call asks; no number, list or cursor makes it do anything undefined, and every call returns.
+ * no other. The pointer of an empty column must not be null: any other address will do, and marrighentu_column, or marrighentu::column of a C++ container,
+ * gives one. That, and that each column is as long as is said, is all that a call asks; no number, list or cursor makes it do anything undefined, and
+ * every call returns.
  *
  * A call answers a number: 0 where it is taken, else why it is refused (MARRIGHENTU_TOO_LONG and so on), the lowest that holds. After a refusal
  * every count is 0 and nothing that was lent has changed. A taken call fills the front of its rooms and leaves the rest as it was.
@@ -20,6 +21,23 @@
 #ifdef __cplusplus
 extern "C" {
 #endif
+
+/* The version of this header, and of what is linked: 10,000 times its first number, 100 times its second, and its third. */
+#define MARRIGHENTU_VERSION 100
+#define MARRIGHENTU_VERSION_TEXT "0.1.0"
+uint32_t marrighentu_version(void);
+
+/* The address of a column that may be empty, and so null: the address itself, or another one, from which nothing is read. */
+static inline const void *marrighentu_column(const void *column) {
+    static const double none = 0;
+    return column ? column : &none;
+}
+
+/* The same of a column that is written. */
+static inline void *marrighentu_room(void *room) {
+    static double none;
+    return room ? room : &none;
+}
 
 /* Why a call is refused. */
 enum marrighentu_refusal {
@@ -111,6 +129,15 @@ typedef struct {
     bool own;
 } marrighentu_filled;
 
+/* A number, how many tempos, stops and warps were written, and the seconds that stops before beat 0 come to. */
+typedef struct {
+    uint32_t number;
+    size_t tempos;
+    size_t stops;
+    size_t warps;
+    double offset;
+} marrighentu_processed;
+
 /* A number, how many entries of each list were written, and the seconds to add to the song's offset. */
 typedef struct {
     uint32_t number;
@@ -131,6 +158,50 @@ double marrighentu_note_row_to_beat(int32_t row);
 
 /* The row of a beat: the nearest, of two that are equally near the even one, held at the ends of an int32_t. */
 int32_t marrighentu_beat_to_note_row(double beat);
+
+/* The same at float: a row's beat, and a beat's row. */
+float marrighentu_note_row_to_beat_f32(int32_t row);
+int32_t marrighentu_beat_to_note_row_f32(float beat);
+
+/* A beat moved to its row and back, by way of float as charts are read; and the same of a float. */
+double marrighentu_quantize_beat(double beat);
+float marrighentu_quantize_beat_f32(float beat);
+
+/* The nearest whole number, of two that are equally near the even one, held at the ends of an int32_t; 0 for what is not finite. */
+int32_t marrighentu_lrint_f64(double x);
+int32_t marrighentu_lrint_f32(float x);
+
+/* The nearest float, of two that are equally near the even one. */
+float marrighentu_narrow_f64(double x);
+
+/* Each of these for a column: as far as both columns go, and the rest is left as it was. */
+void marrighentu_each_note_row_to_beat(
+    const int32_t *rows, size_t rows_length,
+    double *beats, size_t beats_length);
+void marrighentu_each_note_row_to_beat_f32(
+    const int32_t *rows, size_t rows_length,
+    float *beats, size_t beats_length);
+void marrighentu_each_beat_to_note_row(
+    const double *beats, size_t beats_length,
+    int32_t *rows, size_t rows_length);
+void marrighentu_each_beat_to_note_row_f32(
+    const float *beats, size_t beats_length,
+    int32_t *rows, size_t rows_length);
+void marrighentu_each_quantize_beat(
+    const double *beats, size_t beats_length,
+    double *quantised, size_t quantised_length);
+void marrighentu_each_quantize_beat_f32(
+    const float *beats, size_t beats_length,
+    float *quantised, size_t quantised_length);
+void marrighentu_each_lrint_f64(
+    const double *from, size_t from_length,
+    int32_t *to, size_t to_length);
+void marrighentu_each_lrint_f32(
+    const float *from, size_t from_length,
+    int32_t *to, size_t to_length);
+void marrighentu_each_narrow_f64(
+    const double *from, size_t from_length,
+    float *to, size_t to_length);
 
 /* ---- assembly */
 
@@ -172,6 +243,62 @@ marrighentu_assembled marrighentu_compute_timing_segments(
     float *out_scroll_values, size_t out_scroll_values_length,
     float *out_fake_beats, size_t out_fake_beats_length,
     float *out_fake_lengths, size_t out_fake_lengths_length);
+
+/* ---- the steps of assembly, each by itself, at double */
+
+/* Entries by their rows: each beat on its row, rows that rise strictly, each with the value that came last. */
+marrighentu_outcome marrighentu_tidy_row_segments(
+    const double *beats, size_t beats_length,
+    const double *values, size_t values_length,
+    double *out_beats, size_t out_beats_length,
+    double *out_values, size_t out_values_length);
+
+/* Changes of tempo: by beat, the last of equal beats, the first at beat 0, none that changes nothing; a tempo of 60 at 0 for none. */
+marrighentu_outcome marrighentu_tidy_bpms(
+    const double *beats, size_t beats_length,
+    const double *tempos, size_t tempos_length,
+    double *out_beats, size_t out_beats_length,
+    double *out_tempos, size_t out_tempos_length);
+
+/* Scrolls, and speeds, of which one that is near the one before it is left out; entries out of order are placed one by one, and may be refused with 6. */
+marrighentu_outcome marrighentu_tidy_scroll_segments(
+    const double *beats, size_t beats_length,
+    const double *values, size_t values_length,
+    double *out_beats, size_t out_beats_length,
+    double *out_values, size_t out_values_length);
+marrighentu_outcome marrighentu_tidy_speed_segments(
+    const double *beats, size_t beats_length,
+    const double *ratios, size_t ratios_length,
+    const double *delays, size_t delays_length,
+    const uint8_t *units, size_t units_length,
+    double *out_beats, size_t out_beats_length,
+    double *out_ratios, size_t out_ratios_length,
+    double *out_delays, size_t out_delays_length,
+    uint8_t *out_units, size_t out_units_length);
+
+/* Tempos and stops as an SSC chart has them: those that are positive, and no warps. */
+marrighentu_processed marrighentu_process_bpms_and_stops_ssc(
+    const double *tempo_beats, size_t tempo_beats_length,
+    const double *tempo_values, size_t tempo_values_length,
+    const double *stop_beats, size_t stop_beats_length,
+    const double *stop_values, size_t stop_values_length,
+    double *out_tempo_beats, size_t out_tempo_beats_length,
+    double *out_tempo_values, size_t out_tempo_values_length,
+    double *out_stop_beats, size_t out_stop_beats_length,
+    double *out_stop_values, size_t out_stop_values_length);
+
+/* Tempos and stops as an SM chart has them, with the warps that negative and fast tempos and negative stops become. */
+marrighentu_processed marrighentu_process_bpms_and_stops_sm(
+    const double *tempo_beats, size_t tempo_beats_length,
+    const double *tempo_values, size_t tempo_values_length,
+    const double *stop_beats, size_t stop_beats_length,
+    const double *stop_values, size_t stop_values_length,
+    double *out_tempo_beats, size_t out_tempo_beats_length,
+    double *out_tempo_values, size_t out_tempo_values_length,
+    double *out_stop_beats, size_t out_stop_beats_length,
+    double *out_stop_values, size_t out_stop_values_length,
+    double *out_warp_beats, size_t out_warp_beats_length,
+    double *out_warp_lengths, size_t out_warp_lengths_length);
 
 /* ---- the clock
  *
@@ -256,6 +383,47 @@ marrighentu_answer marrighentu_get_time_for_beat(
     const float *warp_lengths, size_t warp_lengths_length,
     double offset, double global_offset,
     double beat);
+
+/* The questions and the run by a cursor that goes in by value and comes back with the answer. */
+marrighentu_answer marrighentu_time_for_beat(
+    marrighentu_cursor cursor,
+    const float *tempo_beats, size_t tempo_beats_length,
+    const float *tempo_values, size_t tempo_values_length,
+    const float *stop_beats, size_t stop_beats_length,
+    const float *stop_values, size_t stop_values_length,
+    const float *delay_beats, size_t delay_beats_length,
+    const float *delay_values, size_t delay_values_length,
+    const float *warp_beats, size_t warp_beats_length,
+    const float *warp_lengths, size_t warp_lengths_length,
+    double offset, double global_offset,
+    double beat);
+marrighentu_answer marrighentu_time_for_beat_checked(
+    marrighentu_cursor cursor,
+    const float *tempo_beats, size_t tempo_beats_length,
+    const float *tempo_values, size_t tempo_values_length,
+    const float *stop_beats, size_t stop_beats_length,
+    const float *stop_values, size_t stop_values_length,
+    const float *delay_beats, size_t delay_beats_length,
+    const float *delay_values, size_t delay_values_length,
+    const float *warp_beats, size_t warp_beats_length,
+    const float *warp_lengths, size_t warp_lengths_length,
+    double offset, double global_offset,
+    double beat);
+marrighentu_made marrighentu_run(
+    marrighentu_cursor cursor,
+    const float *tempo_beats, size_t tempo_beats_length,
+    const float *tempo_values, size_t tempo_values_length,
+    const float *stop_beats, size_t stop_beats_length,
+    const float *stop_values, size_t stop_values_length,
+    const float *delay_beats, size_t delay_beats_length,
+    const float *delay_values, size_t delay_values_length,
+    const float *warp_beats, size_t warp_beats_length,
+    const float *warp_lengths, size_t warp_lengths_length,
+    double offset, double global_offset,
+    const double *beats, size_t beats_length,
+    uint32_t *numbers, size_t numbers_length,
+    double *times, size_t times_length,
+    size_t *counts, size_t counts_length);
 
 /* ---- lookups: which notes are judged */
 
@@ -375,10 +543,22 @@ MARRIGHENTU_LAYOUT(sizeof(marrighentu_looked) == 8 && offsetof(marrighentu_looke
 MARRIGHENTU_LAYOUT(sizeof(marrighentu_outcome) == 16 && offsetof(marrighentu_outcome, count) == 8);
 MARRIGHENTU_LAYOUT(sizeof(marrighentu_stored) == 40 && offsetof(marrighentu_stored, fakes) == 32);
 MARRIGHENTU_LAYOUT(sizeof(marrighentu_filled) == 24 && offsetof(marrighentu_filled, own) == 16);
+MARRIGHENTU_LAYOUT(sizeof(marrighentu_processed) == 40 && offsetof(marrighentu_processed, warps) == 24 && offsetof(marrighentu_processed, offset) == 32);
 MARRIGHENTU_LAYOUT(sizeof(marrighentu_assembled) == 72 && offsetof(marrighentu_assembled, offset) == 64);
 
 #ifdef __cplusplus
 }
+
+namespace marrighentu {
+
+/* The address of a container's numbers, as marrighentu_column has it: data() of an empty vector may be null. */
+template <typename Container>
+inline auto column(Container &numbers) -> decltype(numbers.data()) {
+    alignas(8) static unsigned char none[8];
+    return numbers.data() ? numbers.data() : reinterpret_cast<decltype(numbers.data())>(none);
+}
+
+} // namespace marrighentu
 #endif
 
 #endif

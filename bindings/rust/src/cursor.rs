@@ -38,9 +38,78 @@ pub struct Cursor<'timing> {
     at: ffi::Cursor,
 }
 
+/// A cursor without its timing: 64 plain bytes, which a player keeps beside the timing in one struct. The timing is named at each question, and a
+/// state of another one is refused.
+///
+/// ```
+/// use marrighentu::{Chart, CursorState, Format, Refusal, Timing};
+///
+/// struct Player {
+///     timing: Timing,
+///     at: CursorState,
+/// }
+///
+/// let chart = Chart { tempos: vec![(0.0, 120.0)], ..Chart::default() };
+/// let timing = Timing::assemble(Format::Ssc, &chart, 0.0, 0.0)?;
+/// let at = timing.cursor().detach();
+/// let mut player = Player { timing, at };
+/// assert_eq!(player.at.time_for_beat(&player.timing, 4.0)?, 2.0);
+///
+/// let other = Timing::assemble(Format::Ssc, &chart, 0.5, 0.0)?;
+/// assert_eq!(player.at.time_for_beat(&other, 4.0), Err(Refusal::BadCursor));
+/// # Ok::<(), Refusal>(())
+/// ```
+#[derive(Clone, Copy, Debug, PartialEq)]
+pub struct CursorState {
+    state: ffi::State,
+    asked: i32,
+    /// which timing it belongs to
+    of: u32,
+}
+
+const _: () = assert!(size_of::<CursorState>() == 64);
+
+impl CursorState {
+    /// The cursor that asks this timing from here on.
+    ///
+    /// # Errors
+    /// [`Refusal::BadCursor`] where the state is one of another timing.
+    pub fn attach(self, timing: &Timing) -> Result<Cursor<'_>, Refusal> {
+        if self.of != timing.number {
+            return Err(Refusal::BadCursor);
+        }
+        Ok(Cursor { timing, at: ffi::Cursor { state: self.state, asked: self.asked } })
+    }
+
+    /// At what time is this beat? As [`Cursor::time_for_beat`].
+    ///
+    /// # Errors
+    /// [`Refusal::BadBeat`] for a beat that is not within -65,536 to 65,536; [`Refusal::BadCursor`] for another timing than its own.
+    pub fn time_for_beat(&mut self, timing: &Timing, beat: f64) -> Result<f64, Refusal> {
+        self.ask(timing, beat).map(|answer| answer.time)
+    }
+
+    /// The same with the number of steps.
+    ///
+    /// # Errors
+    /// As [`time_for_beat`](CursorState::time_for_beat).
+    pub fn ask(&mut self, timing: &Timing, beat: f64) -> Result<Answer, Refusal> {
+        let mut cursor = self.attach(timing)?;
+        let answer = cursor.ask(beat);
+        *self = cursor.detach();
+        answer
+    }
+}
+
 impl<'timing> Cursor<'timing> {
     pub(crate) fn fresh(timing: &'timing Timing) -> Cursor<'timing> {
         Cursor { timing, at: ffi::cursor_new(timing.offset(), timing.global_offset()).cursor }
+    }
+
+    /// Its state, to be kept without a borrow of the timing.
+    #[must_use]
+    pub fn detach(self) -> CursorState {
+        CursorState { state: self.at.state, asked: self.at.asked, of: self.timing.number }
     }
 
     /// The timing that is asked.
@@ -81,10 +150,44 @@ impl<'timing> Cursor<'timing> {
     /// Each beat of a list, in its order. A refused beat does not stop the ones after it.
     #[must_use]
     pub fn ask_all(&mut self, beats: &[f64]) -> Vec<Result<Answer, Refusal>> {
-        let t = self.timing;
         let mut numbers = vec![0; beats.len()];
         let mut times = vec![0.0; beats.len()];
         let mut counts = vec![0; beats.len()];
+        if let Err(refusal) = self.times_into(beats, &mut numbers, &mut times, &mut counts) {
+            return vec![Err(refusal); beats.len()];
+        }
+        numbers
+            .into_iter()
+            .zip(times)
+            .zip(counts)
+            .map(|((number, time), steps)| taken(number, Answer { time, steps }))
+            .collect()
+    }
+
+    /// Each beat of a list into the caller's own columns: the number of its refusal or 0, its second, its steps. Nothing is allocated. A beat that is refused has
+    /// the second 0 and no steps, and does not stop the ones after it; what a column has beyond the beats stays as it was.
+    ///
+    /// ```
+    /// use marrighentu::{Chart, Format, Timing};
+    ///
+    /// let chart = Chart { tempos: vec![(0.0, 120.0)], ..Chart::default() };
+    /// let timing = Timing::assemble(Format::Ssc, &chart, 0.0, 0.0)?;
+    /// let (mut numbers, mut times, mut steps) = ([0; 3], [0.0; 3], [0; 3]);
+    /// timing.cursor().times_into(&[2.0, 1e9, 4.0], &mut numbers, &mut times, &mut steps)?;
+    /// assert_eq!((numbers, times, steps), ([0, 3, 0], [1.0, 0.0, 2.0], [2, 0, 1]));
+    /// # Ok::<(), marrighentu::Refusal>(())
+    /// ```
+    ///
+    /// # Errors
+    /// [`Refusal::NoRoom`] where a column is shorter than the beats; nothing is written then, and the cursor stays.
+    pub fn times_into(
+        &mut self,
+        beats: &[f64],
+        numbers: &mut [u32],
+        times: &mut [f64],
+        steps: &mut [usize],
+    ) -> Result<(), Refusal> {
+        let t = self.timing;
         let number = ffi::run(
             &mut self.at,
             &t.tempos,
@@ -94,19 +197,11 @@ impl<'timing> Cursor<'timing> {
             t.offset,
             t.global,
             beats,
-            &mut numbers,
-            &mut times,
-            &mut counts,
+            numbers,
+            times,
+            steps,
         );
-        if let Err(refusal) = taken(number, ()) {
-            return vec![Err(refusal); beats.len()];
-        }
-        numbers
-            .into_iter()
-            .zip(times)
-            .zip(counts)
-            .map(|((number, time), steps)| taken(number, Answer { time, steps }))
-            .collect()
+        taken(number, ())
     }
 }
 

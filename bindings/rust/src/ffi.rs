@@ -134,6 +134,7 @@ macro_rules! calls {
 }
 
 calls! {
+    fn version() -> u32 = "marrighentu_version";
     fn note_row_to_beat(value row: i32) -> f64 = "marrighentu_note_row_to_beat";
     fn beat_to_note_row(value beat: f64) -> i32 = "marrighentu_beat_to_note_row";
     fn compute_timing_segments(

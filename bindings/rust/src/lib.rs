@@ -19,19 +19,31 @@
 //!
 //! What is proved ends at the C functions that this crate calls. Its own code, which lends columns to them and reads their answers, is tested.
 
+#![deny(missing_docs)]
+
 mod cursor;
 mod ffi;
 mod lists;
 mod refusal;
 mod timing;
 
-pub use cursor::{Answer, Cursor};
-pub use lists::{Chart, Columns, Format, Lists, Speed, SpeedUnit};
-pub use refusal::Refusal;
+pub use cursor::{Answer, Cursor, CursorState};
+pub use lists::{Chart, Columns, Entries, Format, Lists, Speed, SpeedUnit};
+pub use refusal::{NoRefusal, Refusal};
 pub use timing::{RowStore, Timing};
 
 /// Rows to a beat.
 pub const ROWS_PER_BEAT: i32 = 48;
+
+/// The version of the functions that are linked: 10,000 times its first number, 100 times its second, and its third.
+///
+/// ```
+/// assert_eq!(marrighentu::linked_version(), 100);
+/// ```
+#[must_use]
+pub fn linked_version() -> u32 {
+    ffi::version()
+}
 
 /// The beat of a row.
 ///

@@ -1,5 +1,8 @@
 //! A chart's lists, as they are written and as they are timed.
 
+use std::iter::Zip;
+use std::slice;
+
 /// The file format of a chart, which decides how its tempos and stops are read.
 #[derive(Clone, Copy, Debug, PartialEq, Eq, Hash)]
 pub enum Format {
@@ -21,8 +24,10 @@ impl Format {
 /// What a speed's delay is counted in.
 #[derive(Clone, Copy, Debug, PartialEq, Eq, Hash, Default)]
 pub enum SpeedUnit {
+    /// Beats of the chart.
     #[default]
     Beats,
+    /// Seconds of the song.
     Seconds,
 }
 
@@ -42,9 +47,13 @@ impl SpeedUnit {
 /// A speed as a chart gives it (`f64`), or as it is timed (`f32`).
 #[derive(Clone, Copy, Debug, PartialEq, Default)]
 pub struct Speed<Number> {
+    /// Where it begins.
     pub beat: Number,
+    /// How fast notes come from then on; 1 is as usual.
     pub ratio: Number,
+    /// How long it takes to get there.
     pub delay: Number,
+    /// What that is counted in.
     pub unit: SpeedUnit,
 }
 
@@ -53,12 +62,19 @@ pub struct Speed<Number> {
 /// Tempos are beats a minute; stops and delays seconds; warps and fakes beats.
 #[derive(Clone, Debug, PartialEq, Default)]
 pub struct Chart {
+    /// Beats a minute.
     pub tempos: Vec<(f64, f64)>,
+    /// Seconds; notes on the beat come before the stop.
     pub stops: Vec<(f64, f64)>,
+    /// Seconds; notes on the beat come after the delay.
     pub delays: Vec<(f64, f64)>,
+    /// Beats that are skipped.
     pub warps: Vec<(f64, f64)>,
+    /// How fast notes come.
     pub speeds: Vec<Speed<f64>>,
+    /// How far apart notes are drawn; 1 is as usual.
     pub scrolls: Vec<(f64, f64)>,
+    /// Beats whose notes are not judged.
     pub fakes: Vec<(f64, f64)>,
 }
 
@@ -81,35 +97,81 @@ impl<Number: Copy> Columns<Number> {
         self.beats.len()
     }
 
+    /// Whether there is none.
     #[must_use]
     pub fn is_empty(&self) -> bool {
         self.beats.is_empty()
     }
 
+    /// The beats, in the order of the entries.
     #[must_use]
     pub fn beats(&self) -> &[Number] {
         &self.beats
     }
 
+    /// The values, in the order of the entries.
     #[must_use]
     pub fn values(&self) -> &[Number] {
         &self.values
     }
 
     /// The entries as pairs of a beat and a value.
-    pub fn iter(&self) -> impl DoubleEndedIterator<Item = (Number, Number)> + ExactSizeIterator + '_ {
-        self.beats.iter().copied().zip(self.values.iter().copied())
+    #[must_use]
+    pub fn iter(&self) -> Entries<'_, Number> {
+        Entries { left: self.beats.iter().zip(self.values.iter()) }
+    }
+}
+
+/// The entries of a list, one after the other: [`Columns::iter`].
+#[derive(Clone, Debug)]
+pub struct Entries<'list, Number> {
+    left: Zip<slice::Iter<'list, Number>, slice::Iter<'list, Number>>,
+}
+
+impl<Number: Copy> Iterator for Entries<'_, Number> {
+    type Item = (Number, Number);
+
+    fn next(&mut self) -> Option<(Number, Number)> {
+        self.left.next().map(|(beat, value)| (*beat, *value))
+    }
+
+    fn size_hint(&self) -> (usize, Option<usize>) {
+        self.left.size_hint()
+    }
+}
+
+impl<Number: Copy> DoubleEndedIterator for Entries<'_, Number> {
+    fn next_back(&mut self) -> Option<(Number, Number)> {
+        self.left.next_back().map(|(beat, value)| (*beat, *value))
+    }
+}
+
+impl<Number: Copy> ExactSizeIterator for Entries<'_, Number> {}
+
+impl<'list, Number: Copy> IntoIterator for &'list Columns<Number> {
+    type Item = (Number, Number);
+    type IntoIter = Entries<'list, Number>;
+
+    fn into_iter(self) -> Entries<'list, Number> {
+        self.iter()
     }
 }
 
 /// The seven lists of a timing, tidy: in order, each row once, as the clock and the lookups take them.
 #[derive(Clone, Debug, PartialEq, Default)]
 pub struct Lists {
+    /// Beats a minute.
     pub tempos: Vec<(f32, f32)>,
+    /// Seconds; notes on the beat come before the stop.
     pub stops: Vec<(f32, f32)>,
+    /// Seconds; notes on the beat come after the delay.
     pub delays: Vec<(f32, f32)>,
+    /// Beats that are skipped.
     pub warps: Vec<(f32, f32)>,
+    /// How fast notes come.
     pub speeds: Vec<Speed<f32>>,
+    /// How far apart notes are drawn; 1 is as usual.
     pub scrolls: Vec<(f32, f32)>,
+    /// Beats whose notes are not judged.
     pub fakes: Vec<(f32, f32)>,
 }

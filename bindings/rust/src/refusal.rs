@@ -7,7 +7,18 @@ use std::fmt;
 ///
 /// Where several reasons hold, the one with the lowest number is given; only warps that become too many once a chart's own are added to the
 /// given ones are seen after values, and are [`TooLong`](Refusal::TooLong) too.
+///
+/// Later versions may have more reasons.
+///
+/// ```
+/// use marrighentu::Refusal;
+///
+/// assert_eq!(Refusal::try_from(3), Ok(Refusal::BadBeat));
+/// assert!(Refusal::try_from(0).is_err());
+/// assert_eq!(u32::from(Refusal::NoRoom), 7);
+/// ```
 #[derive(Clone, Copy, Debug, PartialEq, Eq, Hash)]
+#[non_exhaustive]
 #[repr(u32)]
 pub enum Refusal {
     /// A list has more than 1,024 entries, or given and made warps together have.
@@ -60,12 +71,42 @@ impl Refusal {
     }
 }
 
-/// What a call answered, where its number is 0.
-pub(crate) fn taken<T>(number: u32, answer: T) -> Result<T, Refusal> {
-    match Refusal::from_number(number) {
-        None => Ok(answer),
-        Some(refusal) => Err(refusal),
+/// A number that is no refusal's: 0, which is taken, or one that is not given.
+#[derive(Clone, Copy, Debug, PartialEq, Eq, Hash)]
+pub struct NoRefusal(pub u32);
+
+impl fmt::Display for NoRefusal {
+    fn fmt(&self, f: &mut fmt::Formatter<'_>) -> fmt::Result {
+        write!(f, "{} is the number of no refusal", self.0)
     }
+}
+
+impl Error for NoRefusal {}
+
+impl TryFrom<u32> for Refusal {
+    type Error = NoRefusal;
+
+    fn try_from(number: u32) -> Result<Refusal, NoRefusal> {
+        Refusal::from_number(number).ok_or(NoRefusal(number))
+    }
+}
+
+impl From<Refusal> for u32 {
+    fn from(refusal: Refusal) -> u32 {
+        refusal.number()
+    }
+}
+
+/// What a call answered, where its number is 0.
+///
+/// # Panics
+/// Where the number is none that the port gives, so that another library than the port was linked.
+#[inline]
+pub(crate) fn taken<T>(number: u32, answer: T) -> Result<T, Refusal> {
+    if number == 0 {
+        return Ok(answer);
+    }
+    Err(Refusal::try_from(number).expect("the linked library gives numbers that this crate knows"))
 }
 
 impl fmt::Display for Refusal {

@@ -4,6 +4,7 @@ use crate::cursor::Cursor;
 use crate::ffi;
 use crate::lists::{Chart, Columns, Format, Lists, Speed, SpeedUnit};
 use crate::refusal::{Refusal, taken};
+use std::sync::atomic::{AtomicU32, Ordering};
 
 /// The most entries that a list may have.
 const MOST_ENTRIES: usize = 1_024;
@@ -11,7 +12,7 @@ const MOST_ENTRIES: usize = 1_024;
 /// The seven lists of a chart as the clock and the lookups take them, and its offsets.
 ///
 /// Its lists are tested once, when it is made, and can't change after that.
-#[derive(Clone, Debug, PartialEq)]
+#[derive(Clone, Debug)]
 pub struct Timing {
     pub(crate) tempos: Columns<f32>,
     pub(crate) stops: Columns<f32>,
@@ -22,6 +23,21 @@ pub struct Timing {
     fakes: Columns<f32>,
     pub(crate) offset: f64,
     pub(crate) global: f64,
+    /// by which a cursor's state knows its timing; a clone has the same
+    pub(crate) number: u32,
+}
+
+/// Two timings are equal where their lists and offsets are.
+impl PartialEq for Timing {
+    fn eq(&self, other: &Timing) -> bool {
+        self.lists() == other.lists() && self.offset == other.offset && self.global == other.global
+    }
+}
+
+/// Another number for each timing that is made, until they have all been given.
+fn next_number() -> u32 {
+    static NEXT: AtomicU32 = AtomicU32::new(0);
+    NEXT.fetch_add(1, Ordering::Relaxed)
 }
 
 /// The rows of stops, delays, warps and fakes, one list behind another.
@@ -145,6 +161,7 @@ impl Timing {
             fakes: front(out_fakes, made.fakes),
             offset: song_offset + f64::from(made.offset),
             global: global_offset,
+            number: next_number(),
         }
         .checked()
     }
@@ -165,6 +182,7 @@ impl Timing {
             fakes: Columns::of(&lists.fakes),
             offset,
             global: global_offset,
+            number: next_number(),
         }
         .checked()
     }
@@ -174,39 +192,69 @@ impl Timing {
         taken(number, self)
     }
 
+    /// The tempos: beats a minute.
     #[must_use]
     pub fn tempos(&self) -> &Columns<f32> {
         &self.tempos
     }
 
+    /// The stops: seconds.
     #[must_use]
     pub fn stops(&self) -> &Columns<f32> {
         &self.stops
     }
 
+    /// The delays: seconds.
     #[must_use]
     pub fn delays(&self) -> &Columns<f32> {
         &self.delays
     }
 
+    /// The warps: beats.
     #[must_use]
     pub fn warps(&self) -> &Columns<f32> {
         &self.warps
     }
 
+    /// The speeds.
     #[must_use]
     pub fn speeds(&self) -> &[Speed<f32>] {
         &self.speeds
     }
 
+    /// The scrolls.
     #[must_use]
     pub fn scrolls(&self) -> &Columns<f32> {
         &self.scrolls
     }
 
+    /// The fakes: beats.
     #[must_use]
     pub fn fakes(&self) -> &Columns<f32> {
         &self.fakes
+    }
+
+    /// All seven lists, as [`from_lists`](Timing::from_lists) takes them again.
+    ///
+    /// ```
+    /// use marrighentu::{Chart, Format, Timing};
+    ///
+    /// let chart = Chart { stops: vec![(4.0, 1.0)], ..Chart::default() };
+    /// let timing = Timing::assemble(Format::Ssc, &chart, 0.5, 0.0)?;
+    /// assert_eq!(Timing::from_lists(&timing.lists(), timing.offset(), timing.global_offset())?, timing);
+    /// # Ok::<(), marrighentu::Refusal>(())
+    /// ```
+    #[must_use]
+    pub fn lists(&self) -> Lists {
+        Lists {
+            tempos: self.tempos.iter().collect(),
+            stops: self.stops.iter().collect(),
+            delays: self.delays.iter().collect(),
+            warps: self.warps.iter().collect(),
+            speeds: self.speeds.clone(),
+            scrolls: self.scrolls.iter().collect(),
+            fakes: self.fakes.iter().collect(),
+        }
     }
 
     /// The song's offset and what SM's stops before beat 0 add to it, in seconds.
@@ -346,6 +394,12 @@ impl Timing {
         let flat = if filled.own { stops } else { work };
         let count = if filled.own { self.stops.len() } else { filled.count };
         Ok(flat.chunks_exact(2).take(count).map(|entry| (entry[0], entry[1])).collect())
+    }
+}
+
+impl From<&Timing> for Lists {
+    fn from(timing: &Timing) -> Lists {
+        timing.lists()
     }
 }
 

@@ -7,6 +7,14 @@ ghost use Rattle.ieee.specs.Narrowing.{narrow};
 ghost use Rattle.rows.specs.Rows.{row, beatOf, quantized, quantized32};
 ghost use Rattle.columns.specs.Each.{laidEach};
 
+// The version of what is linked: 10,000 times its first number, 100 times its second, and its third.
+#[no_mangle]
+pub extern "C" fn marrighentu_version() -> u32
+    ensures { λ r. ⌜ r ≡ 100 ⌝ }
+{
+    100
+}
+
 #[no_mangle]
 pub extern "C" fn marrighentu_lrint_f64(x: f64) -> i32
     ensures { λ r. ⌜ r ≡ hold (rint x) ⌝ }
