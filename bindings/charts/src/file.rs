@@ -67,15 +67,27 @@ impl ChartFile {
     }
 
     /// Reads a file of a format that is known, as by its name.
+    ///
+    /// ```
+    /// use marrighentu::Format;
+    /// use marrighentu_charts::ChartFile;
+    ///
+    /// // SM plays a negative stop as a warp, SSC leaves it out
+    /// let warps = |format| {
+    ///     let read = ChartFile::read_as(format, b"#BPMS:0=120;#STOPS:4=-1;").timing().expect("numbers");
+    ///     read.assemble(0.0).expect("small numbers").warps().len()
+    /// };
+    /// assert_eq!((warps(Format::Sm), warps(Format::Ssc)), (1, 0));
+    /// ```
     #[must_use]
     pub fn read_as(format: Format, bytes: &[u8]) -> ChartFile {
         ChartFile::scanned(Some(format), bytes)
     }
 
     fn scanned(format: Option<Format>, bytes: &[u8]) -> ChartFile {
-        let places = Places::of(bytes);
         let mut text = bytes.to_vec();
         tags::blank_comments(&mut text);
+        let places = Places::of(&text);
         let (tags, loose) = tags::scan(&text);
         let format = format.unwrap_or_else(|| {
             let ssc = tags.iter().any(|tag| tag.is(Known::Version) || tag.is(Known::NoteData));
@@ -233,6 +245,11 @@ impl ChartFile {
     }
 
     /// The value of a tag before the first chart, without the backslashes that hold characters. Its name may be in letters of either size.
+    ///
+    /// ```
+    /// let file = marrighentu_charts::ChartFile::read(br"#Artist: A\:B ;");
+    /// assert_eq!((file.tag("ARTIST"), file.tag("CREDIT")), (Some("A:B".to_string()), None));
+    /// ```
     #[must_use]
     pub fn tag(&self, name: &str) -> Option<String> {
         self.named(self.header.clone(), name)
@@ -258,6 +275,13 @@ impl ChartFile {
     }
 
     /// A chart by its number, counted from 1.
+    ///
+    /// ```
+    /// let file = marrighentu_charts::ChartFile::read(b"#NOTEDATA:;#METER:3;#NOTEDATA:;#METER:9;");
+    /// assert_eq!(file.chart(2).map(|chart| chart.meter()), Some("9".to_string()));
+    /// assert!(file.chart(0).is_none() && file.chart(3).is_none());
+    /// assert_eq!(file.charts().len(), 2);
+    /// ```
     #[must_use]
     pub fn chart(&self, number: usize) -> Option<ChartText<'_>> {
         (1..=self.charts.len()).contains(&number).then_some(ChartText { file: self, number })
@@ -346,6 +370,19 @@ fn strict((read, faults): (ChartTiming, Vec<Fault>)) -> Result<ChartTiming, Faul
 }
 
 /// One chart of a file.
+///
+/// ```
+/// use marrighentu_charts::ChartFile;
+///
+/// let file = ChartFile::read(b"#VERSION:0.83;#OFFSET:1;#BPMS:0=120;\n#NOTEDATA:;#LABELS:0=a;\n#NOTEDATA:;#METER:9;");
+/// let charts: Vec<_> = file.charts().collect();
+/// assert_eq!((charts[0].number(), charts[0].line(), charts[1].line()), (1, 2, 3));
+/// // a label is timing of its own, without a tempo; the offset is the file's
+/// assert!(charts[0].has_own_timing() && !charts[1].has_own_timing());
+/// assert_eq!((charts[0].timing()?.chart().tempos.len(), charts[0].timing()?.offset()), (0, 1.0));
+/// assert_eq!(charts[1].timing()?.chart().tempos, [(0.0, 120.0)]);
+/// # Ok::<(), marrighentu_charts::Fault>(())
+/// ```
 #[derive(Clone, Copy, Debug)]
 pub struct ChartText<'file> {
     file: &'file ChartFile,

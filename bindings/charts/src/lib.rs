@@ -52,6 +52,8 @@
 //!
 //! Reading takes time in proportion to the file's size; a list of tempos that are not in order is sorted.
 
+#![deny(missing_docs)]
+
 mod file;
 mod lists;
 mod notes;

@@ -4,6 +4,12 @@ use marrighentu::{beat_to_note_row, note_row_to_beat};
 use std::ops::Range;
 
 /// What a note is.
+///
+/// ```
+/// use marrighentu_charts::NoteKind;
+///
+/// assert_eq!((NoteKind::Mine.letter(), NoteKind::Mine.name()), ('M', "mine"));
+/// ```
 #[derive(Clone, Copy, Debug, PartialEq, Eq, Hash)]
 pub enum NoteKind {
     /// `1`, a step.
@@ -71,6 +77,17 @@ impl NoteKind {
 }
 
 /// A note: where it stands, in time and among the lanes.
+///
+/// ```
+/// use marrighentu_charts::{ChartFile, NoteKind};
+///
+/// // the second measure has three lines, so that 64 rows lie between two of them
+/// let file = ChartFile::read(b"#NOTES:dance-single::Easy:1::\n1000\n,\n0000\n0000\n00M0;");
+/// let notes = file.chart(1).expect("there is one").notes()?;
+/// assert_eq!((notes[1].row, notes[1].lane, notes[1].kind, notes[1].line), (192 + 128, 2, NoteKind::Mine, 6));
+/// assert_eq!(notes[1].beat(), 320.0 / 48.0);
+/// # Ok::<(), marrighentu_charts::Fault>(())
+/// ```
 #[derive(Clone, Copy, Debug, PartialEq, Eq)]
 pub struct Note {
     /// The row, 48 to a beat.

@@ -4,6 +4,13 @@ use std::error::Error;
 use std::fmt;
 
 /// A place in a file. Both count from 1, columns in characters.
+///
+/// ```
+/// use marrighentu_charts::{ChartFile, Place};
+///
+/// let fault = ChartFile::read("#TITLE:é;#STOPS:4;".as_bytes()).timing().unwrap_err();
+/// assert_eq!(fault.place, Place { line: 1, column: 17 });
+/// ```
 #[derive(Clone, Copy, Debug, PartialEq, Eq, PartialOrd, Ord, Hash)]
 pub struct Place {
     /// The line.

@@ -6,6 +6,16 @@ use std::error::Error;
 use std::fmt;
 
 /// Why a timing was refused: the list, the entry, its line in the file, the number and its limit.
+///
+/// ```
+/// use marrighentu::Refusal;
+/// use marrighentu_charts::ChartFile;
+///
+/// let refused = ChartFile::read(b"#BPMS:0=120;\n#DELAYS:70000=1;").timing()?.assemble(0.0).unwrap_err();
+/// assert_eq!((refused.refusal, refused.line), (Refusal::BadBeat, Some(2)));
+/// assert_eq!(refused.to_string(), "delay 1, line 2: beat 70000 is above 65,536 (refusal 3)");
+/// # Ok::<(), marrighentu_charts::Fault>(())
+/// ```
 #[derive(Clone, Debug, PartialEq, Eq)]
 pub struct Refused {
     /// The port's reason.

@@ -113,6 +113,7 @@ fn faults_have_their_place() {
         ("#OFFSET:1s;", (1, 9)),
         ("é#BPMS:1=1=1;", (1, 10)),
         ("#STOPS:x;\n#BPMS:y;", (1, 8)),
+        ("// ééééé\n#BPMS:1=1, // é\n\t2=é;", (3, 4)),
     ] {
         let fault = ChartFile::read(text.as_bytes()).timing().unwrap_err();
         assert_eq!((fault.place.line, fault.place.column), place, "{text:?}: {fault}");
@@ -202,5 +203,75 @@ fn time_grows_with_the_size_only() {
         }
         let took = start.elapsed();
         assert!(took < Duration::from_secs(5), "{:?}: {took:?}", &text[..20]);
+    }
+}
+
+/// Any bytes are read to their end, and what is told of them has a place in them.
+#[test]
+fn any_bytes_are_read() {
+    let pieces: [&[u8]; 34] = [
+        b"#",
+        b":",
+        b";",
+        b",",
+        b"=",
+        b"\\",
+        b"\n",
+        b"\r",
+        b"/",
+        b"//",
+        b" ",
+        b"&",
+        b"[",
+        b"]",
+        b"{",
+        b"0",
+        b"1",
+        b"4",
+        b"-",
+        b".5",
+        b"e9",
+        b"r",
+        b"M",
+        b"\xff",
+        b"\xc3",
+        "é".as_bytes(),
+        b"\x01",
+        b"#BPMS:",
+        b"#STOPS:",
+        b"#SPEEDS:",
+        b"#NOTES:",
+        b"#NOTEDATA:",
+        b"#VERSION:0.8",
+        b"#OFFSET:",
+    ];
+    let mut state = 1u64;
+    let mut below = |end: usize| {
+        state = state.wrapping_mul(6_364_136_223_846_793_005).wrapping_add(1_442_695_040_888_963_407);
+        (state >> 33) as usize % end
+    };
+    for _ in 0..20_000 {
+        let count = below(60);
+        let text: Vec<u8> = (0..count).flat_map(|_| pieces[below(pieces.len())]).copied().collect();
+        let file = ChartFile::read(&text);
+        let mut faults = file.warnings().to_vec();
+        faults.extend(file.timing_passing_over().1);
+        for chart in file.charts() {
+            let (read, passed_over) = chart.timing_passing_over();
+            assert_eq!(chart.timing().is_ok(), passed_over.is_empty());
+            let _ = read.assemble(0.0);
+            faults.extend(passed_over);
+            faults.extend(chart.notes().err());
+            let _ = (chart.steps_type(), chart.description(), chart.difficulty(), chart.meter(), chart.line());
+        }
+        let lines: Vec<&[u8]> = text.split(|byte| *byte == b'\n').collect();
+        for fault in faults {
+            let line = lines[fault.place.line - 1];
+            assert!(
+                (1..=line.len() + 1).contains(&fault.place.column),
+                "{fault} of {:?}",
+                String::from_utf8_lossy(&text)
+            );
+        }
     }
 }

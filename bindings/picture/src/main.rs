@@ -85,10 +85,12 @@ fn run(wanted: &Wanted) -> Result<String, String> {
 }
 
 fn main() -> ExitCode {
-    let told = wanted::wanted(std::env::args().skip(1)).and_then(|wanted| match wanted {
-        None => Ok(format!("{HELP}\n")),
-        Some(wanted) => run(&wanted),
-    });
+    let words: Result<Vec<String>, _> = std::env::args_os().skip(1).map(|word| word.into_string()).collect();
+    let told = match words.map_err(|word| format!("a word is not UTF-8: {word:?}")).and_then(wanted::wanted) {
+        Ok(Some(wanted)) => run(&wanted),
+        Ok(None) => Ok(format!("{HELP}\n")),
+        Err(why) => Err(why),
+    };
     match told {
         // a reader that has gone away wants no more
         Ok(text) => {

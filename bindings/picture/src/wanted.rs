@@ -21,7 +21,7 @@ What a machine sees of an .sm or .ssc file: the timing lists of a chart as they 
   --format F   sm or ssc; else the file's name tells it, and of standard input the text
   --pass-over  entries of a list that can't be read are told and passed over, as rssp does; else nothing is written
 
-Warnings and errors go to standard error, with line and column.";
+Warnings and errors go to standard error, with line and column; with --json warnings are in the document.";
 
 pub struct Wanted {
     pub file: String,
@@ -54,7 +54,8 @@ fn beat(text: &str) -> Result<f64, String> {
 }
 
 /// What the words ask for; none for the help.
-pub fn wanted(mut words: impl Iterator<Item = String>) -> Result<Option<Wanted>, String> {
+pub fn wanted(words: Vec<String>) -> Result<Option<Wanted>, String> {
+    let mut words = words.into_iter();
     let mut wanted = Wanted {
         file: String::new(),
         list: false,
