@@ -42,14 +42,35 @@ fn the_whole_file() {
     );
 }
 
-/// Charts of three sizes: few events, some dozens, and more than three hundred tempos.
+/// As many entries as lists may have, some of them huge.
+fn full(name: &str) -> String {
+    let list = |values: [&str; 3]| -> String {
+        (0..1_024).map(|place| format!("{}={},", place as f64 * 0.75, values[(place + place / 2) % 3])).collect()
+    };
+    let text = format!(
+        "#VERSION:0.83;#BPMS:{};#STOPS:{};#DELAYS:{};#WARPS:{};#FAKES:{};#SCROLLS:{};#SPEEDS:{};",
+        list(["150", "151.5", "1000000000"]),
+        list(["0.1", "100000000", "0.002"]),
+        list(["0.0001", "0.25", "1"]),
+        list(["0.25", "-0.5", "0"]),
+        list(["0.25", "0.5", "0.021"]),
+        list(["1", "-2.5", "100000"]),
+        list(["1=0=0", "2.5=0.5=1", "0.25=2=0"]),
+    );
+    written(name, &text)
+}
+
+/// Charts of three sizes: few events, some dozens, and more than three hundred tempos; parts of them; and lists at their limit.
 fn pictures(of: &str) -> Vec<(String, String)> {
+    let full = full(&format!("{of}-full.ssc"));
     [
         &["example.ssc", "--beats", "4,5,17,24.5,30"][..],
         &["dozens.ssc", "--chart", "2", "--beats", "31.75,64,96,121,150,170"],
         &["many.sm", "--beats", "100,126,250,400"],
         &["many.sm", "--from", "120", "--to", "136", "--beats", "124,126,126.5,127,128,129,130"],
         &["dozens.ssc", "--chart", "2", "--from", "94.5", "--to", "99.25"],
+        &[&full, "--beats", "0,1,2,3,4,5,6,7,8,100,101,102,400,500"],
+        &[&full, "--from", "-65536", "--to", "65536"],
     ]
     .iter()
     .enumerate()

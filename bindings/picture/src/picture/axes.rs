@@ -5,6 +5,9 @@ use crate::seen::Seen;
 use crate::svg::{Anchor, Area, Svg, Words};
 use marrighentu::note_row_to_beat;
 
+/// The room that a number of the axis of beats takes.
+const WIDEST_MARK: f64 = 72.0;
+
 /// A number in at most three decimals, without zeros behind, and from 10,000 on with commas.
 pub(super) fn short(number: f64) -> String {
     let text = format!("{number:.3}");
@@ -171,6 +174,7 @@ pub(super) fn draw_scale(svg: &mut Svg, scale: &Scale, unit: &str) {
         let y = scale.y(mark);
         svg.path(&format!("M{LEFT} {y:.2}H{RIGHT}"), "stroke=\"#e4e4e4\"", "");
         let text = short(mark);
+        let text = if text.len() > 11 { format!("{mark:e}") } else { text };
         svg.words(&Words { x: LEFT - 7.0, y: y + 4.0, size: SMALL, anchor: Anchor::End, fill: INK, text: &text });
     }
     let y = scale.area.top - 7.0;
@@ -188,21 +192,27 @@ pub(super) fn draw_measures(svg: &mut Svg, beats: Beats, area: Area) {
             svg.path(&format!("M{:.2} {}V{}", beats.x(beat), area.top, area.bottom), "stroke=\"#f3f3f3\"", "");
         }
     }
-    let named = beats.measures(56.0);
+    let named = beats.measures(WIDEST_MARK);
     for beat in marks(beats.from, beats.to, beats.measures(7.0)) {
         let stroke = if beat.rem_euclid(named) == 0.0 { "#cfcfcf" } else { "#ebebeb" };
         svg.path(&format!("M{:.2} {}V{}", beats.x(beat), area.top, area.bottom), &format!("stroke=\"{stroke}\""), "");
     }
 }
 
+/// Measures above and beats below, with numbers as close as they fit.
 pub(super) fn draw_axis(svg: &mut Svg, beats: Beats, top: f64, bottom: f64) {
-    let named = beats.measures(56.0);
-    for beat in marks(beats.from, beats.to, named) {
-        let x = beats.x(beat);
-        let (measure, beat_words) = (short(beat / 4.0), short(beat));
-        svg.words(&Words { x, y: top, size: SMALL, anchor: Anchor::Middle, fill: PALE, text: &measure });
-        svg.words(&Words { x, y: bottom, size: SMALL, anchor: Anchor::Middle, fill: INK, text: &beat_words });
+    let mut name = |beat: f64, y: f64, fill: &str, text: String| {
+        svg.words(&Words { x: beats.x(beat), y, size: SMALL, anchor: Anchor::Middle, fill, text: &text });
+    };
+    let measures = beats.measures(WIDEST_MARK);
+    for beat in marks(beats.from, beats.to, measures) {
+        name(beat, top, PALE, short(beat / 4.0));
     }
-    svg.words(&Words { x: LEFT - 22.0, y: top, size: SMALL, anchor: Anchor::End, fill: PALE, text: "measure" });
-    svg.words(&Words { x: LEFT - 22.0, y: bottom, size: SMALL, anchor: Anchor::End, fill: INK, text: "beat" });
+    let parts = [0.0625, 0.125, 0.25, 0.5, 1.0, 2.0];
+    let step = parts.into_iter().find(|step| step * beats.scale() >= WIDEST_MARK).unwrap_or(measures);
+    for beat in marks(beats.from, beats.to, step) {
+        name(beat, bottom, INK, short(beat));
+    }
+    svg.words(&Words { x: LEFT - 30.0, y: top, size: SMALL, anchor: Anchor::End, fill: PALE, text: "measure" });
+    svg.words(&Words { x: LEFT - 30.0, y: bottom, size: SMALL, anchor: Anchor::End, fill: INK, text: "beat" });
 }

@@ -1,7 +1,7 @@
 //! The panel of scrolls and speeds.
 
 use super::axes::{Beats, Scale, draw_scale, frame, through, value_words};
-use super::steps::{Steps, corners, draw_steps, name_one};
+use super::steps::{Steps, corners, draw_steps, name_one, thickness};
 use super::time::second;
 use super::{LAST, LEFT, PALE, SCROLL, SMALL, SPEED};
 use crate::svg::{Anchor, Area, Room, Svg, Words};
@@ -28,7 +28,7 @@ pub(super) fn draw_ratios(svg: &mut Svg, timing: &Timing, beats: Beats, area: Ar
     }
     svg.words(&Words { x, y: area.top - 7.0, size: SMALL, anchor: Anchor::Start, fill: PALE, text: "as factors" });
 
-    let all = Steps { values: &scrolls, colour: SCROLL, name: "scroll", unit: "times" };
+    let all = Steps { values: &scrolls, colour: SCROLL, name: "scroll", unit: "times", holds_before: false };
     let steps = all.drawn(beats, &scale);
     let shown: Points = shown.iter().map(|(beat, ratio)| (beats.x(*beat), scale.y(*ratio))).collect();
     let mut room = Room::new(area);
@@ -38,7 +38,8 @@ pub(super) fn draw_ratios(svg: &mut Svg, timing: &Timing, beats: Beats, area: Ar
         draw_steps(svg, &all, &steps);
     }
     if !shown.is_empty() {
-        let attributes = format!("fill=\"none\" stroke=\"{SPEED}\" stroke-width=\"1.5\" stroke-dasharray=\"6 2\"");
+        let width = thickness(shown.len() / 4);
+        let attributes = format!("fill=\"none\" stroke=\"{SPEED}\" stroke-width=\"{width}\" stroke-dasharray=\"6 2\"");
         svg.path(&through(&shown), &attributes, "");
     }
     let seen = timing.speeds().iter().zip(ends).filter(|(speed, _)| beats.has(f64::from(speed.beat)));
@@ -46,7 +47,7 @@ pub(super) fn draw_ratios(svg: &mut Svg, timing: &Timing, beats: Beats, area: Ar
         let unit = if speed.unit == SpeedUnit::Beats { "beats" } else { "s" };
         let (x, y) = (beats.x(end), scale.y(ratio));
         let title = format!("speed at beat {}: ratio {} over {} {unit}", speed.beat, speed.ratio, speed.delay);
-        svg.circle((x, y), 2.6, &format!("fill=\"{SPEED}\""), &title);
+        svg.circle((x, y), 1.7 * thickness(timing.speeds().len()), &format!("fill=\"{SPEED}\""), &title);
         let over =
             if speed.delay == 0.0 { String::new() } else { format!(" over {} {unit}", value_words(speed.delay)) };
         let text = format!("{}{over}", value_words(speed.ratio));

@@ -11,6 +11,8 @@ pub(super) struct Steps<'a> {
     pub(super) colour: &'a str,
     pub(super) name: &'a str,
     pub(super) unit: &'a str,
+    /// Whether the first value holds before its beat too.
+    pub(super) holds_before: bool,
 }
 
 /// One step as it is drawn.
@@ -23,20 +25,28 @@ pub(super) struct Step {
 }
 
 impl Steps<'_> {
-    pub(super) fn drawn(&self, beats: Beats, scale: &Scale) -> Vec<Step> {
-        let ends = self.values.iter().skip(1).map(|entry| entry.0).chain([f64::INFINITY]);
-        self.values
+    /// The entries that are seen, each with the beats from which and up to which it holds.
+    fn seen(&self, beats: Beats) -> impl Iterator<Item = (f64, f64, f64, f64)> + '_ {
+        let starts = self
+            .values
             .iter()
-            .zip(ends)
-            .filter(|((from, _), to)| beats.meets(*from, *to))
-            .map(|((beat, value), to)| Step {
-                beat: *beat,
-                value: *value,
-                left: beats.x(*beat),
-                right: beats.x(to.min(beats.to)),
-                y: scale.y(*value),
-            })
-            .collect()
+            .enumerate()
+            .map(|(place, entry)| if place == 0 && self.holds_before { f64::NEG_INFINITY } else { entry.0 });
+        let ends = self.values.iter().skip(1).map(|entry| entry.0).chain([f64::INFINITY]);
+        let spans =
+            self.values.iter().zip(starts.zip(ends)).map(|((beat, value), (from, to))| (*beat, *value, from, to));
+        spans.filter(move |(_, _, from, to)| beats.meets(*from, *to))
+    }
+
+    pub(super) fn drawn(&self, beats: Beats, scale: &Scale) -> Vec<Step> {
+        let step = |(beat, value, from, to): (f64, f64, f64, f64)| Step {
+            beat,
+            value,
+            left: beats.x(from.max(beats.from)),
+            right: beats.x(to.min(beats.to)),
+            y: scale.y(value),
+        };
+        self.seen(beats).map(step).collect()
     }
 
     /// Words on the steps that are wide enough, widest first, then on those that stand out. They stand on the step or hang below it, over no line.
@@ -77,8 +87,18 @@ pub(super) fn corners(steps: &[Step]) -> Vec<(f64, f64)> {
     steps.iter().flat_map(|step| [(step.left, step.y), (step.right, step.y)]).collect()
 }
 
+/// How thick a line with so many bends is.
+pub(super) fn thickness(bends: usize) -> f64 {
+    if bends > 400 { 0.8 } else { 1.5 }
+}
+
 pub(super) fn draw_steps(svg: &mut Svg, all: &Steps<'_>, steps: &[Step]) {
-    svg.path(&through(&corners(steps)), &format!("fill=\"none\" stroke=\"{}\" stroke-width=\"1.5\"", all.colour), "");
+    let width = thickness(steps.len());
+    svg.path(
+        &through(&corners(steps)),
+        &format!("fill=\"none\" stroke=\"{}\" stroke-width=\"{width}\"", all.colour),
+        "",
+    );
     // a place for the mouse on each step
     for step in steps {
         let under =
@@ -89,22 +109,12 @@ pub(super) fn draw_steps(svg: &mut Svg, all: &Steps<'_>, steps: &[Step]) {
 }
 
 pub(super) fn draw_tempos(svg: &mut Svg, timing: &Timing, beats: Beats, area: Area) {
-    let mut values: Vec<(f64, f64)> =
+    let values: Vec<(f64, f64)> =
         timing.tempos().iter().map(|(beat, tempo)| (f64::from(beat), f64::from(tempo))).collect();
-    // the first holds before it too
-    if let Some(first) = values.first_mut() {
-        first.0 = first.0.min(beats.from);
-    }
-    let ends = values.iter().skip(1).map(|entry| entry.0).chain([f64::INFINITY]);
-    let shown: Vec<f64> =
-        values.iter().zip(ends).filter(|((from, _), to)| beats.meets(*from, *to)).map(|(entry, _)| entry.1).collect();
-    if shown.is_empty() {
-        return frame(svg, area);
-    }
-    let scale = Scale::over(shown.into_iter(), area, 0.14, true);
+    let all = Steps { values: &values, colour: TEMPO, name: "tempo", unit: "beats a minute", holds_before: true };
+    let scale = Scale::over(all.seen(beats).map(|entry| entry.1), area, 0.14, true);
     let unit = if scale.powers { "tempo in beats a minute, logarithmic" } else { "tempo in beats a minute" };
     draw_scale(svg, &scale, unit);
-    let all = Steps { values: &values, colour: TEMPO, name: "tempo", unit: "beats a minute" };
     let steps = all.drawn(beats, &scale);
     let line = corners(&steps);
     if let Some(first) = line.first() {
