@@ -48,8 +48,10 @@ pub mod parse {
         missing()
     }
 
-    pub fn parse_offset_seconds(_: Option<&[u8]>) -> f64 {
-        missing()
+    /// Of a plain number, which has one reading only, so that the choice between a chart's timing and the file's can be compared.
+    pub fn parse_offset_seconds(tag: Option<&[u8]>) -> f64 {
+        let text = tag.and_then(|bytes| std::str::from_utf8(bytes).ok());
+        text.and_then(|text| text.parse().ok()).unwrap_or_else(|| missing())
     }
 
     pub fn parse_version(_: Option<&[u8]>, _: TimingFormat) -> f32 {

@@ -1,17 +1,12 @@
-//! The command over a stored chart, and over texts that it refuses.
+//! The command over stored charts, and over texts that it refuses.
 
+mod common;
+
+use common::{Json, assert_well_formed, refused, run, said, scratch, texts, written};
 use std::fs;
+use std::io::Write;
 use std::path::PathBuf;
-use std::process::{Command, Output};
-
-fn run(words: &[&str]) -> Output {
-    let here = PathBuf::from(env!("CARGO_MANIFEST_DIR")).join("tests");
-    Command::new(env!("CARGO_BIN_EXE_chart-picture")).args(words).current_dir(here).output().unwrap()
-}
-
-fn scratch(name: &str) -> PathBuf {
-    PathBuf::from(env!("CARGO_TARGET_TMPDIR")).join(name)
-}
+use std::process::{Command, Stdio};
 
 #[test]
 fn lists_times_and_a_picture() {
@@ -31,7 +26,11 @@ fn lists_times_and_a_picture() {
     ] {
         assert!(picture.contains(what), "{what} is not in the picture");
     }
-    assert_eq!(picture.matches("<circle").count(), 5);
+    for asked in ["beat 4: 2.25 s", "beat 5: 3.75 s", "beat 17: 11.75 s, not judged", "beat 30: 17.083 s"] {
+        assert!(texts(&picture).iter().any(|shown| shown.text == asked), "{asked} is not in the picture");
+    }
+    // the asked beats, and where the two speeds are reached
+    assert_eq!(picture.matches("<circle").count(), 5 + 2);
 }
 
 #[test]
@@ -41,6 +40,231 @@ fn the_whole_file() {
         String::from_utf8(done.stdout).unwrap(),
         "offset  -0.1 s\ntempo   beat 0 100 beats a minute\nat      beat 1 row 48 0.7 s, judged\n"
     );
+}
+
+/// As many entries as lists may have, some of them huge.
+fn full(name: &str) -> String {
+    let list = |values: [&str; 3]| -> String {
+        (0..1_024).map(|place| format!("{}={},", place as f64 * 0.75, values[(place + place / 2) % 3])).collect()
+    };
+    let text = format!(
+        "#VERSION:0.83;#BPMS:{};#STOPS:{};#DELAYS:{};#WARPS:{};#FAKES:{};#SCROLLS:{};#SPEEDS:{};",
+        list(["150", "151.5", "1000000000"]),
+        list(["0.1", "100000000", "0.002"]),
+        list(["0.0001", "0.25", "1"]),
+        list(["0.25", "-0.5", "0"]),
+        list(["0.25", "0.5", "0.021"]),
+        list(["1", "-2.5", "100000"]),
+        list(["1=0=0", "2.5=0.5=1", "0.25=2=0"]),
+    );
+    written(name, &text)
+}
+
+/// Charts of three sizes: few events, some dozens, and more than three hundred tempos; parts of them; and lists at their limit.
+fn pictures(of: &str) -> Vec<(String, String)> {
+    let full = full(&format!("{of}-full.ssc"));
+    [
+        &["example.ssc", "--beats", "4,5,17,24.5,30"][..],
+        &["dozens.ssc", "--chart", "2", "--beats", "31.75,64,96,121,150,170"],
+        &["many.sm", "--beats", "100,126,250,400"],
+        &["many.sm", "--from", "120", "--to", "136", "--beats", "124,126,126.5,127,128,129,130"],
+        &["dozens.ssc", "--chart", "2", "--from", "94.5", "--to", "99.25"],
+        &[&full, "--beats", "0,1,2,3,4,5,6,7,8,100,101,102,400,500"],
+        &[&full, "--from", "-65536", "--to", "65536"],
+    ]
+    .iter()
+    .enumerate()
+    .map(|(place, words)| {
+        let svg = scratch(&format!("{of}-{place}.svg"));
+        let mut all = words.to_vec();
+        all.extend(["--svg", svg.to_str().unwrap()]);
+        said(&all);
+        (words.join(" "), fs::read_to_string(svg).unwrap())
+    })
+    .collect()
+}
+
+#[test]
+fn words_of_a_picture_never_overlap() {
+    for (name, picture) in pictures("words") {
+        assert_well_formed(&picture);
+        let texts = texts(&picture);
+        assert!(texts.len() > 20, "{name}");
+        for (place, one) in texts.iter().enumerate() {
+            assert!(one.left >= 0.0 && one.right <= 1280.0 && one.top >= 0.0, "{name}: {one:?}");
+            for other in &texts[..place] {
+                let apart = one.right <= other.left
+                    || other.right <= one.left
+                    || one.bottom <= other.top
+                    || other.bottom <= one.top;
+                assert!(apart, "{name}: {one:?} over {other:?}");
+            }
+        }
+    }
+}
+
+#[test]
+fn pictures_have_what_they_are_for() {
+    let all = pictures("all");
+    let has = |place: usize, what: &str| assert!(all[place].1.contains(what), "{}: no {what}", all[place].0);
+    // measures every four beats, a warp of negative length as what it is, scrolls and speeds
+    has(0, ">measure</text>");
+    has(
+        1,
+        "warp at beat 150 for -2 beats: a negative length, the clock goes back to beat 148 and counts from there again",
+    );
+    has(1, ">-2 back</text>");
+    has(1, ">1.5 over 1.5 s</text>");
+    has(1, "scroll at beat 92: -1 times");
+    // values that can be read among more than three hundred tempos
+    has(2, "338 tempos, 42 stops, 3 warps");
+    let values =
+        texts(&all[2].1).iter().filter(|shown| shown.text.parse::<f64>().is_ok_and(|value| value > 60.0)).count();
+    assert!(values > 30, "{values}");
+    // all 338 can be pointed at
+    assert_eq!(all[2].1.matches("<title>tempo at beat ").count(), 338);
+    has(3, "beats 120 to 136, 50.096 to 56.969 s");
+    has(4, "beats 94.5 to 99.25");
+}
+
+#[test]
+fn charts_are_listed_and_chosen() {
+    assert_eq!(
+        said(&["dozens.ssc", "--list"]),
+        "chart   1 dance-single Easy 4, plain, line 8, the file's timing\nchart   2 dance-single Challenge 13, stops, warps & \"speeds\", line 26, its own timing\n"
+    );
+    assert!(said(&["dozens.ssc"]).starts_with("offset  0.012 s\ntempo   beat 0 140 beats a minute\n"));
+    assert!(said(&["dozens.ssc", "--chart", "2"]).starts_with("offset  -0.25 s\n"));
+    assert!(refused(&["dozens.ssc", "--chart", "3"]).contains("there is no chart 3, the file has 2"));
+    assert!(refused(&[&written("none.sm", "#BPMS:0=1;"), "--chart", "1"]).contains("the file has no charts"));
+    assert_eq!(said(&[&written("none.sm", "#BPMS:0=1;"), "--list"]), "no charts\n");
+}
+
+#[test]
+fn notes_have_their_times() {
+    let told = said(&["dozens.ssc", "--chart", "1", "--notes"]);
+    let notes: Vec<&str> = told.lines().filter(|line| line.starts_with("note")).collect();
+    assert_eq!(notes.len(), 7);
+    assert_eq!(notes[0], "note    beat 0 row 0 -0.012 s, judged, 1000");
+    assert!(notes[1].starts_with("note    beat 1 row 48 0.4165714285714") && notes[1].ends_with(" s, judged, 0100"));
+    assert!(notes[6].starts_with("note    beat 7 row 336 ") && notes[6].ends_with(", 000M"));
+    let warped = written("warped.ssc", "#VERSION:0.83;#BPMS:0=60;#WARPS:1=2;#NOTEDATA:;#NOTES:\n1\n1\n1\n1;");
+    let told = said(&[&warped, "--notes"]);
+    let notes: Vec<&str> = told.lines().filter(|line| line.starts_with("note")).collect();
+    assert_eq!(
+        notes,
+        [
+            "note    beat 0 row 0 0 s, judged, 1",
+            "note    beat 1 row 48 1 s, not judged, 1",
+            "note    beat 2 row 96 1 s, not judged, 1",
+            "note    beat 3 row 144 1 s, judged, 1"
+        ]
+    );
+    let bad = written("bad-notes.sm", "#BPMS:0=60;\n#NOTES:a:b:c:d:e:\n1\nx;");
+    assert!(said(&[&bad]).contains("tempo"));
+    assert!(refused(&[&bad, "--notes"]).contains("bad-notes.sm:4:1: a note is wanted"));
+    let far = written("far-notes.sm", &format!("#BPMS:0=60;\n#NOTES:a:b:c:d:e:\n{}1;", ",".repeat(16_385)));
+    assert!(refused(&[&far, "--notes"]).contains("note, line 3: row 3145920 is above 3,145,728 (refusal 3)"));
+}
+
+#[test]
+fn json_says_all_of_it() {
+    let json = Json::read(&said(&["dozens.ssc", "--chart", "2", "--notes", "--beats", "121,0.1", "--json"]));
+    assert_eq!((json.field("format").text(), json.field("title").text()), ("ssc", "Some dozens"));
+    assert_eq!((json.field("chart").number(), json.field("own_timing")), (2.0, &Json::Truth(true)));
+    assert_eq!(json.field("charts").list()[1].field("description").text(), "stops, warps & \"speeds\"");
+    let counts =
+        ["tempos", "stops", "delays", "warps", "speeds", "scrolls", "fakes"].map(|list| json.field(list).list().len());
+    assert_eq!(counts, [14, 13, 4, 6, 6, 8, 4]);
+    assert_eq!(json.field("tempos").list()[2].field("beats_a_minute").number(), 87.5);
+    assert_eq!(json.field("stops").list()[1].field("seconds").number() as f32, 0.343);
+    assert_eq!(json.field("speeds").list()[2].field("unit").text(), "seconds");
+    let beats = json.field("beats").list();
+    assert_eq!((beats[0].field("warped"), beats[0].field("judged")), (&Json::Truth(true), &Json::Truth(false)));
+    assert_eq!(beats[1].field("row").number(), 5.0);
+    // the words say the same
+    let words = said(&["dozens.ssc", "--chart", "2", "--notes", "--beats", "121,0.1"]);
+    let notes = json.field("notes").list();
+    assert_eq!(notes.len(), words.lines().filter(|line| line.starts_with("note")).count());
+    for note in notes {
+        let start = format!(
+            "note    beat {} row {} {} s, {}, ",
+            note.field("beat").number(),
+            note.field("row").number(),
+            note.field("time").number(),
+            if note.field("judged") == &Json::Truth(true) { "judged" } else { "not judged" }
+        );
+        assert!(words.contains(&start), "{start}");
+        assert!(!note.field("notes").list().is_empty());
+    }
+    assert_eq!(notes[0].field("notes").list()[0].field("kind").text().len(), "tap".len());
+    let listed = Json::read(&said(&["dozens.ssc", "--list", "--json"]));
+    assert_eq!(listed.field("charts").list().len(), 2);
+}
+
+#[test]
+fn json_of_strange_text() {
+    let text = "#TITLE:\"a\\\\b\"\t\u{1}\u{7f}é\u{1F3B5}\nx;\n# \n#STOPS:x;";
+    let json = Json::read(&said(&[&written("strange.sm", text), "--pass-over", "--json"]));
+    assert_eq!(json.field("title").text(), "\"a\\b\"\t\u{1}\u{7f}é\u{1F3B5}\nx");
+    let told = |list: &str| -> Vec<String> {
+        json.field(list).list().iter().map(|fault| fault.field("what").text().to_string()).collect()
+    };
+    assert_eq!(told("warnings"), ["the file has no #BPMS: 60 beats a minute are taken", "this # begins no tag"]);
+    assert_eq!(told("passed_over"), ["a beat and a value are wanted, as 4=120, found \"x\""]);
+    assert_eq!(json.field("passed_over").list()[0].field("line").number(), 4.0);
+    assert_eq!(json.field("chart"), &Json::Null);
+}
+
+#[test]
+fn strange_titles_make_whole_pictures() {
+    let svg = scratch("strange.svg");
+    let text = format!("#TITLE:<a & \"b\">\u{1}{};#BPMS:0=120;#WARPS:4=99999;", "long ".repeat(60));
+    said(&[&written("strange-title.ssc", &text), "--svg", svg.to_str().unwrap(), "--from", "-8"]);
+    let picture = fs::read_to_string(svg).unwrap();
+    assert_well_formed(&picture);
+    assert!(picture.contains("&lt;a &amp; &quot;b&quot;&gt;") && picture.contains(">never ends</text>"));
+}
+
+#[test]
+fn warnings_are_told_and_hinder_nothing() {
+    let done = run(&[&written("no-tempo.sm", "#STOPS:4=1;")]);
+    assert!(done.status.success());
+    assert!(String::from_utf8(done.stdout).unwrap().contains("tempo   beat 0 60 beats a minute"));
+    assert!(
+        String::from_utf8(done.stderr)
+            .unwrap()
+            .ends_with("no-tempo.sm:1:1: the file has no #BPMS: 60 beats a minute are taken\n")
+    );
+    let text = written("passed.sm", "#BPMS:0=120,4=fast,8=90;");
+    assert!(refused(&[&text]).contains("passed.sm:1:15: a number is wanted"));
+    let done = run(&[&text, "--pass-over"]);
+    assert!(
+        String::from_utf8(done.stderr)
+            .unwrap()
+            .contains("passed.sm:1:15: a number is wanted, found \"fast\", passed over")
+    );
+    assert_eq!(String::from_utf8(done.stdout).unwrap().matches("tempo").count(), 2);
+}
+
+#[test]
+fn a_refusal_names_its_entry() {
+    let text = written("tiny.sm", "#BPMS:0=120;\n#STOPS:1=1,\n2=1,\n3=0.0000001;");
+    assert!(refused(&[&text]).contains("tiny.sm: stop 3, line 4: 1e-7 s is below 2^-20 (refusal 4)"));
+}
+
+#[test]
+fn standard_input_tells_its_format() {
+    let mut child = Command::new(env!("CARGO_BIN_EXE_chart-picture"))
+        .args(["-", "--json"])
+        .stdin(Stdio::piped())
+        .stdout(Stdio::piped())
+        .spawn()
+        .unwrap();
+    child.stdin.take().unwrap().write_all(b"#VERSION:0.83;#BPMS:0=120;").unwrap();
+    let done = child.wait_with_output().unwrap();
+    let json = Json::read(&String::from_utf8(done.stdout).unwrap());
+    assert_eq!((json.field("file").text(), json.field("format").text()), ("-", "ssc"));
 }
 
 #[test]
@@ -77,6 +301,13 @@ fn bad_words_are_told() {
         &["a.sm", "--format", "osu"],
         &["a.sm", "--beats", "x"],
         &["a.sm", "--loud"],
+        &["example.ssc", "--chart", "0"],
+        &["example.ssc", "--chart", "one"],
+        &["example.ssc", "--chart", "1", "--header"],
+        &["example.ssc", "--header", "--notes"],
+        &["example.ssc", "--from", "4", "--to", "4"],
+        &["example.ssc", "--from", "70000"],
+        &["example.ssc", "--to", "nan"],
         &["missing.sm"],
     ] {
         let done = run(words);

@@ -1,0 +1,76 @@
+//! What is seen, in lines of words.
+
+use crate::seen::{NoteRow, Seen};
+use marrighentu::{Columns, SpeedUnit, Timing};
+use marrighentu_charts::{ChartFile, ChartText};
+use std::fmt::Write;
+
+fn list(out: &mut String, name: &str, columns: &Columns<f32>, unit: &str) {
+    for (beat, value) in columns.iter() {
+        let _ = writeln!(out, "{name:<7} beat {beat} {value} {unit}");
+    }
+}
+
+fn lists(out: &mut String, timing: &Timing) {
+    let _ = writeln!(out, "offset  {} s", timing.offset());
+    list(out, "tempo", timing.tempos(), "beats a minute");
+    list(out, "stop", timing.stops(), "s");
+    list(out, "delay", timing.delays(), "s");
+    list(out, "warp", timing.warps(), "beats");
+    for speed in timing.speeds() {
+        let unit = if speed.unit == SpeedUnit::Beats { "beats" } else { "s" };
+        let _ = writeln!(out, "speed   beat {} ratio {} over {} {unit}", speed.beat, speed.ratio, speed.delay);
+    }
+    list(out, "scroll", timing.scrolls(), "times");
+    list(out, "fake", timing.fakes(), "beats");
+}
+
+fn lanes(row: &NoteRow, count: usize) -> String {
+    let mut lanes = vec!['0'; count];
+    for note in &row.notes {
+        lanes[note.lane] = note.kind.letter();
+    }
+    lanes.into_iter().collect()
+}
+
+/// The lists, the asked beats and the notes.
+pub fn seen(seen: &Seen) -> String {
+    let mut out = String::new();
+    lists(&mut out, &seen.timing);
+    for asked in &seen.asked {
+        let judged = match (asked.warped, asked.fake) {
+            (false, false) => "judged",
+            (true, false) => "warped, not judged",
+            (false, true) => "fake, not judged",
+            (true, true) => "warped and fake, not judged",
+        };
+        let _ = writeln!(out, "at      beat {} row {} {} s, {judged}", asked.beat, asked.row, asked.time);
+    }
+    let rows = seen.notes.as_deref().unwrap_or(&[]);
+    let count = rows.iter().flat_map(|row| &row.notes).map(|note| note.lane + 1).max().unwrap_or(0);
+    for row in rows {
+        let judged = if row.judged { "judged" } else { "not judged" };
+        let _ =
+            writeln!(out, "note    beat {} row {} {} s, {judged}, {}", row.beat, row.row, row.time, lanes(row, count));
+    }
+    out
+}
+
+/// A chart in a few words, without its number.
+pub fn named(chart: &ChartText<'_>) -> String {
+    let said = [chart.steps_type(), chart.difficulty(), chart.meter()];
+    let said: Vec<String> = said.into_iter().filter(|word| !word.is_empty()).collect();
+    said.join(" ")
+}
+
+/// A line for each chart of a file.
+pub fn charts(file: &ChartFile) -> String {
+    let mut out = String::new();
+    for chart in file.charts() {
+        let timing = if chart.has_own_timing() { "its own timing" } else { "the file's timing" };
+        let mut said = vec![named(&chart), chart.description(), format!("line {}", chart.line()), timing.into()];
+        said.retain(|part| !part.is_empty());
+        let _ = writeln!(out, "chart   {} {}", chart.number(), said.join(", ").replace(char::is_control, " "));
+    }
+    if out.is_empty() { "no charts\n".into() } else { out }
+}
