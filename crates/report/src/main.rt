@@ -1,6 +1,7 @@
 // The report program: raw lists of a chart on standard input, the timing lists that come of them on standard output.
 // The input is read in pieces to its end, and only then is anything written, all of it at once; a write that fails ends the program.
 use libc::STDOUT_FILENO;
+use report_form::Reading;
 ghost use Rattle.io.specs.Counts.{Counts};
 ghost use Rattle.report.specs.Input.{ReportOfSome};
 
@@ -26,7 +27,7 @@ fn write_input(page: &mut [u8]) -> usize
     let mut scroll_values = [0.0; 256];
     let mut fake_beats = [0.0; 256];
     let mut fake_values = [0.0; 256];
-    let reading = report_input::read_all(
+    let reading: Reading = report_input::read_all(
         &mut counts,
         &mut bpm_beats,
         &mut bpm_values,
