@@ -6,7 +6,7 @@ use mathlib.Core.List.{List, [], _∷_, _++_}
 use native.Mathlib.Omega.{arith}
 use native.Mathlib.Nat.{div-add-mod', div-div-eq-div-mul, div-le-self, div-one, pow-suc, mod-eq-of-lt}
 use borrow.Author.Tests.{lt-ltb, le-ltb, le-leb, lt-leb, ne-eqb, ltb-true, ltb-false}
-use lib.Dec.{ltb, leb, eqb}
+use lib.Dec.{ltb, eqb}
 use Rattle.picks.specs.Pick.{pick}
 use Rattle.patterns.specs.Hex.{hexValue, hexDigit, hexText}
 use Rattle.report_form.specs.declared.Reading.{Reading}
@@ -14,6 +14,7 @@ use Rattle.report_form.specs.declared.Store.{Store}
 use Rattle.report_form.specs.Form.{hexOf, unitOf, letterOf, characterOf, listOf, follows, begun, opened, namedOf, widthOf, lastDigits, commaOf, more, entryOf, endedOf, stepOf, after}
 use Rattle.report_form.specs.Stores.{nothing, storeOf, listed, storesOf}
 use Rattle.report_form.specs.Text.{Pair, bpm, stop, delay, warp, scroll, fake, Entry, pair, speed, pairList, entryList, pairWord, speedWord, entryLine}
+use Rattle.report_form.specs.Orderly.{Fits, pair-fits, speed-fits}
 use Rattle.report_form.proofs.Pieces.{Reads, reads-none, reads-join, reads-byte, reads-store}
 
 -- a byte that is no separator
@@ -130,7 +131,7 @@ record Word (next : ℕ) (word : List ℕ) : Type 0 where
   letters : (ssc : Bool) (list count : ℕ) → Reads (Between ssc list count) word (worded ssc list count) []
   equals : (ssc : Bool) (list count : ℕ) → follows list next ≡ true → stepOf (worded ssc list count) 61 ≡ At ssc next 1 (before next list count) 0 0
 
-open-is : (reading : Reading) (next : ℕ) → opened reading next ≡ begun reading next (pick (eqb next (reading .list)) (reading .count) 0)
+pub open-is : (reading : Reading) (next : ℕ) → opened reading next ≡ begun reading next (pick (eqb next (reading .list)) (reading .count) 0)
 unfolding opened
 open-is reading next = by-case (eqb next (reading .list))
   where
@@ -191,7 +192,7 @@ speed-word =
     }
 
 -- ---- which digits a part has, and what ends it
-pair-hex : (of : Pair) (ssc : Bool) (part count : ℕ) → 1 ≤ part → (j m byte : ℕ) → characterOf (At ssc (pairList of) part count j m) byte ≡ hexOf (At ssc (pairList of) part count j m) byte
+pub pair-hex : (of : Pair) (ssc : Bool) (part count : ℕ) → 1 ≤ part → (j m byte : ℕ) → characterOf (At ssc (pairList of) part count j m) byte ≡ hexOf (At ssc (pairList of) part count j m) byte
 unfolding characterOf
 pair-hex bpm ssc part count h j m byte = rw (ne-eqb part 0 (λ (e : part ≡ 0). omega arith))
 pair-hex stop ssc part count h j m byte = rw (ne-eqb part 0 (λ (e : part ≡ 0). omega arith))
@@ -200,7 +201,7 @@ pair-hex warp ssc part count h j m byte = rw (ne-eqb part 0 (λ (e : part ≡ 0)
 pair-hex scroll ssc part count h j m byte = rw (ne-eqb part 0 (λ (e : part ≡ 0). omega arith))
 pair-hex fake ssc part count h j m byte = rw (ne-eqb part 0 (λ (e : part ≡ 0). omega arith))
 
-speed-hex : (ssc : Bool) (part count : ℕ) → 1 ≤ part → part ≤ 3 → (j m byte : ℕ) → characterOf (At ssc 6 part count j m) byte ≡ hexOf (At ssc 6 part count j m) byte
+pub speed-hex : (ssc : Bool) (part count : ℕ) → 1 ≤ part → part ≤ 3 → (j m byte : ℕ) → characterOf (At ssc 6 part count j m) byte ≡ hexOf (At ssc 6 part count j m) byte
 unfolding characterOf
 speed-hex ssc part count low high j m byte = rw (ne-eqb part 0 (λ (e : part ≡ 0). omega arith), ne-eqb part 4 (λ (e : part ≡ 4). omega arith))
 
@@ -255,11 +256,6 @@ unfolding stepOf endedOf entryOf widthOf lastDigits storeOf
 speed-end ssc count unit = reads-store (At ssc 6 4 count 1 unit) (Between ssc 6 (more count)) 10 (Stored 6 4 count unit (more count)) refl refl refl
 
 -- ---- the line
--- an entry's numbers are 64 bits wide, a unit is one digit
-pub data Fits : Entry → Type 0 where
-  pair-fits : {of : Pair} {beat value : ℕ} → beat < 2 ^ 64 → value < 2 ^ 64 → Fits (pair of beat value)
-  speed-fits : {beat ratio wait unit : ℕ} → beat < 2 ^ 64 → ratio < 2 ^ 64 → wait < 2 ^ 64 → unit < 10 → Fits (speed beat ratio wait unit)
-
 -- what the line of an entry stores, at the entry's place in its list
 abbrev pub entryStores : Entry → ℕ → List Store
 entryStores (pair of beat value) at = Stored (pairList of) 1 at beat at ∷ Stored (pairList of) 2 at value (more at) ∷ []

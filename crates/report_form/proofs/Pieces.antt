@@ -51,6 +51,12 @@ pub stores-of : {a b : Reading} {xs : List ℕ} {ds : List Store} → Reads a xs
 unfolding storesOf
 stores-of {xs = xs} {ds = ds} r = ap (storesOf _) (sym (append-nil xs)) ∙ r .made [] ∙ append-nil ds
 
+-- stores made one behind another
+pub applied-join : {A : Type 0} (change : Store → A → A) (ds es : List Store) (column : A) → applied change (ds ++ es) column ≡ applied change es (applied change ds column)
+unfolding applied
+applied-join change [] es column = refl
+applied-join change (d ∷ ds) es column = applied-join change ds es (change d column)
+
 -- A COLUMN after bytes is the column after the stores that they make, if a store of nothing leaves it alone
 pub by-stores : {A : Type 0} (change : Store → A → A) → ((store : Store) (column : A) → eqb (store .list) 0 ≡ true → change store column ≡ column)
     → (reading : Reading) (bytes : List ℕ) (column : A) → columnAfter change reading bytes column ≡ applied change (storesOf reading bytes) column

@@ -5,7 +5,7 @@ use mathlib.Core.Path.{_≡_, refl, sym, ap, _∙_}
 use mathlib.Core.Bool.{Bool, true, false}
 use mathlib.Core.List.{List, [], _∷_, _++_, append-assoc, append-nil}
 use native.Mathlib.Omega.{arith}
-use borrow.Author.Tests.{lt-ltb, le-ltb, eq-eqb, ne-eqb, eqb-true, eqb-false, leb-true}
+use borrow.Author.Tests.{le-ltb, eq-eqb, ne-eqb, eqb-true, eqb-false, leb-true}
 use lib.Dec.{ltb, leb, eqb}
 use lib.ListN.{length, set, length-append}
 use lib.Seq.{set-out, set-append-seam}
@@ -15,14 +15,10 @@ use Rattle.report_form.specs.declared.Reading.{Reading}
 use Rattle.report_form.specs.declared.Store.{Store}
 use Rattle.report_form.specs.Form.{letterOf, characterOf, listOf, follows, opened, namedOf, widthOf, more, formatOf, endedOf, stepOf, after, start, whole}
 use Rattle.report_form.specs.Stores.{storeOf, listed, storesOf, applied, placed, columnAfter}
-use Rattle.report_form.specs.Text.{Pair, bpm, stop, delay, warp, scroll, fake, Entry, pair, speed, pairList, entryList, entryLine, entryLines, formatLine, text}
-use Rattle.report_form.proofs.Pieces.{Reads, reads-none, reads-join, state-of, stores-of, by-stores}
-use Rattle.report_form.proofs.LineRead.{Between, Stored, before, Fits, pair-fits, speed-fits, entryStores, line-read, pair-named, pair-width}
-
--- entries that a text may hold after a line of list `last`
-pub data Orderly : ℕ → List Entry → Type 0 where
-  none : {last : ℕ} → Orderly last []
-  one : {last : ℕ} {entry : Entry} {entries : List Entry} → follows last (entryList entry) ≡ true → Fits entry → Orderly (entryList entry) entries → Orderly last (entry ∷ entries)
+use Rattle.report_form.specs.Text.{bpm, stop, delay, warp, scroll, fake, Entry, pair, speed, pairList, entryList, entryLines, formatLine, text}
+use Rattle.report_form.specs.Orderly.{Orderly, none, one, partOf, numbersOf}
+use Rattle.report_form.proofs.Pieces.{Reads, reads-none, reads-join, state-of, stores-of, applied-join, by-stores}
+use Rattle.report_form.proofs.LineRead.{Between, Stored, before, entryStores, line-read, pair-named, pair-width}
 
 -- where entries lead, and what they store: each at its place in its list
 unfoldable pub ended : Bool → ℕ → ℕ → List Entry → Reading
@@ -53,9 +49,18 @@ pub text-read : (ssc : Bool) (entries : List Entry) → Orderly 1 entries → Re
 text-read ssc entries o = reads-join (format-read ssc) (lines-read ssc 1 0 entries o)
 
 -- ---- the text is of the form, and its format is read
-list-named : (entry : Entry) → eqb (entryList entry) 0 ≡ false
+pub list-named : (entry : Entry) → eqb (entryList entry) 0 ≡ false
 list-named (pair of beat value) = pair-named of
 list-named (speed beat ratio wait unit) = refl
+
+pub no-format : (entry : Entry) → eqb (entryList entry) 1 ≡ false
+no-format (pair bpm beat value) = refl
+no-format (pair stop beat value) = refl
+no-format (pair delay beat value) = refl
+no-format (pair warp beat value) = refl
+no-format (pair scroll beat value) = refl
+no-format (pair fake beat value) = refl
+no-format (speed beat ratio wait unit) = refl
 
 ended-whole : (ssc : Bool) (last count : ℕ) (entries : List Entry) → eqb last 0 ≡ false → whole (ended ssc last count entries) ≡ true
 unfolding ended whole
@@ -74,21 +79,12 @@ pub text-format : (ssc : Bool) (entries : List Entry) → Orderly 1 entries → 
 text-format ssc entries o = ap (λ (r : Reading). r .ssc) (state-of (text-read ssc entries o)) ∙ ended-format ssc 1 0 entries
 
 -- ---- a column
--- the number in a part of an entry, and those that the entries of a list have there
-abbrev pub partOf : Entry → ℕ → ℕ
-partOf (pair of beat value) part = pick (eqb part 1) beat value
-partOf (speed beat ratio wait unit) part = pick (eqb part 1) beat (pick (eqb part 2) ratio (pick (eqb part 3) wait unit))
-
-unfoldable pub numbersOf : ℕ → ℕ → List Entry → List ℕ
-numbersOf list part [] = []
-numbersOf list part (entry ∷ entries) = pick (eqb (entryList entry) list) (partOf entry part ∷ numbersOf list part entries) (numbersOf list part entries)
-
 -- numbers set one after the other
 unfoldable filled : {A : Type 0} → (ℕ → A) → ℕ → List ℕ → List A → List A
 filled value at [] column = column
 filled value at (number ∷ numbers) column = filled value (more at) numbers (set column at (value number))
 
-no-less : (last next : ℕ) → eqb last 0 ≡ false → follows last next ≡ true → last ≤ next
+pub no-less : (last next : ℕ) → eqb last 0 ≡ false → follows last next ≡ true → last ≤ next
 unfolding follows
 no-less last next h f = by-case (ltb 1 next) (rw h at f)
   where
@@ -97,7 +93,7 @@ no-less last next h f = by-case (ltb 1 next) (rw h at f)
     by-case false e = let z : _≡_ {A = ℕ} 0 1 = cc in absurd (omega arith)
 
 -- once a later list has begun, none of this one comes
-gone : (last list part : ℕ) (entries : List Entry) → Orderly last entries → eqb last 0 ≡ false → list < last → numbersOf list part entries ≡ []
+pub gone : (last list part : ℕ) (entries : List Entry) → Orderly last entries → eqb last 0 ≡ false → list < last → numbersOf list part entries ≡ []
 unfolding numbersOf
 gone last list part [] none h l = refl
 gone last list part (entry ∷ entries) (one f b r) h l =
@@ -105,11 +101,6 @@ gone last list part (entry ∷ entries) (one f b r) h l =
     rw (ne-eqb (entryList entry) list (λ (e : entryList entry ≡ list). omega arith)) (gone (entryList entry) list part entries r (list-named entry) (omega arith))
 
 module _ {A : Type 0} (value : ℕ → A) where
-  applied-join : (change : Store → List A → List A) (ds es : List Store) (column : List A) → applied change (ds ++ es) column ≡ applied change es (applied change ds column)
-  unfolding applied
-  applied-join change [] es column = refl
-  applied-join change (d ∷ ds) es column = applied-join change ds es (change d column)
-
   -- an entry of another list leaves the column alone
   other : (entry : Entry) (list part at : ℕ) (column : List A) → eqb (entryList entry) list ≡ false → applied (placed value list part) (entryStores entry at) column ≡ column
   unfolding applied placed

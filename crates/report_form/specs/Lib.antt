@@ -1,3 +1,4 @@
 pub mod Form
 pub mod Stores
 pub mod Text
+pub mod Orderly

@@ -417,10 +417,10 @@ pub fn answer(reading: Reading, counts: &[u64]) -> u32
     ensures { λ r. ⌜ r ≡ answerOf reading (now (counts .entry)) ⌝ }
 {
     if !is_whole(reading) {
-        return 10;
+        return limits::BAD_TEXT;
     }
     if is_over(counts) {
-        return 1;
+        return limits::TOO_LONG;
     }
-    0
+    limits::TAKEN
 }

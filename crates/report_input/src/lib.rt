@@ -1,15 +1,46 @@
 // The report program's input, read from standard input in pieces to its end.
+use libc::STDERR_FILENO;
 use libc::STDIN_FILENO;
 use report_form::Reading;
-ghost use Rattle.report_form.specs.Form.{start};
+ghost use mathlib.Core.Path.{_≡_};
+ghost use mathlib.Core.Bool.{false};
+ghost use Rattle.report_form.specs.Form.{start, stepOf, whole};
 ghost use Rattle.report_input.specs.Fed.{Fed};
+ghost use Rattle.report_input.specs.Answers.{moreComes, afterAnswer};
 
-const PIECE: usize = 4096;
-
-// How many bytes the last piece had, and how far the input is read.
+// How far the input is read after a piece, and whether another may come.
 struct Piece {
-    got: usize,
+    more: bool,
     reading: Reading,
+}
+
+// An input that was not read to its end is none of the form, however far it was read: it counts as fed a byte that no form has.
+fn cut_short(reading: Reading) -> Reading
+    ensures { λ r. ⌜ r ≡ stepOf reading 0 ⌝ }
+    ensures { λ r. ⌜ whole r ≡ false ⌝ }
+{
+    io::write_all(
+        STDERR_FILENO,
+        b"report: standard input was not read to its end: a read failed\n",
+    );
+    report_form::step(reading, 0)
+}
+
+// What a read's answer says of the input: above 0 there may be more of it, 0 is its end, and below 0 the read failed.
+fn answered(got: isize, reading: Reading) -> Piece
+    ensures { λ r. ⌜ r .more ≡ moreComes got ⌝ }
+    ensures { λ r. ⌜ r .reading ≡ afterAnswer got reading ⌝ }
+{
+    if got < 0 {
+        return Piece {
+            more: false,
+            reading: cut_short(reading),
+        };
+    }
+    Piece {
+        more: got > 0,
+        reading: reading,
+    }
 }
 
 fn read_piece(
@@ -35,10 +66,11 @@ fn read_piece(
     ensures { λ r. ⌜ Fed reading (r .reading) (now («counts» .entry)) (now («counts» .exit)) (now («bpm_beats» .entry)) (now («bpm_beats» .exit)) (now («bpm_values» .entry)) (now («bpm_values» .exit)) (now («stop_beats» .entry)) (now («stop_beats» .exit)) (now («stop_values» .entry)) (now («stop_values» .exit)) (now («delay_beats» .entry)) (now («delay_beats» .exit)) (now («delay_values» .entry)) (now («delay_values» .exit)) (now («warp_beats» .entry)) (now («warp_beats» .exit)) (now («warp_values» .entry)) (now («warp_values» .exit)) (now («speed_beats» .entry)) (now («speed_beats» .exit)) (now («speed_ratios» .entry)) (now («speed_ratios» .exit)) (now («speed_delays» .entry)) (now («speed_delays» .exit)) (now («speed_units» .entry)) (now («speed_units» .exit)) (now («scroll_beats» .entry)) (now («scroll_beats» .exit)) (now («scroll_values» .entry)) (now («scroll_values» .exit)) (now («fake_beats» .entry)) (now («fake_beats» .exit)) (now («fake_values» .entry)) (now («fake_values» .exit)) ⌝ }
 {
     let mut piece = [0u8; 4096];
-    let got = io::read_full(STDIN_FILENO, &mut piece);
+    let got = libc::read(STDIN_FILENO, &mut piece);
+    let count = io::count(got, &piece);
     let next = report_feed::feed(
         reading,
-        &piece[..got],
+        &piece[..count],
         counts,
         bpm_beats,
         bpm_values,
@@ -57,14 +89,11 @@ fn read_piece(
         fake_beats,
         fake_values,
     );
-    Piece {
-        got: got,
-        reading: next,
-    }
+    answered(got, next)
 }
 
-// All of standard input, fed from the first byte on. A proved loop has to end, and nothing says that the input does: the turns are
-// counted down from a number that no run uses up.
+// All of standard input, fed from the first byte on, and a byte that no form has where a read failed. A proved loop has to end, and nothing
+// says that the input does: the turns are counted down from a number that no run uses up.
 pub fn read_all(
     counts: &mut [u64],
     bpm_beats: &mut [f64],
@@ -110,10 +139,10 @@ pub fn read_all(
             fake_values,
         );
         reading = piece.reading;
-        if piece.got < PIECE {
+        if !piece.more {
             return reading;
         }
         turns -= 1;
     }
-    reading
+    cut_short(reading)
 }

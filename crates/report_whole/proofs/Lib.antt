@@ -5,3 +5,4 @@ pub mod ReadReport
 pub mod ByNumber
 pub mod AssembledText
 pub mod OneOutcome
+pub mod ReportOfText

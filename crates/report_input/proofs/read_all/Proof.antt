@@ -5,7 +5,7 @@ use lib.ListN.{length}
 use borrow.Author.Needs.{needs}
 use Rattle.report_form.specs.Form.{start}
 use Rattle.report_input.specs.Fed.{Fed}
-use Rattle.report_input.proofs.Pieces.{fed-none, fed-join}
+use Rattle.report_input.proofs.Pieces.{fed-none, fed-zero, fed-join}
 use Rattle.report_input.proofs.read_all.Statement.{statement}
 use Rattle.report_input.proofs.read_all.Tie as tie
 
@@ -126,59 +126,62 @@ loop-again c =
       fed-join (turn .loop .inv .17) (read .read-piece .ensures),
     )
 
+cut-short-requires : tie.Need-cut-short-requires Inv-loop μ-loop
+cut-short-requires c κs = search needs
+
 same-length-18 : tie.Need-same-length-18 Inv-loop μ-loop
-same-length-18 c = c .before .loop .inv .0
+same-length-18 c = c .before .before .loop .inv .0
 
 same-length-19 : tie.Need-same-length-19 Inv-loop μ-loop
-same-length-19 c = c .before .loop .inv .1
+same-length-19 c = c .before .before .loop .inv .1
 
 same-length-20 : tie.Need-same-length-20 Inv-loop μ-loop
-same-length-20 c = c .before .loop .inv .2
+same-length-20 c = c .before .before .loop .inv .2
 
 same-length-21 : tie.Need-same-length-21 Inv-loop μ-loop
-same-length-21 c = c .before .loop .inv .3
+same-length-21 c = c .before .before .loop .inv .3
 
 same-length-22 : tie.Need-same-length-22 Inv-loop μ-loop
-same-length-22 c = c .before .loop .inv .4
+same-length-22 c = c .before .before .loop .inv .4
 
 same-length-23 : tie.Need-same-length-23 Inv-loop μ-loop
-same-length-23 c = c .before .loop .inv .5
+same-length-23 c = c .before .before .loop .inv .5
 
 same-length-24 : tie.Need-same-length-24 Inv-loop μ-loop
-same-length-24 c = c .before .loop .inv .6
+same-length-24 c = c .before .before .loop .inv .6
 
 same-length-25 : tie.Need-same-length-25 Inv-loop μ-loop
-same-length-25 c = c .before .loop .inv .7
+same-length-25 c = c .before .before .loop .inv .7
 
 same-length-26 : tie.Need-same-length-26 Inv-loop μ-loop
-same-length-26 c = c .before .loop .inv .8
+same-length-26 c = c .before .before .loop .inv .8
 
 same-length-27 : tie.Need-same-length-27 Inv-loop μ-loop
-same-length-27 c = c .before .loop .inv .9
+same-length-27 c = c .before .before .loop .inv .9
 
 same-length-28 : tie.Need-same-length-28 Inv-loop μ-loop
-same-length-28 c = c .before .loop .inv .10
+same-length-28 c = c .before .before .loop .inv .10
 
 same-length-29 : tie.Need-same-length-29 Inv-loop μ-loop
-same-length-29 c = c .before .loop .inv .11
+same-length-29 c = c .before .before .loop .inv .11
 
 same-length-30 : tie.Need-same-length-30 Inv-loop μ-loop
-same-length-30 c = c .before .loop .inv .12
+same-length-30 c = c .before .before .loop .inv .12
 
 same-length-31 : tie.Need-same-length-31 Inv-loop μ-loop
-same-length-31 c = c .before .loop .inv .13
+same-length-31 c = c .before .before .loop .inv .13
 
 same-length-32 : tie.Need-same-length-32 Inv-loop μ-loop
-same-length-32 c = c .before .loop .inv .14
+same-length-32 c = c .before .before .loop .inv .14
 
 same-length-33 : tie.Need-same-length-33 Inv-loop μ-loop
-same-length-33 c = c .before .loop .inv .15
+same-length-33 c = c .before .before .loop .inv .15
 
 same-length-34 : tie.Need-same-length-34 Inv-loop μ-loop
-same-length-34 c = c .before .loop .inv .16
+same-length-34 c = c .before .before .loop .inv .16
 
 returns-2 : tie.Need-returns-2 Inv-loop μ-loop
-returns-2 c = c .before .loop .inv .17
+returns-2 c = fed-join (c .before .before .loop .inv .17) (fed-zero (c .cut-short .ensures .0))
 
 pub read-all-spec : {M : Type 1} → statement M
 read-all-spec =
@@ -210,6 +213,7 @@ read-all-spec =
     sub-turns
     loop-less
     loop-again
+    cut-short-requires
     same-length-18
     same-length-19
     same-length-20
