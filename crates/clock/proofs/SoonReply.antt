@@ -1,6 +1,8 @@
--- The reply where the walk to the asked row is soon at its end. Assumes nothing.
+-- The reply by the walk to the asked row, and where that is soon at its end. Assumes nothing.
+use Prim.Native.Nat.{ℕ}
 use mathlib.Core.Bool.{false}
 use mathlib.Core.Path.{_≡_}
+use borrow.Author.Tests.{eq-eqb}
 use lib.Dec.{eqb}
 use lib.IntN.{ℤ}
 use lib.Signed.{ltZ}
@@ -10,7 +12,8 @@ use Rattle.rows.specs.Rows.{row}
 use Rattle.walk.specs.Events.{Timing}
 use Rattle.walk.specs.Walk.{walk}
 use Rattle.walk.specs.declared.Walked.{Walked}
-use Rattle.clock.specs.Question.{filled, beginning, answered, reply}
+use Rattle.timing_tests.specs.TimingNumbers.{beatNumber}
+use Rattle.clock.specs.Question.{filled, beginning, answered, reply, asking}
 use Rattle.clock.specs.declared.Cursor.{Cursor}
 
 pub soon-reply : (t : Timing) (c : Cursor) (offset global beat : Float) (r : ℤ) (w : Walked) → r ≡ row binary64 beat
@@ -18,3 +21,14 @@ pub soon-reply : (t : Timing) (c : Cursor) (offset global beat : Float) (r : ℤ
     → answered global r w ≡ reply t c offset global beat
 unfolding reply filled beginning
 soon-reply t c offset global beat r w e later some is = rw (← e, later, some, is)
+
+pub walked-reply : (t : Timing) (c : Cursor) (offset global beat : Float) (r : ℤ) (w : Walked) → r ≡ row binary64 beat
+    → w ≡ walk (filled t) r (beginning c r offset global)
+    → answered global r w ≡ reply t c offset global beat
+unfolding reply
+walked-reply t c offset global beat r w e is = rw (is, e)
+
+pub reply-asked : (t : Timing) (c : Cursor) (offset global beat : Float) (number : ℕ) → number ≡ beatNumber beat → number ≡ 0
+    → reply t c offset global beat ≡ asking t c offset global beat
+unfolding asking
+reply-asked t c offset global beat number is none = rw (← is, eq-eqb number 0 none)

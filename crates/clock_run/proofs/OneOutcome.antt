@@ -5,8 +5,9 @@ use mathlib.Core.List.{List}
 use lib.Ieee.{Float}
 use Rattle.columns.specs.Laying.{given, columnLaid}
 use Rattle.walk.specs.Events.{Timing}
+use Rattle.clock.specs.History.{answers, lastCursor, numberOf, timeOf, countOf}
 use Rattle.clock.specs.declared.Cursor.{Cursor}
-use Rattle.clock_run.specs.Run.{answers, lastCursor, numberOf, timeOf, countOf, RunLaid}
+use Rattle.clock_run.specs.Run.{runOf, RunLaid}
 use Rattle.clock_run.specs.declared.Ran.{Ran}
 
 module _ {t : Timing} {offset global : Float} {c : Cursor} {beats : List Float} {a b : Ran} {numbersOld numbersA numbersB : List ℕ} {timesOld timesA timesB : List Float} {countsOld countsA countsB : List ℕ}
@@ -15,13 +16,13 @@ module _ {t : Timing} {offset global : Float} {c : Cursor} {beats : List Float} 
   one-number = x .number ∙ sym (y .number)
 
   pub one-cursor : a .cursor ≡ b .cursor
-  one-cursor = x .cursor ∙ ap (λ (n : ℕ). lastCursor t offset global c (given n beats)) one-number ∙ sym (y .cursor)
+  one-cursor = x .cursor ∙ ap (λ (n : ℕ). lastCursor t offset global c (runOf (given n beats))) one-number ∙ sym (y .cursor)
 
   pub one-numbers : numbersA ≡ numbersB
-  one-numbers = x .numbersAre ∙ ap (λ (n : ℕ). columnLaid numberOf n (answers t offset global c beats) numbersOld) one-number ∙ sym (y .numbersAre)
+  one-numbers = x .numbersAre ∙ ap (λ (n : ℕ). columnLaid numberOf n (answers t offset global c (runOf beats)) numbersOld) one-number ∙ sym (y .numbersAre)
 
   pub one-times : timesA ≡ timesB
-  one-times = x .timesAre ∙ ap (λ (n : ℕ). columnLaid timeOf n (answers t offset global c beats) timesOld) one-number ∙ sym (y .timesAre)
+  one-times = x .timesAre ∙ ap (λ (n : ℕ). columnLaid timeOf n (answers t offset global c (runOf beats)) timesOld) one-number ∙ sym (y .timesAre)
 
   pub one-counts : countsA ≡ countsB
-  one-counts = x .countsAre ∙ ap (λ (n : ℕ). columnLaid countOf n (answers t offset global c beats) countsOld) one-number ∙ sym (y .countsAre)
+  one-counts = x .countsAre ∙ ap (λ (n : ℕ). columnLaid countOf n (answers t offset global c (runOf beats)) countsOld) one-number ∙ sym (y .countsAre)

@@ -15,8 +15,9 @@ use Rattle.columns.specs.Laying.{given}
 use Rattle.walk.specs.Events.{Timing}
 use Rattle.timing_tests.specs.TimingNumbers.{timingNumber}
 use Rattle.clock.specs.Question.{cursorRefusal}
+use Rattle.clock.specs.History.{lastCursor}
 use Rattle.clock.specs.declared.Cursor.{Cursor}
-use Rattle.clock_run.specs.Run.{lastCursor, roomNumber, runNumber, RunLaid}
+use Rattle.clock_run.specs.Run.{roomNumber, runNumber, RunLaid}
 use Rattle.clock_run.specs.Asked.{AllAsked}
 
 has-room : (b : Bool) → _≡_ {A = ℕ} (pick b 0 7) 0 → b ≡ true
