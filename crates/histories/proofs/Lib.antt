@@ -9,3 +9,4 @@ pub mod ByTheCursor
 pub mod RunsAreQuestions
 pub mod TimesAndRows
 pub mod EventsOfAWalk
+pub mod FreshNumber
