@@ -1,5 +1,5 @@
 pub mod FilledTempos
-pub mod SoonReply
+pub mod ReplyByTheWalk
 pub mod PlayerNumber
 pub mod NearTaken
 pub mod RefusalKeepsCursor

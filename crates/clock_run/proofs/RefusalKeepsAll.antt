@@ -16,6 +16,6 @@ module _ {t : Timing} {offset global : Float} {c : Cursor} {beats : List Float} 
   pub run-refusal-keeps : RunLaid t offset global c beats ran numbersOld numbersNew timesOld timesNew countsOld countsNew → (ran .number ≡ 0 → ⊥)
       → (ran .cursor ≡ c) × (numbersNew ≡ numbersOld) × (timesNew ≡ timesOld) × (countsNew ≡ countsOld)
   unfolding given laid lastCursor
-  run-refusal-keeps laid h =
+  run-refusal-keeps run h =
       let no = ne-eqb (ran .number) 0 h in
-      (rw no at (laid .cursor), rw no at (laid .numbersAre), rw no at (laid .timesAre), rw no at (laid .countsAre))
+      (rw no at (run .cursor), rw no at (run .numbersAre), rw no at (run .timesAre), rw no at (run .countsAre))

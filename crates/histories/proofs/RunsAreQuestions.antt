@@ -5,12 +5,11 @@ use mathlib.Core.Path.{_≡_, refl, sym, ap, _∙_}
 use borrow.Author.Tests.{eq-eqb}
 use lib.Ieee.{Float}
 use Rattle.limits.proofs.NoRefusal.{none-lower, lower-than-none}
-use Rattle.order.specs.Order.{laid}
 use Rattle.columns.specs.Laying.{given}
 use Rattle.walk.specs.Events.{Timing}
 use Rattle.timing_tests.specs.TimingNumbers.{timingNumber}
 use Rattle.clock.specs.Question.{asking}
-use Rattle.clock.specs.History.{ofBeat, asks, History, answers, lastCursor, numberOf, timeOf, countOf}
+use Rattle.clock.specs.History.{asks, History, answers, lastCursor, numberOf, timeOf}
 use Rattle.clock.specs.declared.Cursor.{Cursor}
 use Rattle.clock.specs.declared.Answer.{Answer}
 use Rattle.clock_run.specs.Run.{runOf, roomNumber, runNumber, RunLaid}
@@ -62,15 +61,15 @@ module _ (t : Timing) (offset global : Float) (taken : timingNumber t offset glo
     pub run-is-its-questions : RunLaid t offset global (used t offset global before) (beatsOf history) ran numbersOld numbersNew timesOld timesNew countsOld countsNew → ran .number ≡ 0
         → RunAsked t offset global before history ran numbersOld numbersNew timesOld timesNew countsOld countsNew
     unfolding given
-    run-is-its-questions laid n =
+    run-is-its-questions run n =
         let c = used t offset global before in
         let come = used-comes t offset global taken before in
         let same = answers-as-run c history come in
         record {
-          cursor = (rw (eq-eqb (ran .number) 0 n) at (laid .cursor)) ∙ cursor-as-run c history come ∙ sym (cursor-after-both t offset global _ before history);
-          numbersAre = rw (eq-eqb (ran .number) 0 n, same) at (laid .numbersAre);
-          timesAre = rw (eq-eqb (ran .number) 0 n, same) at (laid .timesAre);
-          countsAre = rw (eq-eqb (ran .number) 0 n, same) at (laid .countsAre);
+          cursor = (rw (eq-eqb (ran .number) 0 n) at (run .cursor)) ∙ cursor-as-run c history come ∙ sym (cursor-after-both t offset global _ before history);
+          numbersAre = rw (eq-eqb (ran .number) 0 n, same) at (run .numbersAre);
+          timesAre = rw (eq-eqb (ran .number) 0 n, same) at (run .timesAre);
+          countsAre = rw (eq-eqb (ran .number) 0 n, same) at (run .countsAre);
         }
 
   -- ---- the answers of a history are what a fresh cursor gives for each beat by itself

@@ -1,6 +1,6 @@
 -- Over a timing that is taken, every time that is given is finite, whatever was asked before, and the last row of every cursor is within the limit. Assumes nothing.
 use Prim.Native.Nat.{_+_, _≤_}
-use mathlib.Core.Path.{_≡_, refl}
+use mathlib.Core.Path.{_≡_}
 use native.Mathlib.Omega.{arith}
 use lib.Dec.{T}
 use lib.IntN.{ℤ, natAbs}

@@ -1,5 +1,5 @@
 -- What a history is to cost, by the beats that are asked and by the lists: the cursor plays no part. Definitions only.
-use Prim.Native.Nat.{ℕ, _+_, _*_, _≤_}
+use Prim.Native.Nat.{ℕ, _+_, _*_}
 use mathlib.Core.List.{List, [], _∷_, map}
 use lib.Dec.{eqb}
 use lib.IntN.{ℤ}
@@ -37,6 +37,7 @@ events t = temposOf t + length (t .stopBeats) + length (t .delayBeats) + 2 * len
 abbrev pub mostOf : Timing → List ℤ → ℕ
 mostOf t rows = (falls rows + 1) * events t + length rows
 
+-- numbers added up
 unfoldable pub total : List ℕ → ℕ
 total [] = 0
 total (n ∷ list) = n + total list

@@ -2,8 +2,8 @@
 --
 -- One timing that is taken, with its offsets, and one fresh cursor; a history of any beats, each asked by any of the three questions, in any order, refused
 -- ones among them. Then each time given is the time that a fresh cursor gives for that beat, bit for bit; a used cursor gives the number that a fresh one
--- gives, so that it cannot get out of the first promise by refusing; each count is the events passed and one; and all counts together are at most one round
--- of events for the first question and for each time that the asked row fell, and one for each accepted question.
+-- gives, so that it cannot get out of the first promise by refusing; each count is the events passed and one; and all counts together, those of refusals being 0,
+-- are at most one round of events for the first question and for each time that the asked row fell, and one for each accepted question.
 use Prim.Native.Nat.{_+_, _≤_}
 use mathlib.Core.List.{map}
 use mathlib.Core.Path.{_≡_}

@@ -1,6 +1,6 @@
 -- What assembly writes is a tidy timing: the clock, the lookups and SM stops take its lists; the clock refuses just the offsets that are beyond their limit. Assumes nothing.
 use Prim.Native.Nat.{ℕ, _%_, _≤_}
-use mathlib.Core.Path.{_≡_, refl, sym, ap, _∙_}
+use mathlib.Core.Path.{_≡_, refl, _∙_}
 use mathlib.Core.Bool.{Bool, true, false}
 use mathlib.Core.List.{List, map, map-id}
 use borrow.Author.Tests.{eq-eqb}

@@ -8,7 +8,7 @@ use Rattle.rows.specs.Rows.{row}
 use Rattle.walk.specs.Events.{Timing, timing}
 use Rattle.walk.proofs.BackFromBits.{back}
 use Rattle.clock.specs.Question.{asking}
-use Rattle.clock.proofs.SoonReply.{walked-reply, reply-asked}
+use Rattle.clock.proofs.ReplyByTheWalk.{walked-reply, reply-asked}
 use borrow.Author.Needs.{needs}
 use Rattle.clock.proofs.Cursor.ask.Statement.{statement}
 use Rattle.clock.proofs.Cursor.ask.Tie as tie

@@ -8,7 +8,7 @@ use Rattle.rows.specs.Rows.{row}
 use Rattle.walk.specs.Events.{Timing, timing}
 use Rattle.walk.proofs.BackFromBits.{back}
 use Rattle.clock.specs.Question.{cursorRefusal, playerNumber, temposOf, questionNumber, question}
-use Rattle.clock.proofs.SoonReply.{walked-reply}
+use Rattle.clock.proofs.ReplyByTheWalk.{walked-reply}
 use borrow.Author.Needs.{needs}
 use Rattle.clock.proofs.Cursor.time_for_beat.Statement.{statement}
 use Rattle.clock.proofs.Cursor.time_for_beat.Tie as tie

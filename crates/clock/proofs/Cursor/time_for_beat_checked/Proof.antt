@@ -8,7 +8,7 @@ use mir.Val.{toZ, ofZ}
 use Rattle.rows.specs.Rows.{row}
 use Rattle.walk.specs.Events.{Timing, timing}
 use Rattle.walk.proofs.BackFromBits.{back}
-use Rattle.clock.proofs.SoonReply.{soon-reply, walked-reply}
+use Rattle.clock.proofs.ReplyByTheWalk.{soon-reply, walked-reply}
 use Rattle.clock.proofs.PlayerNumber.{beat-refused, cursor-refused, both-taken}
 use borrow.Author.Needs.{needs}
 use Rattle.clock.proofs.Cursor.time_for_beat_checked.Statement.{statement}
