@@ -1,4 +1,6 @@
 pub mod FilledTempos
-pub mod SoonReply
+pub mod ReplyByTheWalk
 pub mod PlayerNumber
 pub mod NearTaken
+pub mod RefusalKeepsCursor
+pub mod NewIsFresh

@@ -18,7 +18,7 @@ ghost use Rattle.walk.specs.Events.{timing};
 ghost use Rattle.walk.specs.Quiet.{onlyTempos};
 ghost use Rattle.walk.specs.Soon.{walkedSoon};
 ghost use Rattle.walk.specs.Walk.{walk};
-ghost use Rattle.clock.specs.Question.{freshState, freshCursor, made, filled, beginning, answered, refusedWith, reply, asking, playerQuestion, question};
+ghost use Rattle.clock.specs.Question.{freshState, freshCursor, made, filled, beginning, answered, refusedWith, asking, playerQuestion, question};
 
 // How far the questions so far have come, and the row asked last.
 #[repr(C)]
@@ -79,36 +79,17 @@ fn refused(number: u32, cursor: Cursor) -> Answer
     }
 }
 
-// The answer that a walk to a row comes to.
-fn answered(walked: Walked, row: i32, global: f64) -> Answer
-    requires { ⌜ walked .passed + 1 < 2 ^ 64 ⌝ }
-    ensures { λ r. ⌜ r ≡ answered global row walked ⌝ }
+// The answer that hands a cursor back, moved by a walk that passed so many events and came to a time.
+fn answered(cursor: Cursor, passed: usize, time: f64, global: f64) -> Answer
+    requires { ⌜ passed + 1 < 2 ^ 64 ⌝ }
+    ensures { λ r. ⌜ r ≡ answered global (cursor .asked) (record { state = cursor .state; passed = passed; time = time }) ⌝ }
 {
-    let state = walked.state;
     Answer {
         number: 0,
-        time: walked.time - global,
-        count: walked.passed + 1,
-        cursor: Cursor {
-            state: state,
-            asked: row,
-        },
+        time: time - global,
+        count: passed + 1,
+        cursor: cursor,
     }
-}
-
-// The answer that a walk comes to which is soon at its row.
-fn answered_soon(soon: Soon, row: i32, tempo_values: &[f32], global: f64) -> Answer
-    requires { ⌜ soon .passed ≤ 1 ⌝ }
-    ensures { λ r. ⌜ r ≡ answered global row (walkedSoon (now («tempo_values» .entry)) row soon) ⌝ }
-{
-    let state = soon.state;
-    let time = walk::quiet_time(state, row, tempo_values);
-    let walked = Walked {
-        state: state,
-        passed: soon.passed,
-        time: time,
-    };
-    answered(walked, row, global)
 }
 
 // The row of a beat that is taken: of such a size the sum rounds, and its pattern counts on from that of row 0.
@@ -151,7 +132,8 @@ fn walk_filled(
     warp_beats: &[f32],
     warp_lengths: &[f32],
 ) -> Walked
-    ensures { λ r. ⌜ r ≡ walk (filled (timing (now («tempo_beats» .entry)) (now («tempo_values» .entry)) (now («stop_beats» .entry)) (now («stop_values» .entry)) (now («delay_beats» .entry)) (now («delay_values» .entry)) (now («warp_beats» .entry)) (now («warp_lengths» .entry)))) row begin ⌝ }
+    ensures is { λ r. ⌜ r ≡ walk (filled (timing (now («tempo_beats» .entry)) (now («tempo_values» .entry)) (now («stop_beats» .entry)) (now («stop_values» .entry)) (now («delay_beats» .entry)) (now («delay_values» .entry)) (now («warp_beats» .entry)) (now («warp_lengths» .entry)))) row begin ⌝ }
+    ensures few { λ r. ⌜ r .passed + 1 < 2 ^ 64 ⌝ }
 {
     let none = tempo_beats.len() == 0;
     let beat_of_none = [0.0f32];
@@ -203,8 +185,10 @@ impl Cursor {
         self.state
     }
 
-    fn reply(
+    // The walk to a row from where it begins.
+    fn walked(
         self,
+        row: i32,
         tempo_beats: &[f32],
         tempo_values: &[f32],
         stop_beats: &[f32],
@@ -215,13 +199,12 @@ impl Cursor {
         warp_lengths: &[f32],
         offset: f64,
         global: f64,
-        beat: f64,
-    ) -> Answer
-        ensures { λ r. ⌜ r ≡ reply (timing (now («tempo_beats» .entry)) (now («tempo_values» .entry)) (now («stop_beats» .entry)) (now («stop_values» .entry)) (now («delay_beats» .entry)) (now («delay_values» .entry)) (now («warp_beats» .entry)) (now («warp_lengths» .entry))) self offset global beat ⌝ }
+    ) -> Walked
+        ensures is { λ r. ⌜ r ≡ walk (filled (timing (now («tempo_beats» .entry)) (now («tempo_values» .entry)) (now («stop_beats» .entry)) (now («stop_values» .entry)) (now («delay_beats» .entry)) (now («delay_values» .entry)) (now («warp_beats» .entry)) (now («warp_lengths» .entry)))) row (beginning self row offset global) ⌝ }
+        ensures few { λ r. ⌜ r .passed + 1 < 2 ^ 64 ⌝ }
     {
-        let row = rows::beat_to_note_row(beat);
         let begin = self.begin(row, offset, global);
-        let walked = walk_filled(
+        walk_filled(
             begin,
             row,
             tempo_beats,
@@ -232,8 +215,7 @@ impl Cursor {
             delay_values,
             warp_beats,
             warp_lengths,
-        );
-        answered(walked, row, global)
+        )
     }
 
     // True only where the cursor has passed a tempo of so many and its rows are from 0 on, and its numbers, but for its places in the other lists, are not refused.
@@ -316,7 +298,7 @@ impl Cursor {
         }
     }
 
-    // A question of a run, whose timing and cursor were tested where it began: only the beat is tested. It walks by itself, not by `reply`: the walk, which is long,
+    // A question of a run, whose timing and cursor were tested where it began: only the beat is tested. It walks by itself, not by `walked`: the walk, which is long,
     // then has two callers and is left a call, and what stands around it is short enough to be inlined, so that no cursor is copied from call to call.
     pub fn ask(
         mut self,
@@ -350,7 +332,10 @@ impl Cursor {
                 warp_beats,
                 warp_lengths,
             );
-            return answered(walked, row, global);
+            let state = walked.state;
+            self.state = state;
+            self.asked = row;
+            return answered(self, walked.passed, walked.time, global);
         }
         refused(number, self)
     }
@@ -412,13 +397,18 @@ impl Cursor {
             warp_lengths,
         );
         if soon.whole {
-            return answered_soon(soon, row, tempo_values, global);
+            let state = soon.state;
+            let time = walk::quiet_time(state, row, tempo_values);
+            self.state = state;
+            self.asked = row;
+            return answered(self, soon.passed, time, global);
         }
         let lent = self.refusal(tempo_beats, stop_beats, delay_beats, warp_beats);
         if lent != 0 {
             return refused(lent, self);
         }
-        self.reply(
+        let walked = self.walked(
+            row,
             tempo_beats,
             tempo_values,
             stop_beats,
@@ -429,8 +419,11 @@ impl Cursor {
             warp_lengths,
             offset,
             global,
-            beat,
-        )
+        );
+        let state = walked.state;
+        self.state = state;
+        self.asked = row;
+        answered(self, walked.passed, walked.time, global)
     }
 
     // At what time is this beat? Everything is tested: the timing, its offsets, the beat, the cursor.
@@ -466,22 +459,27 @@ impl Cursor {
         let lent = self.refusal(tempo_beats, stop_beats, delay_beats, warp_beats);
         let player = limits::lower_of(asked, lent);
         let number = limits::lower_of(timing, player);
-        if number == 0 {
-            return self.reply(
-                tempo_beats,
-                tempo_values,
-                stop_beats,
-                stop_values,
-                delay_beats,
-                delay_values,
-                warp_beats,
-                warp_lengths,
-                offset,
-                global,
-                beat,
-            );
+        if number != 0 {
+            return refused(number, self);
         }
-        refused(number, self)
+        let row = rows::beat_to_note_row(beat);
+        let walked = self.walked(
+            row,
+            tempo_beats,
+            tempo_values,
+            stop_beats,
+            stop_values,
+            delay_beats,
+            delay_values,
+            warp_beats,
+            warp_lengths,
+            offset,
+            global,
+        );
+        let state = walked.state;
+        self.state = state;
+        self.asked = row;
+        answered(self, walked.passed, walked.time, global)
     }
 }
 

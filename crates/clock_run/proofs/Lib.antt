@@ -3,3 +3,4 @@ pub mod BeatByBeat
 pub mod PlacesInColumns
 pub mod RunOutcome
 pub mod OneOutcome
+pub mod RefusalKeepsAll

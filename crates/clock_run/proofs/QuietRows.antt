@@ -1,8 +1,10 @@
 -- Before the row that was looked ahead for, no event is due, and past one tempo none before the next row: the answer follows without a walk. Assumes nothing.
-use Prim.Native.Nat.{ℕ, _+_, _-_}
+use Prim.Native.Nat.{ℕ, _+_, _-_, _<_, _≤_}
 use mathlib.Core.Bool.{Bool, true, false}
 use mathlib.Core.Path.{_≡_, refl, sym, ap, _∙_}
 use mathlib.Core.List.{List}
+use native.Mathlib.Omega.{arith}
+use borrow.Author.Tests.{ne-eqb}
 use lib.Dec.{ltb, eqb}
 use lib.IntN.{ℤ}
 use lib.Signed.{ltZ}
@@ -23,7 +25,7 @@ use Rattle.timing_tests.specs.TimingNumbers.{beatNumber}
 use Rattle.clock.specs.Question.{filled, beginning, reply, asking}
 use Rattle.clock.specs.declared.Cursor.{Cursor}
 use Rattle.clock.specs.declared.Answer.{Answer}
-use Rattle.clock_run.specs.Ahead.{least, restUntil, blind, lookOn, lookAhead, isBefore, quietTime, reachedAt, pastTempo}
+use Rattle.clock_run.specs.Ahead.{least, restUntil, blind, lookOn, lookAhead, isBefore, quietTime, pastOne, pastNone, pastTempo}
 use Rattle.clock_run.specs.declared.Ahead.{Ahead}
 use Rattle.clock_run.specs.declared.Past.{Past}
 use Rattle.walk.proofs.RowOrder.{no, lt-le, lt-not}
@@ -105,6 +107,15 @@ on-sight tempoBeats tempoValues s rest h = go (eqb (s .tempos) 0) (ltb (s .tempo
     go false false h = no h
     go true b h = no h
 
+-- past a tempo that has a value there is something to see
+past-sight : (tempoBeats tempoValues : List Float) (s : State) (rest : ℤ) (place : ℕ) → s .tempos ≡ place + 1 → ltb place (length tempoValues) ≡ true
+    → (eqb (s .tempos) 0 ≡ false) × (lookOn tempoBeats tempoValues s rest ≡ sight tempoBeats tempoValues s rest)
+unfolding lookOn
+past-sight tempoBeats tempoValues s rest place e inValues =
+    let some = ne-eqb (s .tempos) 0 (λ z. omega (arith, e, z)) in
+    let before : s .tempos - 1 ≡ place = omega (arith, e) in
+    (some, rw (some, before, inValues))
+
 abbrev restOf : Timing → State → ℤ
 restOf t s = restUntil (t .stopBeats) (t .delayBeats) (t .warpBeats) s
 
@@ -164,6 +175,23 @@ module _ (t : Timing) (offset global : Float) (c : Cursor) (beat : Float) where
 
 -- ---- past one tempo
 
+-- one tempo is passed, or nothing
+pub past-few : (tempoBeats tempoValues stopValues delayValues warpBeats warpLengths : List Float) (ahead : Ahead) (c : Cursor) (beat : Float) (r : ℤ)
+    → pastTempo tempoBeats tempoValues stopValues delayValues warpBeats warpLengths ahead c beat r .passed ≤ 1
+unfolding pastTempo
+past-few tempoBeats tempoValues stopValues delayValues warpBeats warpLengths ahead c beat r =
+    go (isBefore (ahead .known) (least (rowAfter tempoBeats (c .state .tempos)) (ahead .rest)) (c .asked) beat r) (ltb (c .state .tempos) (length tempoBeats)) (ltb (c .state .tempos) (length tempoValues))
+  where
+    moved : State
+    moved = tempoPassed tempoBeats tempoValues stopValues delayValues warpBeats warpLengths (c .state) (ahead .row)
+
+    go : (x y z : Bool)
+        → pick x (pick y (pick z (pastOne tempoBeats tempoValues (ahead .rest) moved) (pastNone ahead (c .state))) (pastNone ahead (c .state))) (pastNone ahead (c .state)) .passed ≤ 1
+    go true true true = omega arith
+    go true true false = omega arith
+    go true false z = omega arith
+    go false y z = omega arith
+
 rest-stays : (t : Timing) (s : State) (at : ℤ) → restOf t (past t s at) ≡ restOf t s
 unfolding restUntil tempoPassed passed afterTempo
 rest-stays t s at = go (ltb (s .tempos) (length (t .tempoBeats)))
@@ -196,44 +224,59 @@ module _ (t : Timing) (offset global : Float) (c : Cursor) (beat : Float) (ahead
   abbrev until : ℤ
   until = least (rowAfter (t .tempoBeats) (c .state .tempos)) (ahead .rest)
 
-  at-tempo : isBefore (ahead .known) until (c .asked) beat (row binary64 beat) ≡ true → isBefore (on .known) (on .row) (c .asked) beat (row binary64 beat) ≡ true
-      → (quietly t offset global c beat 1 moved (on .rate) ≡ asking t c offset global beat) × Sees t moved on
-  at-tempo h reached =
-      let r = row binary64 beat in
-      let s = c .state in
-      let tempo = rowAt (t .tempoBeats) (s .tempos) in
-      let asked = before-is (ahead .known) until (c .asked) beat r h in
-      let sight = all-seen t s ahead sees (asked .1) in
-      let isRest : ahead .rest ≡ restOf t s = ap (λ (a : Ahead). a .rest) (sight .whole) in
-      let isRow : ahead .row ≡ least tempo (restOf t s) = ap (λ (a : Ahead). a .row) (sight .whole) in
-      let before : ltZ r (restOf t s) ≡ true = ap (λ (z : ℤ). ltZ r z) (sym isRest) ∙ below-right r (rowAfter (t .tempoBeats) (s .tempos)) (ahead .rest) (asked .3) in
-      let notRow : ltZ r (ahead .row) ≡ false = not-before (ahead .known) (ahead .row) (c .asked) beat r behind (asked .0) (asked .1) (asked .2) in
-      let isTempo : ahead .row ≡ tempo = isRow ∙ is-tempo r tempo (restOf t s) before (ap (λ (z : ℤ). ltZ r z) (sym isRow) ∙ notRow) in
-      let isMoved : moved ≡ past t s tempo = ap (λ (z : ℤ). past t s z) isTempo in
-      let asked-on = before-is (on .known) (on .row) (c .asked) beat r reached in
-      let on-is = on-sight (t .tempoBeats) (t .tempoValues) moved (ahead .rest) (asked-on .1) in
-      let later : ltZ r (rowAt (t .tempoBeats) (moved .tempos)) ≡ true =
-      below-left r (rowAt (t .tempoBeats) (moved .tempos)) (ahead .rest) (ap (λ (a : Ahead). ltZ r (a .row)) (sym (on-is .1)) ∙ asked-on .3) in
-      let walked : walk t r s ≡ record { state = moved; passed = 1; time = add binary64 (moved .time) (timeTo noTime (t .tempoValues) moved r) } =
-      one-soon t r s (others r t s before) (ap (λ (z : ℤ). ltZ r z) (sym isTempo) ∙ notRow) (sight .passed-one) (ap (λ (x : State). ltZ r (rowAt (t .tempoBeats) (x .tempos))) (sym isMoved) ∙ later)
-      ∙ ap (λ (x : State). record { state = x; passed = 1; time = add binary64 (x .time) (timeTo noTime (t .tempoValues) x r) }) (sym isMoved) in (
-        ap (λ (a : Ahead). quietly t offset global c beat 1 moved (a .rate)) (on-is .1)
-            ∙ ap (λ (x : Float). answer-of t offset global c beat (record { state = moved; passed = 1; time = x })) (sym (by-rate r (t .tempoValues) moved (on-is .0)))
-            ∙ sym (by-walk t offset global c beat (asked .0) (sight .some) (asked .2) _ walked),
-        λ k. ap (λ (z : ℤ). lookOn (t .tempoBeats) (t .tempoValues) moved z) (isRest ∙ sym (rest-stays t s (ahead .row))) ∙ sym (look-some t moved (sight .some)),
-      )
+  module _ (inBeats : ltb (c .state .tempos) (length (t .tempoBeats)) ≡ true) where
+    next-place : moved .tempos ≡ c .state .tempos + 1
+    unfolding tempoPassed passed afterTempo
+    next-place = rw inBeats
+
+    after-next : rowAfter (t .tempoBeats) (c .state .tempos) ≡ rowAt (t .tempoBeats) (moved .tempos)
+    unfolding rowAfter
+    after-next = rw (next-place, inBeats)
+
+    at-tempo : ltb (c .state .tempos) (length (t .tempoValues)) ≡ true → isBefore (ahead .known) until (c .asked) beat (row binary64 beat) ≡ true
+        → (quietly t offset global c beat 1 moved (on .rate) ≡ asking t c offset global beat) × Sees t moved on
+    at-tempo inValues h =
+        let r = row binary64 beat in
+        let s = c .state in
+        let tempo = rowAt (t .tempoBeats) (s .tempos) in
+        let asked = before-is (ahead .known) until (c .asked) beat r h in
+        let sight = all-seen t s ahead sees (asked .1) in
+        let isRest : ahead .rest ≡ restOf t s = ap (λ (a : Ahead). a .rest) (sight .whole) in
+        let isRow : ahead .row ≡ least tempo (restOf t s) = ap (λ (a : Ahead). a .row) (sight .whole) in
+        let before : ltZ r (restOf t s) ≡ true = ap (λ (z : ℤ). ltZ r z) (sym isRest) ∙ below-right r (rowAfter (t .tempoBeats) (s .tempos)) (ahead .rest) (asked .3) in
+        let notRow : ltZ r (ahead .row) ≡ false = not-before (ahead .known) (ahead .row) (c .asked) beat r behind (asked .0) (asked .1) (asked .2) in
+        let isTempo : ahead .row ≡ tempo = isRow ∙ is-tempo r tempo (restOf t s) before (ap (λ (z : ℤ). ltZ r z) (sym isRow) ∙ notRow) in
+        let isMoved : moved ≡ past t s tempo = ap (λ (z : ℤ). past t s z) isTempo in
+        let on-is = past-sight (t .tempoBeats) (t .tempoValues) moved (ahead .rest) (s .tempos) next-place inValues in
+        let later : ltZ r (rowAt (t .tempoBeats) (moved .tempos)) ≡ true =
+        ap (λ (z : ℤ). ltZ r z) (sym after-next) ∙ below-left r (rowAfter (t .tempoBeats) (s .tempos)) (ahead .rest) (asked .3) in
+        let walked : walk t r s ≡ record { state = moved; passed = 1; time = add binary64 (moved .time) (timeTo noTime (t .tempoValues) moved r) } =
+        one-soon t r s (others r t s before) (ap (λ (z : ℤ). ltZ r z) (sym isTempo) ∙ notRow) (sight .passed-one) (ap (λ (x : State). ltZ r (rowAt (t .tempoBeats) (x .tempos))) (sym isMoved) ∙ later)
+        ∙ ap (λ (x : State). record { state = x; passed = 1; time = add binary64 (x .time) (timeTo noTime (t .tempoValues) x r) }) (sym isMoved) in (
+          ap (λ (a : Ahead). quietly t offset global c beat 1 moved (a .rate)) (on-is .1)
+              ∙ ap (λ (x : Float). answer-of t offset global c beat (record { state = moved; passed = 1; time = x })) (sym (by-rate r (t .tempoValues) moved (on-is .0)))
+              ∙ sym (by-walk t offset global c beat (asked .0) (sight .some) (asked .2) _ walked),
+          λ k. ap (λ (z : ℤ). lookOn (t .tempoBeats) (t .tempoValues) moved z) (isRest ∙ sym (rest-stays t s (ahead .row))) ∙ sym (look-some t moved (sight .some)),
+        )
 
   abbrev pub passing : Past
   passing = pastTempo (t .tempoBeats) (t .tempoValues) (t .stopValues) (t .delayValues) (t .warpBeats) (t .warpLengths) ahead c beat (row binary64 beat)
 
-  pub past-answer : passing .reached ≡ true → (quietly t offset global c beat 1 (passing .state) (passing .ahead .rate) ≡ asking t c offset global beat) × Sees t (passing .state) (passing .ahead)
-  unfolding pastTempo
-  past-answer h = go (isBefore (ahead .known) until (c .asked) beat (row binary64 beat)) refl h
-    where
-      picked : Bool → Past
-      picked b = pick b (reachedAt (t .tempoBeats) (t .tempoValues) (ahead .rest) (c .asked) beat (row binary64 beat) moved) (record { reached = false; state = c .state; ahead = ahead })
+  abbrev picked : Bool → Bool → Bool → Past
+  picked before inBeats inValues =
+      pick before (pick inBeats (pick inValues (pastOne (t .tempoBeats) (t .tempoValues) (ahead .rest) moved) (pastNone ahead (c .state))) (pastNone ahead (c .state))) (pastNone ahead (c .state))
 
-      go : (b : Bool) → isBefore (ahead .known) until (c .asked) beat (row binary64 beat) ≡ b → picked b .reached ≡ true
-          → (quietly t offset global c beat 1 (picked b .state) (picked b .ahead .rate) ≡ asking t c offset global beat) × Sees t (picked b .state) (picked b .ahead)
-      go true e h = at-tempo e h
-      go false e h = no h
+  -- where one is passed, the answer follows without a walk
+  pub past-answer : 0 < passing .passed
+      → (quietly t offset global c beat (passing .passed) (passing .state) (passing .ahead .rate) ≡ asking t c offset global beat) × Sees t (passing .state) (passing .ahead)
+  unfolding pastTempo
+  past-answer h =
+      go (isBefore (ahead .known) until (c .asked) beat (row binary64 beat)) (ltb (c .state .tempos) (length (t .tempoBeats))) (ltb (c .state .tempos) (length (t .tempoValues))) refl refl refl h
+    where
+      go : (x y z : Bool) → isBefore (ahead .known) until (c .asked) beat (row binary64 beat) ≡ x → ltb (c .state .tempos) (length (t .tempoBeats)) ≡ y → ltb (c .state .tempos) (length (t .tempoValues)) ≡ z
+          → 0 < picked x y z .passed
+          → (quietly t offset global c beat (picked x y z .passed) (picked x y z .state) (picked x y z .ahead .rate) ≡ asking t c offset global beat) × Sees t (picked x y z .state) (picked x y z .ahead)
+      go true true true e inBeats inValues h = at-tempo inBeats inValues e
+      go true true false e inBeats inValues h = absurd (omega arith)
+      go true false z e inBeats inValues h = absurd (omega arith)
+      go false y z e inBeats inValues h = absurd (omega arith)

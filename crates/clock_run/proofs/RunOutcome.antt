@@ -1,10 +1,9 @@
 -- A run that is refused leaves cursor and columns, one that is taken has room for all and asks all. Assumes nothing.
 use Prim.Native.Nat.{ℕ, min, _≤_}
-use mathlib.Core.Path.{_≡_, refl, sym, ap, _∙_}
+use mathlib.Core.Path.{_≡_, refl, sym}
 use mathlib.Core.Bool.{Bool, true, false}
 use mathlib.Core.List.{List}
 use native.Mathlib.Omega.{arith}
-use lib.Dec.{leb}
 use lib.ListN.{length}
 use lib.Ieee.{Float}
 use borrow.Author.Tests.{ne-eqb, leb-true}
@@ -15,8 +14,9 @@ use Rattle.columns.specs.Laying.{given}
 use Rattle.walk.specs.Events.{Timing}
 use Rattle.timing_tests.specs.TimingNumbers.{timingNumber}
 use Rattle.clock.specs.Question.{cursorRefusal}
+use Rattle.clock.specs.History.{lastCursor}
 use Rattle.clock.specs.declared.Cursor.{Cursor}
-use Rattle.clock_run.specs.Run.{lastCursor, roomNumber, runNumber, RunLaid}
+use Rattle.clock_run.specs.Run.{roomNumber, runNumber, RunLaid}
 use Rattle.clock_run.specs.Asked.{AllAsked}
 
 has-room : (b : Bool) → _≡_ {A = ℕ} (pick b 0 7) 0 → b ≡ true

@@ -55,17 +55,20 @@ isBefore known until last beat asked = pick (eqb (beatNumber beat) 0) (pick know
 unfoldable pub quietTime : State → Float → ℤ → Float
 quietTime s rate asked = add binary64 (s .time) (pick (s .warping) noTime (div binary64 (beatOf binary64 (asked -ℤ s .row)) rate))
 
--- a state past a tempo, and whether a beat is answered there: whether it is before what is ahead of that state
-abbrev pub reachedAt : (tempoBeats tempoValues : List Float) → ℤ → ℤ → Float → ℤ → State → Past
-reachedAt tempoBeats tempoValues rest last beat asked s = record {
-  reached = isBefore (lookOn tempoBeats tempoValues s rest .known) (lookOn tempoBeats tempoValues s rest .row) last beat asked;
-  state = s;
-  ahead = lookOn tempoBeats tempoValues s rest;
-}
+-- a state past a tempo, and one that nothing is passed from
+abbrev pub pastOne : (tempoBeats tempoValues : List Float) → ℤ → State → Past
+pastOne tempoBeats tempoValues rest s = record { passed = 1; state = s; ahead = lookOn tempoBeats tempoValues s rest }
 
--- the next tempo passed, where by the beat it is due and no other event
+abbrev pub pastNone : Ahead → State → Past
+pastNone ahead s = record { passed = 0; state = s; ahead = ahead }
+
+-- the next tempo passed, where there is one and a beat is before all that follows it
 unfoldable pub pastTempo : (tempoBeats tempoValues stopValues delayValues warpBeats warpLengths : List Float) → Ahead → Cursor → Float → ℤ → Past
 pastTempo tempoBeats tempoValues stopValues delayValues warpBeats warpLengths ahead c beat asked =
     pick (isBefore (ahead .known) (least (rowAfter tempoBeats (c .state .tempos)) (ahead .rest)) (c .asked) beat asked)
-    (reachedAt tempoBeats tempoValues (ahead .rest) (c .asked) beat asked (tempoPassed tempoBeats tempoValues stopValues delayValues warpBeats warpLengths (c .state) (ahead .row)))
-    (record { reached = false; state = c .state; ahead = ahead })
+    (pick (ltb (c .state .tempos) (length tempoBeats))
+    (pick (ltb (c .state .tempos) (length tempoValues))
+    (pastOne tempoBeats tempoValues (ahead .rest) (tempoPassed tempoBeats tempoValues stopValues delayValues warpBeats warpLengths (c .state) (ahead .row)))
+    (pastNone ahead (c .state)))
+    (pastNone ahead (c .state)))
+    (pastNone ahead (c .state))

@@ -1,6 +1,6 @@
--- A run: a list of beats, each asked by the cursor that the beat before it left. Definitions only.
+-- A run: the history of a list of beats. Definitions only.
 use Prim.Native.Nat.{ℕ, min}
-use mathlib.Core.List.{List, [], _∷_}
+use mathlib.Core.List.{List, map}
 use mathlib.Core.Path.{_≡_}
 use lib.Dec.{leb}
 use lib.ListN.{length}
@@ -10,31 +10,14 @@ use Rattle.limits.specs.Refusals.{lower}
 use Rattle.columns.specs.Laying.{given, columnLaid}
 use Rattle.walk.specs.Events.{Timing}
 use Rattle.timing_tests.specs.TimingNumbers.{timingNumber}
-use Rattle.clock.specs.Question.{asking, cursorRefusal}
+use Rattle.clock.specs.Question.{cursorRefusal}
+use Rattle.clock.specs.History.{ofBeat, History, answers, lastCursor, numberOf, timeOf, countOf}
 use Rattle.clock.specs.declared.Cursor.{Cursor}
-use Rattle.clock.specs.declared.Answer.{Answer}
 use Rattle.clock_run.specs.declared.Ran.{Ran}
 
--- ---- the answers
-
--- A beat that is refused leaves the cursor as it was, and the run goes on.
-unfoldable pub answers : Timing → Float → Float → Cursor → List Float → List Answer
-answers t offset global c [] = []
-answers t offset global c (beat ∷ beats) = asking t c offset global beat ∷ answers t offset global (asking t c offset global beat .cursor) beats
-
--- the cursor after the last beat
-unfoldable pub lastCursor : Timing → Float → Float → Cursor → List Float → Cursor
-lastCursor t offset global c [] = c
-lastCursor t offset global c (beat ∷ beats) = lastCursor t offset global (asking t c offset global beat .cursor) beats
-
-abbrev pub numberOf : Answer → ℕ
-numberOf a = a .number
-
-abbrev pub timeOf : Answer → Float
-timeOf a = a .time
-
-abbrev pub countOf : Answer → ℕ
-countOf a = a .count
+-- a run asks each beat by the question that tests the beat alone
+abbrev pub runOf : List Float → History
+runOf beats = map (λ (beat : Float). (ofBeat, beat)) beats
 
 -- ---- the number of the run itself
 
@@ -51,7 +34,7 @@ runNumber t offset global c beats numbers times counts =
 
 pub record RunLaid (t : Timing) (offset global : Float) (c : Cursor) (beats : List Float) (ran : Ran) (numbersOld numbersNew : List ℕ) (timesOld timesNew : List Float) (countsOld countsNew : List ℕ) : Type 0 where
   pub number : ran .number ≡ runNumber t offset global c (length beats) (length numbersOld) (length timesOld) (length countsOld)
-  pub cursor : ran .cursor ≡ lastCursor t offset global c (given (ran .number) beats)
-  pub numbersAre : numbersNew ≡ columnLaid numberOf (ran .number) (answers t offset global c beats) numbersOld
-  pub timesAre : timesNew ≡ columnLaid timeOf (ran .number) (answers t offset global c beats) timesOld
-  pub countsAre : countsNew ≡ columnLaid countOf (ran .number) (answers t offset global c beats) countsOld
+  pub cursor : ran .cursor ≡ lastCursor t offset global c (runOf (given (ran .number) beats))
+  pub numbersAre : numbersNew ≡ columnLaid numberOf (ran .number) (answers t offset global c (runOf beats)) numbersOld
+  pub timesAre : timesNew ≡ columnLaid timeOf (ran .number) (answers t offset global c (runOf beats)) timesOld
+  pub countsAre : countsNew ≡ columnLaid countOf (ran .number) (answers t offset global c (runOf beats)) countsOld

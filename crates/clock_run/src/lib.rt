@@ -145,13 +145,14 @@ fn quiet_time(state: State, rate: f64, row: i32) -> f64
     state.time + beats / rate
 }
 
-// The state past the next tempo, what is ahead of it, and whether a beat is answered there.
+// How many events were passed, one tempo or none, the state past them, and what is ahead of it.
 struct Past {
-    reached: bool,
+    passed: usize,
     state: State,
     ahead: Ahead,
 }
 
+// Passes the next tempo where a beat is behind it and before all that follows it: what is passed is kept. Where that is not so, passes nothing.
 fn past_tempo(
     ahead: Ahead,
     at: Cursor,
@@ -167,29 +168,32 @@ fn past_tempo(
     ensures { λ r. ⌜ r ≡ pastTempo (now («tempo_beats» .entry)) (now («tempo_values» .entry)) (now («stop_values» .entry)) (now («delay_values» .entry)) (now («warp_beats» .entry)) (now («warp_lengths» .entry)) ahead at beat row ⌝ }
 {
     let state = at.state;
-    let after = walk::row_after(tempo_beats, state.tempos);
-    let until = least_of(after, ahead.rest);
+    let next = state.tempos;
+    let until = least_of(walk::row_after(tempo_beats, next), ahead.rest);
     if is_before(ahead.known, until, at.asked, beat, row) {
-        let moved = walk::pass_next_tempo(
-            state,
-            ahead.row,
-            tempo_beats,
-            tempo_values,
-            stop_values,
-            delay_values,
-            warp_beats,
-            warp_lengths,
-        );
-        let on = look_on(moved, ahead.rest, tempo_beats, tempo_values);
-        let reached = is_before(on.known, on.row, at.asked, beat, row);
-        return Past {
-            reached: reached,
-            state: moved,
-            ahead: on,
-        };
+        if next < tempo_beats.len() {
+            if next < tempo_values.len() {
+                let moved = walk::pass_next_tempo(
+                    state,
+                    ahead.row,
+                    tempo_beats,
+                    tempo_values,
+                    stop_values,
+                    delay_values,
+                    warp_beats,
+                    warp_lengths,
+                );
+                let on = look_on(moved, ahead.rest, tempo_beats, tempo_values);
+                return Past {
+                    passed: 1,
+                    state: moved,
+                    ahead: on,
+                };
+            }
+        }
     }
     Past {
-        reached: false,
+        passed: 0,
         state: state,
         ahead: ahead,
     }
@@ -252,13 +256,13 @@ fn ask_each(
             warp_beats,
             warp_lengths,
         );
-        if past.reached {
+        if 0 < past.passed {
             let state = past.state;
             let on = past.ahead;
             let time = quiet_time(state, on.rate, row) - global;
             numbers[i] = limits::TAKEN;
             times[i] = time;
-            counts[i] = 2;
+            counts[i] = past.passed + 1;
             at = Cursor {
                 state: state,
                 asked: row,

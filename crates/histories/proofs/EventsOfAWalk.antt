@@ -15,7 +15,7 @@ use Rattle.limits.specs.Numbers.{inRange, every}
 use Rattle.limits.specs.Refusals.{lower, listNumber}
 use Rattle.timing_tests.specs.TimingNumbers.{risesFrom, rises, startsAtZero, listsNumber, offsetNumber, offsetsNumber, orderNumber, timingNumber}
 use Rattle.clock.specs.Question.{filled, temposOf, freshState}
-use Rattle.histories.specs.History.{events}
+use Rattle.histories.specs.Costs.{events}
 use Rattle.histories.proofs.WithATempo.{all-left}
 
 pub events-at-most : (t : Timing) (offset global : Float) (r : ℤ) → walk (filled t) r (freshState offset global) .passed ≤ events t

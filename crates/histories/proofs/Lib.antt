@@ -1,10 +1,12 @@
 pub mod FirstTempoInForce
 pub mod WithATempo
 pub mod WhereAFreshOneEnds
-pub mod KeptWhereSound
 pub mod WalksAreSound
-pub mod MixedQuestions
+pub mod AnyQuestion
+pub mod CostOfAll
 pub mod DemandThree
+pub mod ByTheCursor
+pub mod RunsAreQuestions
 pub mod TimesAndRows
 pub mod EventsOfAWalk
-pub mod RunsKeep
+pub mod FreshNumber

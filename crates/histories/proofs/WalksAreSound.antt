@@ -34,7 +34,13 @@ use Rattle.sound_walks.proofs.WarpEnds.{end-begins}
 use Rattle.sound_walks.proofs.EachEventKeeps.{ListsTaken, Fine, spans, spansAfter, walk-fine, walk-time}
 use Rattle.sound_walks.proofs.CursorTestPasses.{fine-passes}
 use Rattle.histories.proofs.WithATempo.{given, of-filled, tempos-filled, stops-filled, delays-filled, warps-filled}
-use Rattle.histories.proofs.KeptWhereSound.{Sound}
+use Rattle.histories.proofs.WhereAFreshOneEnds.{Usable}
+
+-- what is found of a fresh cursor and of each that a walk leaves behind: it can be walked on from, and the cursor test has nothing to refuse
+pub record Sound (t : Timing) (offset global : Float) : Type 0 where
+  pub usable : Usable (filled t) offset global
+  pub freshFine : cursorRefusal t (freshCursor offset global) ≡ 0
+  pub walkedFine : (r : ℤ) → natAbs r ≤ mostRow → cursorRefusal t (record { state = walk (filled t) r (freshState offset global) .state; asked = r }) ≡ 0
 
 -- ---- a timing without a tempo has the one of 60 at beat 0
 sole-taken : Taken (rangeOf Kind.Beat) (rangeOf Kind.Tempo) (noTime ∷ []) (sixty ∷ [])

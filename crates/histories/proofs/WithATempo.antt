@@ -13,7 +13,7 @@ use Rattle.walk.specs.Events.{Timing}
 use Rattle.walk.specs.Passing.{noTime, sixty}
 use Rattle.walk.specs.Walk.{left}
 use Rattle.clock.specs.Question.{filled, temposOf, freshState}
-use Rattle.histories.specs.History.{events}
+use Rattle.histories.specs.Costs.{events}
 
 abbrev pub given : Timing → Timing
 given t = record {

@@ -1,4 +1,4 @@
-pub mod History
+pub mod Costs
 pub mod Demand
-pub mod Mixed
+pub mod ByTheCursor
 pub mod Runs

@@ -1,25 +1,17 @@
--- What is asked of a run: its columns are what a fresh cursor gives for each beat by itself, at the cost that is allowed. Definitions only.
-use Prim.Native.Nat.{ℕ, _+_, _*_, _≤_}
-use mathlib.Core.List.{List, [], _∷_, map}
+-- What is asked of a run from a cursor that a history left: it is its beats asked one by one, by whichever question. Definitions only.
+use Prim.Native.Nat.{ℕ}
+use mathlib.Core.List.{List, map, _++_}
 use mathlib.Core.Path.{_≡_}
 use lib.Ieee.{Float}
+use Rattle.order.specs.Order.{laid}
 use Rattle.walk.specs.Events.{Timing}
-use Rattle.clock.specs.Question.{freshCursor, question}
-use Rattle.clock.specs.declared.Answer.{Answer}
-use Rattle.clock_run.specs.Run.{answers, numberOf, timeOf, countOf}
-use Rattle.histories.specs.History.{accepted, falls, events}
+use Rattle.clock.specs.History.{History, answers, numberOf, timeOf, countOf}
+use Rattle.clock_run.specs.declared.Ran.{Ran}
+use Rattle.histories.specs.Demand.{used}
 
-unfoldable pub total : List ℕ → ℕ
-total [] = 0
-total (n ∷ list) = n + total list
-
-module _ (t : Timing) (offset global : Float) where
-  -- the answer of a fresh cursor to one beat
-  abbrev pub alone : Float → Answer
-  alone b = question t (freshCursor offset global) offset global b
-
-  pub record RunKept (beats : List Float) : Type 0 where
-    pub numbers : map numberOf (answers t offset global (freshCursor offset global) beats) ≡ map (λ (b : Float). alone b .number) beats
-    pub times : map timeOf (answers t offset global (freshCursor offset global) beats) ≡ map (λ (b : Float). alone b .time) beats
-    pub costs : total (map countOf (answers t offset global (freshCursor offset global) beats))
-        ≤ (falls t offset global (freshCursor offset global) beats + 1) * events t + accepted t offset global (freshCursor offset global) beats
+-- the columns hold the answers of a history that is asked after another, and the cursor is the one after both
+pub record RunAsked (t : Timing) (offset global : Float) (before history : History) (ran : Ran) (numbersOld numbersNew : List ℕ) (timesOld timesNew : List Float) (countsOld countsNew : List ℕ) : Type 0 where
+  pub cursor : ran .cursor ≡ used t offset global (before ++ history)
+  pub numbersAre : numbersNew ≡ laid (map numberOf (answers t offset global (used t offset global before) history)) numbersOld
+  pub timesAre : timesNew ≡ laid (map timeOf (answers t offset global (used t offset global before) history)) timesOld
+  pub countsAre : countsNew ≡ laid (map countOf (answers t offset global (used t offset global before) history)) countsOld

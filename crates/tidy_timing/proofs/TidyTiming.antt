@@ -1,21 +1,22 @@
--- What assembly writes is a tidy timing: the clock and the lookups take its lists; the clock refuses the offset that it writes exactly where it is beyond an offset's limit. Assumes nothing.
+-- What assembly writes is a tidy timing: the clock, the lookups and SM stops take its lists; the clock refuses just the offsets that are beyond their limit. Assumes nothing.
 use Prim.Native.Nat.{ℕ, _%_, _≤_}
-use mathlib.Core.Path.{_≡_, refl, sym, ap, _∙_}
+use mathlib.Core.Path.{_≡_, refl, _∙_}
 use mathlib.Core.Bool.{Bool, true, false}
 use mathlib.Core.List.{List, map, map-id}
 use borrow.Author.Tests.{eq-eqb}
 use lib.ListN.{length, length-map}
 use lib.Ieee.{Float}
 use Rattle.picks.specs.Pick.{pick}
-use Rattle.ieee.specs.Narrowing.{narrow}
 use Rattle.limits.specs.declared.Kind.the-variants.{Beat, Value, Pause, Offset}
 use Rattle.limits.specs.Numbers.{rangeOf, inRange}
 use Rattle.order.specs.Entries.{first, second}
 use Rattle.limits.specs.Refusals.{lower}
 use Rattle.limits.proofs.NoRefusal.{lower-none}
 use Rattle.raw_lists.specs.RawLists.{rawNumbers}
-use Rattle.walk.specs.Events.{timing}
-use Rattle.timing_tests.specs.TimingNumbers.{listsNumber, offsetNumber, offsetsNumber, orderNumber, timingNumber}
+use Rattle.walk.specs.Events.{Timing, timing}
+use Rattle.timing_tests.specs.TimingNumbers.{listsNumber, offsetNumber, offsetsNumber, orderNumber, timingNumber, beatNumber}
+use Rattle.clock.specs.Question.{freshCursor, question}
+use Rattle.histories.proofs.FreshNumber.{fresh-number}
 use Rattle.lookup.specs.Lookups.{judgableNumber}
 use Rattle.sm_stops.specs.Merging.{sources}
 use Rattle.sm_stops.specs.Filling as filling
@@ -68,19 +69,34 @@ module _ (format : TimingFormat) (tempoBeats tempoValues stopBeats stopValues wa
 
   -- ---- all lists
   module _ (few : length (lists .warps) ≤ 1024) (delayBeats delayValues : List Float) (delays : listOf delayBeats delayValues ≡ 0) where
-    -- the clock, where the offsets are within their limit
-    pub clock-takes : (offset global : Float) → inRange (rangeOf Offset) offset ≡ true → inRange (rangeOf Offset) global ≡ true
-        → timingNumber
-        (timing (map first (assembledTempos lists)) (map second (assembledTempos lists)) (map first (assembledStops lists)) (map second (assembledStops lists)) (map first (assembledDelays delayBeats delayValues)) (map second (assembledDelays delayBeats delayValues)) (map first (assembledWarps lists)) (map second (assembledWarps lists)))
-        offset global
-        ≡ 0
+    -- the timing that is written
+    abbrev pub written : Timing
+    written =
+        timing (map first (assembledTempos lists)) (map second (assembledTempos lists)) (map first (assembledStops lists)) (map second (assembledStops lists)) (map first (assembledDelays delayBeats delayValues)) (map second (assembledDelays delayBeats delayValues)) (map first (assembledWarps lists)) (map second (assembledWarps lists))
+
+    -- of it the clock asks only that both offsets are within their limit, and refuses with 4 otherwise
+    pub offset-asked : (offset global : Float) → timingNumber written offset global ≡ pick (inRange (rangeOf Offset) offset) (pick (inRange (rangeOf Offset) global) 0 4) 4
     unfolding timingNumber listsNumber offsetsNumber offsetNumber orderNumber lower
-    clock-takes offset global o g =
+    offset-asked offset global =
         let t = tempos-tidy in
         let s = stops-tidy in
         let d = delays-tidy delayBeats delayValues delays in
         let w = warps-tidy few in
-        rw (t .taken, s .taken, d .taken, w .taken, o, g, t .rising, s .rising, d .rising, w .rising, t .starts)
+        rw (t .taken, s .taken, d .taken, w .taken, t .rising, s .rising, d .rising, w .rising, t .starts) (by (inRange (rangeOf Offset) offset) (inRange (rangeOf Offset) global))
+      where
+        by : (o g : Bool) → lower (lower (pick o 0 4) (pick g 0 4)) 0 ≡ pick o (pick g 0 4) 4
+        by true true = refl
+        by true false = refl
+        by false true = refl
+        by false false = refl
+
+    pub clock-takes : (offset global : Float) → inRange (rangeOf Offset) offset ≡ true → inRange (rangeOf Offset) global ≡ true → timingNumber written offset global ≡ 0
+    clock-takes offset global o g = offset-asked offset global ∙ rw (o, g)
+
+    -- and so does a fresh cursor that is asked an allowed beat
+    pub first-question : (offset global beat : Float) → beatNumber beat ≡ 0
+        → question written (freshCursor offset global) offset global beat .number ≡ pick (inRange (rangeOf Offset) offset) (pick (inRange (rangeOf Offset) global) 0 4) 4
+    first-question offset global beat allowed = fresh-number written offset global beat allowed ∙ offset-asked offset global
 
     -- SM stops, with the stops in a flat list and a work list of even length
     pub sm-stops-take : (size : ℕ) → size % 2 ≡ 0
@@ -99,10 +115,3 @@ module _ (format : TimingFormat) (tempoBeats tempoValues stopBeats stopValues wa
     unfolding lower
     lookups-take fakeBeats fakeLengths fakes =
         rw (stops-tidy .found, delays-tidy delayBeats delayValues delays .found, warps-tidy few .found, fakes-tidy fakeBeats fakeLengths fakes .found)
-
--- ---- the offset
-
--- taken by the clock where the f32 that is written is finite and at most 2 ^ 20 in size, and refused with 4 otherwise
-pub offset-asked : (lists : Lists) → offsetNumber (narrow (lists .offset)) ≡ pick (inRange (rangeOf Offset) (narrow (lists .offset))) 0 4
-unfolding offsetNumber
-offset-asked lists = refl

@@ -1,14 +1,14 @@
 -- `clock::Cursor::ask` is `asking`. Assumes nothing.
 use mathlib.Core.Path.{_≡_, _∙_}
-use borrow.Author.Tests.{eq-eqb, ne-eqb}
+use borrow.Author.Tests.{ne-eqb}
 use lib.Ieee.{binary64}
 use mir.Syntax.{w32}
 use mir.Val.{toZ, ofZ}
 use Rattle.rows.specs.Rows.{row}
 use Rattle.walk.specs.Events.{Timing, timing}
 use Rattle.walk.proofs.BackFromBits.{back}
-use Rattle.clock.specs.Question.{reply, asking}
-use Rattle.clock.proofs.FilledTempos.{filled-fits}
+use Rattle.clock.specs.Question.{asking}
+use Rattle.clock.proofs.ReplyByTheWalk.{walked-reply, reply-asked}
 use borrow.Author.Needs.{needs}
 use Rattle.clock.proofs.Cursor.ask.Statement.{statement}
 use Rattle.clock.proofs.Cursor.ask.Tie as tie
@@ -26,20 +26,19 @@ walk-filled-requires : tie.Need-walk-filled-requires
 walk-filled-requires c κs = search needs
 
 answered-requires : tie.Need-answered-requires
-answered-requires c κs =
-    let s = c .before .before .before .before .before .before .before .before .before .before .before .before .before in
-    let a = s .args in
-    let t : Timing = timing (a .tempo-beats .now) (a .tempo-values .now) (a .stop-beats .now) (a .stop-values .now) (a .delay-beats .now) (a .delay-values .now) (a .warp-beats .now) (a .warp-lengths .now) in
-    let g = s .good in
-    filled-fits t (c .walk-filled .result) _ _ (c .walk-filled .ensures) (g .1 .0 .1) (g .1 .1 .1 .0 .1) (g .1 .1 .1 .1 .1 .0 .1) (g .1 .1 .1 .1 .1 .1 .1 .0 .1)
+answered-requires c κs = c .before .walk-filled .ensures .1
 
 returns : tie.Need-returns
-unfolding asking reply
 returns c =
-    let a = c .before .before .before .before .before .before .before .before .before .before .before .before .before .before .args in
-    let asked = c .before .before .before .beat-to-note-row in
-    let is : toZ w32 (ofZ w32 (asked .result)) ≡ row binary64 (a .beat) = back (asked .result) (record { sfits = asked .ok }) ∙ asked .ensures in
-    rw (← c .before .before .before .before .before .beat-number .ensures, eq-eqb _ _ (c .before .before .before .before .if1 .taken), c .answered .ensures, c .before .walk-filled .ensures, c .before .before .begin .ensures, is)
+    let a = c .before .before .before .before .before .before .before .before .before .before .before .before .before .before .before .args in
+    let t : Timing = timing (a .tempo-beats .now) (a .tempo-values .now) (a .stop-beats .now) (a .stop-values .now) (a .delay-beats .now) (a .delay-values .now) (a .warp-beats .now) (a .warp-lengths .now) in
+    let number = c .before .before .before .before .before .before .beat-number in
+    let asked = c .before .before .before .before .beat-to-note-row in
+    let walked = c .before .before .walk-filled in
+    let r = toZ w32 (ofZ w32 (asked .result)) in
+    let is : r ≡ row binary64 (a .beat) = back (asked .result) (record { sfits = asked .ok }) ∙ asked .ensures in
+    c .answered .ensures ∙ walked-reply t (a .self) (a .offset) (a .global) (a .beat) r (walked .result) is (rw (c .before .before .before .begin .ensures) at (walked .ensures .0))
+    ∙ reply-asked t (a .self) (a .offset) (a .global) (a .beat) (number .result) (number .ensures) (c .before .before .before .before .before .if1 .taken)
 
 refused-requires : tie.Need-refused-requires
 refused-requires c κs = search needs

@@ -1,5 +1,6 @@
 -- `clock::Cursor::time_for_beat_checked` is `playerQuestion`. Assumes nothing.
 use mathlib.Core.Path.{_≡_, refl, sym, _∙_}
+use native.Mathlib.Omega.{arith}
 use borrow.Author.Tests.{eq-eqb, ne-eqb}
 use lib.Ieee.{binary64}
 use mir.Syntax.{w32}
@@ -7,7 +8,7 @@ use mir.Val.{toZ, ofZ}
 use Rattle.rows.specs.Rows.{row}
 use Rattle.walk.specs.Events.{Timing, timing}
 use Rattle.walk.proofs.BackFromBits.{back}
-use Rattle.clock.proofs.SoonReply.{soon-reply}
+use Rattle.clock.proofs.ReplyByTheWalk.{soon-reply, walked-reply}
 use Rattle.clock.proofs.PlayerNumber.{beat-refused, cursor-refused, both-taken}
 use borrow.Author.Needs.{needs}
 use Rattle.clock.proofs.Cursor.time_for_beat_checked.Statement.{statement}
@@ -32,20 +33,23 @@ row-of-taken-requires c κs = sym (c .before .beat-number .ensures) ∙ c .if1 .
 soon-requires : tie.Need-soon-requires
 soon-requires c κs = search needs
 
-answered-soon-requires : tie.Need-answered-soon-requires
-answered-soon-requires c κs = c .before .soon .ensures (c .if2 .taken) .0
+quiet-time-requires : tie.Need-quiet-time-requires
+quiet-time-requires c κs = search needs
+
+answered-requires : tie.Need-answered-requires
+answered-requires c κs = omega (arith, c .before .before .before .soon .ensures (c .before .before .if2 .taken) .0)
 
 returns-2 : tie.Need-returns-2
 returns-2 c =
-    let a = c .before .before .before .before .before .before .before .before .before .before .before .before .before .before .args in
+    let a = c .before .before .before .before .before .before .before .before .before .before .before .before .before .before .before .before .args in
     let t : Timing = timing (a .tempo-beats .now) (a .tempo-values .now) (a .stop-beats .now) (a .stop-values .now) (a .delay-beats .now) (a .delay-values .now) (a .warp-beats .now) (a .warp-lengths .now) in
-    let asked = c .before .before .before .before .before .beat-number in
-    let on = c .before .before .before .row-of-taken in
+    let asked = c .before .before .before .before .before .before .before .beat-number in
+    let on = c .before .before .before .before .before .row-of-taken in
     let r = toZ w32 (ofZ w32 (on .result)) in
-    let is-soon = c .before .before .soon .ensures (c .before .if2 .taken) in
+    let is-soon = c .before .before .before .before .soon .ensures (c .before .before .before .if2 .taken) in
     let is : r ≡ row binary64 (a .beat) = back (on .result) (record { sfits = on .ok }) ∙ on .ensures in
-    c .answered-soon .ensures ∙ soon-reply t (a .self) (a .offset) (a .global) (a .beat) r _ is (is-soon .1) (is-soon .2) (is-soon .3)
-    ∙ both-taken t (a .self) (a .offset) (a .global) (a .beat) (asked .result) (asked .ensures) (eq-eqb _ _ (c .before .before .before .before .if1 .left)) _ refl (eq-eqb _ _ (is-soon .4))
+    (rw (c .before .quiet-time .ensures) at (c .answered .ensures)) ∙ soon-reply t (a .self) (a .offset) (a .global) (a .beat) r _ is (is-soon .1) (is-soon .2) (is-soon .3)
+    ∙ both-taken t (a .self) (a .offset) (a .global) (a .beat) (asked .result) (asked .ensures) (eq-eqb _ _ (c .before .before .before .before .before .before .if1 .left)) _ refl (eq-eqb _ _ (is-soon .4))
 
 refusal-requires : tie.Need-refusal-requires
 refusal-requires c κs = search needs
@@ -61,16 +65,24 @@ returns-3 c =
     let lent = c .before .before .refusal in
     c .refused2 .ensures ∙ cursor-refused t (a .self) (a .offset) (a .global) (a .beat) (asked .result) (asked .ensures) (eq-eqb _ _ (c .before .before .before .before .before .before .if1 .left)) (lent .result) (lent .ensures) (ne-eqb _ _ (c .before .if3 .taken))
 
-reply-requires : tie.Need-reply-requires
-reply-requires c κs = search needs
+walked-requires : tie.Need-walked-requires
+walked-requires c κs = search needs
+
+answered-requires-2 : tie.Need-answered-requires-2
+answered-requires-2 c κs = c .before .walked .ensures .1
 
 returns-4 : tie.Need-returns-4
 returns-4 c =
-    let a = c .before .before .before .before .before .before .before .before .before .before .before .before .before .before .before .before .args in
+    let a = c .before .before .before .before .before .before .before .before .before .before .before .before .before .before .before .before .before .before .args in
     let t : Timing = timing (a .tempo-beats .now) (a .tempo-values .now) (a .stop-beats .now) (a .stop-values .now) (a .delay-beats .now) (a .delay-values .now) (a .warp-beats .now) (a .warp-lengths .now) in
-    let asked = c .before .before .before .before .before .before .before .beat-number in
-    let lent = c .before .before .refusal in
-    c .reply .ensures ∙ both-taken t (a .self) (a .offset) (a .global) (a .beat) (asked .result) (asked .ensures) (eq-eqb _ _ (c .before .before .before .before .before .before .if1 .left)) (lent .result) (lent .ensures) (eq-eqb _ _ (c .before .if3 .left))
+    let asked = c .before .before .before .before .before .before .before .before .before .beat-number in
+    let on = c .before .before .before .before .before .before .before .row-of-taken in
+    let walked = c .before .before .walked in
+    let lent = c .before .before .before .before .refusal in
+    let r = toZ w32 (ofZ w32 (on .result)) in
+    let is : r ≡ row binary64 (a .beat) = back (on .result) (record { sfits = on .ok }) ∙ on .ensures in
+    c .answered2 .ensures ∙ walked-reply t (a .self) (a .offset) (a .global) (a .beat) r (walked .result) is (walked .ensures .0)
+    ∙ both-taken t (a .self) (a .offset) (a .global) (a .beat) (asked .result) (asked .ensures) (eq-eqb _ _ (c .before .before .before .before .before .before .before .before .if1 .left)) (lent .result) (lent .ensures) (eq-eqb _ _ (c .before .before .before .if3 .left))
 
 pub time-for-beat-checked-spec : {M : Type 1} → statement M
 time-for-beat-checked-spec =
@@ -81,10 +93,12 @@ time-for-beat-checked-spec =
     returns
     row-of-taken-requires
     soon-requires
-    answered-soon-requires
+    quiet-time-requires
+    answered-requires
     returns-2
     refusal-requires
     refused-requires-2
     returns-3
-    reply-requires
+    walked-requires
+    answered-requires-2
     returns-4)

@@ -1,0 +1,34 @@
+-- The reply by the walk to the asked row, and where that is soon at its end. Assumes nothing.
+use Prim.Native.Nat.{ℕ}
+use mathlib.Core.Bool.{false}
+use mathlib.Core.Path.{_≡_}
+use borrow.Author.Tests.{eq-eqb}
+use lib.Dec.{eqb}
+use lib.IntN.{ℤ}
+use lib.Signed.{ltZ}
+use lib.ListN.{length}
+use lib.Ieee.{Float, binary64}
+use Rattle.rows.specs.Rows.{row}
+use Rattle.walk.specs.Events.{Timing}
+use Rattle.walk.specs.Walk.{walk}
+use Rattle.walk.specs.declared.Walked.{Walked}
+use Rattle.timing_tests.specs.TimingNumbers.{beatNumber}
+use Rattle.clock.specs.Question.{filled, beginning, answered, reply, asking}
+use Rattle.clock.specs.declared.Cursor.{Cursor}
+
+pub soon-reply : (t : Timing) (c : Cursor) (offset global beat : Float) (r : ℤ) (w : Walked) → r ≡ row binary64 beat
+    → ltZ r (c .asked) ≡ false → eqb (length (t .tempoBeats)) 0 ≡ false → walk t r (c .state) ≡ w
+    → answered global r w ≡ reply t c offset global beat
+unfolding reply filled beginning
+soon-reply t c offset global beat r w e later some is = rw (← e, later, some, is)
+
+pub walked-reply : (t : Timing) (c : Cursor) (offset global beat : Float) (r : ℤ) (w : Walked) → r ≡ row binary64 beat
+    → w ≡ walk (filled t) r (beginning c r offset global)
+    → answered global r w ≡ reply t c offset global beat
+unfolding reply
+walked-reply t c offset global beat r w e is = rw (is, e)
+
+pub reply-asked : (t : Timing) (c : Cursor) (offset global beat : Float) (number : ℕ) → number ≡ beatNumber beat → number ≡ 0
+    → reply t c offset global beat ≡ asking t c offset global beat
+unfolding asking
+reply-asked t c offset global beat number is none = rw (← is, eq-eqb number 0 none)
