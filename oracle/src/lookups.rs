@@ -81,6 +81,13 @@ port! {
     fn fake_at_beat(lists: (3); beat: f64) -> Looked = "marrighentu_is_fake_at_beat";
     fn judgable_at_row(lists: (0 1 2 3); row: i32) -> Looked = "marrighentu_is_judgable_at_row";
     fn judgable_at_beat(lists: (0 1 2 3); beat: f64) -> Looked = "marrighentu_is_judgable_at_beat";
+    fn check(lists: (0 1 2 3);) -> u32 = "marrighentu_check_lookups";
+    fn warp_at_row_checked(lists: (0 1 2); row: i32) -> Looked = "marrighentu_is_warp_at_row_checked";
+    fn warp_at_beat_checked(lists: (0 1 2); beat: f64) -> Looked = "marrighentu_is_warp_at_beat_checked";
+    fn fake_at_row_checked(lists: (3); row: i32) -> Looked = "marrighentu_is_fake_at_row_checked";
+    fn fake_at_beat_checked(lists: (3); beat: f64) -> Looked = "marrighentu_is_fake_at_beat_checked";
+    fn judgable_at_row_checked(lists: (0 1 2 3); row: i32) -> Looked = "marrighentu_is_judgable_at_row_checked";
+    fn judgable_at_beat_checked(lists: (0 1 2 3); beat: f64) -> Looked = "marrighentu_is_judgable_at_beat_checked";
     fn store_raw(lists: (0 1 2 3); rows: *mut i32, rows_len: usize) -> Stored = "marrighentu_build_segment_row_storage";
     fn judge_raw(lists: (0 1 2 3); rows: *const i32, rows_len: usize, out: *mut u8, out_len: usize) -> Outcome = "marrighentu_judgable_rows";
 }
