@@ -44,11 +44,11 @@ static bool same_cursor(const marrighentu_cursor *a, const marrighentu_cursor *b
     (t)->offset, (t)->global_offset
 
 /* The columns that a lookup takes. */
-#define LOOKUP_COLUMNS(t)                                                                            \
+#define WARP_COLUMNS(t)                                                                              \
     (t)->stop_beats, (t)->made.stops, (t)->stop_values, (t)->made.stops,                             \
     (t)->delay_beats, (t)->made.delays, (t)->delay_values, (t)->made.delays,                         \
-    (t)->warp_beats, (t)->made.warps, (t)->warp_lengths, (t)->made.warps,                            \
-    (t)->fake_beats, (t)->made.fakes, (t)->fake_lengths, (t)->made.fakes
+    (t)->warp_beats, (t)->made.warps, (t)->warp_lengths, (t)->made.warps
+#define LOOKUP_COLUMNS(t) WARP_COLUMNS(t), (t)->fake_beats, (t)->made.fakes, (t)->fake_lengths, (t)->made.fakes
 
 int main(void) {
     /* a chart of an SM file: 120 beats a minute, a tempo of -120 from beat 4 to 8, which is a warp, a stop on beat 16, a fake on beat 20 */
@@ -112,6 +112,23 @@ int main(void) {
     expect(judged[0] == 1 && judged[1] == 0 && judged[2] == 1 && judged[3] == 0, "the judged rows");
     marrighentu_looked looked = marrighentu_is_judgable_at_beat(LOOKUP_COLUMNS(t), 6.0);
     expect(looked.number == MARRIGHENTU_TAKEN && !looked.yes, "a beat in the warp is not judged");
+
+    /* or one at a time, as they come up: the lists are tested once, and then only the row is */
+    expect(marrighentu_check_lookups(LOOKUP_COLUMNS(t)) == MARRIGHENTU_TAKEN, "the lookups take the lists");
+    for (size_t i = 0; i < 4; i++) {
+        looked = marrighentu_is_judgable_at_row_checked(LOOKUP_COLUMNS(t), rows[i]);
+        expect(looked.number == MARRIGHENTU_TAKEN && looked.yes == (judged[i] == 1), "a row by itself");
+    }
+    looked = marrighentu_is_judgable_at_beat_checked(LOOKUP_COLUMNS(t), 65536.5);
+    expect(looked.number == MARRIGHENTU_BAD_BEAT && !looked.yes, "a beat beyond the limit is not looked up");
+    looked = marrighentu_is_warp_at_row_checked(WARP_COLUMNS(t), 6 * 48);
+    expect(looked.number == MARRIGHENTU_TAKEN && looked.yes, "a row in the warp");
+    looked = marrighentu_is_warp_at_beat_checked(WARP_COLUMNS(t), 12.0);
+    expect(looked.number == MARRIGHENTU_TAKEN && !looked.yes, "the beat where the warp ends");
+    looked = marrighentu_is_fake_at_row_checked(t->fake_beats, t->made.fakes, t->fake_lengths, t->made.fakes, 20 * 48 + 24);
+    expect(looked.number == MARRIGHENTU_TAKEN && looked.yes, "a row in the fake");
+    looked = marrighentu_is_fake_at_beat_checked(t->fake_beats, t->made.fakes, t->fake_lengths, t->made.fakes, 6.0);
+    expect(looked.number == MARRIGHENTU_TAKEN && !looked.yes, "a beat that is not fake");
 
     /* rows of the lists, one part behind another */
     int32_t store[8];

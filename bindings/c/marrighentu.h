@@ -483,6 +483,71 @@ marrighentu_looked marrighentu_is_judgable_at_beat(
     const float *fake_lengths, size_t fake_lengths_length,
     double beat);
 
+/* The lowest number that one of the four lists answers a lookup by, 0 to 5. */
+uint32_t marrighentu_check_lookups(
+    const float *stop_beats, size_t stop_beats_length,
+    const float *stop_values, size_t stop_values_length,
+    const float *delay_beats, size_t delay_beats_length,
+    const float *delay_values, size_t delay_values_length,
+    const float *warp_beats, size_t warp_beats_length,
+    const float *warp_lengths, size_t warp_lengths_length,
+    const float *fake_beats, size_t fake_beats_length,
+    const float *fake_lengths, size_t fake_lengths_length);
+
+/* The six lookups for lists that marrighentu_check_lookups took and that have not changed since: each answers what the call without _checked does, and only
+ * the row or beat is tested (3), so that the cost grows with the logarithm of the lists. These are the questions for a player, asked one at a time.
+ * Over other lists they still return and do nothing undefined.
+ */
+marrighentu_looked marrighentu_is_warp_at_row_checked(
+    const float *stop_beats, size_t stop_beats_length,
+    const float *stop_values, size_t stop_values_length,
+    const float *delay_beats, size_t delay_beats_length,
+    const float *delay_values, size_t delay_values_length,
+    const float *warp_beats, size_t warp_beats_length,
+    const float *warp_lengths, size_t warp_lengths_length,
+    int32_t row);
+
+marrighentu_looked marrighentu_is_warp_at_beat_checked(
+    const float *stop_beats, size_t stop_beats_length,
+    const float *stop_values, size_t stop_values_length,
+    const float *delay_beats, size_t delay_beats_length,
+    const float *delay_values, size_t delay_values_length,
+    const float *warp_beats, size_t warp_beats_length,
+    const float *warp_lengths, size_t warp_lengths_length,
+    double beat);
+
+marrighentu_looked marrighentu_is_fake_at_row_checked(
+    const float *fake_beats, size_t fake_beats_length,
+    const float *fake_lengths, size_t fake_lengths_length,
+    int32_t row);
+
+marrighentu_looked marrighentu_is_fake_at_beat_checked(
+    const float *fake_beats, size_t fake_beats_length,
+    const float *fake_lengths, size_t fake_lengths_length,
+    double beat);
+
+marrighentu_looked marrighentu_is_judgable_at_row_checked(
+    const float *stop_beats, size_t stop_beats_length,
+    const float *stop_values, size_t stop_values_length,
+    const float *delay_beats, size_t delay_beats_length,
+    const float *delay_values, size_t delay_values_length,
+    const float *warp_beats, size_t warp_beats_length,
+    const float *warp_lengths, size_t warp_lengths_length,
+    const float *fake_beats, size_t fake_beats_length,
+    const float *fake_lengths, size_t fake_lengths_length,
+    int32_t row);
+
+marrighentu_looked marrighentu_is_judgable_at_beat_checked(
+    const float *stop_beats, size_t stop_beats_length,
+    const float *stop_values, size_t stop_values_length,
+    const float *delay_beats, size_t delay_beats_length,
+    const float *delay_values, size_t delay_values_length,
+    const float *warp_beats, size_t warp_beats_length,
+    const float *warp_lengths, size_t warp_lengths_length,
+    const float *fake_beats, size_t fake_beats_length,
+    const float *fake_lengths, size_t fake_lengths_length,
+    double beat);
+
 /* 1 for each row on which a note is judged and 0 for each other, for a whole note sheet: the lists are tested once, and rising rows are cheapest. */
 marrighentu_outcome marrighentu_judgable_rows(
     const float *stop_beats, size_t stop_beats_length,

@@ -81,6 +81,13 @@ port! {
     fn fake_at_beat(lists: (3); beat: f64) -> Looked = "marrighentu_is_fake_at_beat";
     fn judgable_at_row(lists: (0 1 2 3); row: i32) -> Looked = "marrighentu_is_judgable_at_row";
     fn judgable_at_beat(lists: (0 1 2 3); beat: f64) -> Looked = "marrighentu_is_judgable_at_beat";
+    fn check(lists: (0 1 2 3);) -> u32 = "marrighentu_check_lookups";
+    fn warp_at_row_checked(lists: (0 1 2); row: i32) -> Looked = "marrighentu_is_warp_at_row_checked";
+    fn warp_at_beat_checked(lists: (0 1 2); beat: f64) -> Looked = "marrighentu_is_warp_at_beat_checked";
+    fn fake_at_row_checked(lists: (3); row: i32) -> Looked = "marrighentu_is_fake_at_row_checked";
+    fn fake_at_beat_checked(lists: (3); beat: f64) -> Looked = "marrighentu_is_fake_at_beat_checked";
+    fn judgable_at_row_checked(lists: (0 1 2 3); row: i32) -> Looked = "marrighentu_is_judgable_at_row_checked";
+    fn judgable_at_beat_checked(lists: (0 1 2 3); beat: f64) -> Looked = "marrighentu_is_judgable_at_beat_checked";
     fn store_raw(lists: (0 1 2 3); rows: *mut i32, rows_len: usize) -> Stored = "marrighentu_build_segment_row_storage";
     fn judge_raw(lists: (0 1 2 3); rows: *const i32, rows_len: usize, out: *mut u8, out_len: usize) -> Outcome = "marrighentu_judgable_rows";
 }
@@ -194,6 +201,10 @@ fn row_allowed(row: i32) -> bool {
     row.unsigned_abs() <= LAST_ROW as u32
 }
 
+fn beat_allowed(beat: f64) -> bool {
+    beat.is_finite() && beat.abs() <= 65_536.0
+}
+
 /// How many places past a room are looked at too.
 const PAST: usize = 4;
 
@@ -223,7 +234,7 @@ fn store_differs(lists: &Lists, room: usize, random: &mut Random) -> Option<Stri
 
 /// What the six lookups are expected to answer.
 fn expected_lookups(lists: &Lists, timing: Option<&TimingData>, row: i32, beat: f64) -> [Looked; 6] {
-    let beat_allowed = beat.is_finite() && beat.abs() <= 65_536.0;
+    let beat_allowed = beat_allowed(beat);
     let ask = |which: &[usize], allowed: bool, original: &dyn Fn(&TimingData) -> bool| match lists
         .number(which, true, allowed)
     {
@@ -253,6 +264,35 @@ fn lookups_differ(lists: &Lists, timing: Option<&TimingData>, row: i32, beat: f6
     ];
     let place = wanted.iter().zip(&got).position(|(wanted, got)| wanted != got)?;
     Some(format!("{lists:?}, row {row}, beat {beat:?}, call {place}: {:?}, port {:?}", wanted[place], got[place]))
+}
+
+/// The test of the lists, and the six lookups after it: over lists that a call's test takes what the tested one answers, over any other the number for what is asked.
+fn checked_differ(lists: &Lists, timing: Option<&TimingData>, row: i32, beat: f64) -> Option<String> {
+    let wanted = expected_lookups(lists, timing, row, beat);
+    let got = [
+        warp_at_row_checked(lists, row),
+        warp_at_beat_checked(lists, beat),
+        fake_at_row_checked(lists, row),
+        fake_at_beat_checked(lists, beat),
+        judgable_at_row_checked(lists, row),
+        judgable_at_beat_checked(lists, beat),
+    ];
+    let taken = |which: &[usize]| lists.number(which, true, true) == 0;
+    let tested = [taken(&[0, 1, 2]), taken(&[3]), taken(&[0, 1, 2, 3])];
+    let asked = |place: usize| if place % 2 == 0 { row_allowed(row) } else { beat_allowed(beat) };
+    let agrees = |place: usize| match (tested[place / 2], asked(place)) {
+        (true, _) => got[place] == wanted[place],
+        (false, true) => got[place].number == 0,
+        (false, false) => got[place] == Looked::refused(3),
+    };
+    if check(lists) != lists.number(&[0, 1, 2, 3], true, true) {
+        return Some(format!("{lists:?}: the test of the lists answers {}", check(lists)));
+    }
+    let place = (0..got.len()).find(|place| !agrees(*place))?;
+    Some(format!(
+        "{lists:?}, row {row}, beat {beat:?}, checked call {place}: {:?}, port {:?}",
+        wanted[place], got[place]
+    ))
 }
 
 fn batch_differs(
@@ -382,6 +422,7 @@ pub fn compare_all(work: Work, total: &mut Total) {
 
     let mut random = Random::new(work.seed, "lookups");
     let (mut compared, mut shown, mut many, mut many_shown) = (0, Vec::new(), 0, Vec::new());
+    let (mut checked, mut checked_shown) = (0, Vec::new());
     for turn in 0..work.lists() {
         let lists = if turn % 8 == 0 { Lists::any(turn, &mut random) } else { Lists::near(&mut random) };
         let timing = timing_if_sound(&lists);
@@ -390,6 +431,8 @@ pub fn compare_all(work: Work, total: &mut Total) {
             let beat = asked_beat(&lists, &mut random);
             compared += 6;
             shown.extend(lookups_differ(&lists, timing.as_ref(), row, beat));
+            checked += 7;
+            checked_shown.extend(checked_differ(&lists, timing.as_ref(), row, beat));
         }
         let rows = asked_rows(&lists, &mut random);
         let room = (rows.len() + random.below(4) as usize).saturating_sub(1);
@@ -397,6 +440,7 @@ pub fn compare_all(work: Work, total: &mut Total) {
         many_shown.extend(batch_differs(&lists, timing.as_ref(), &rows, room, &mut random));
     }
     total.add("lookups", compared, shown.len() as u64, shown);
+    total.add("checked lookups", checked, checked_shown.len() as u64, checked_shown);
     total.add("judgable_rows", many, many_shown.len() as u64, many_shown);
 }
 

@@ -199,24 +199,35 @@ calls! {
         list fakes: f32,
         room rows: i32,
     ) -> Stored = "marrighentu_build_segment_row_storage";
-    fn is_warp_at_row(list stops: f32, list delays: f32, list warps: f32, value row: i32) -> Looked = "marrighentu_is_warp_at_row";
-    fn is_warp_at_beat(list stops: f32, list delays: f32, list warps: f32, value beat: f64) -> Looked = "marrighentu_is_warp_at_beat";
-    fn is_fake_at_row(list fakes: f32, value row: i32) -> Looked = "marrighentu_is_fake_at_row";
-    fn is_fake_at_beat(list fakes: f32, value beat: f64) -> Looked = "marrighentu_is_fake_at_beat";
-    fn is_judgable_at_row(
+    fn check_lookups(list stops: f32, list delays: f32, list warps: f32, list fakes: f32) -> u32 = "marrighentu_check_lookups";
+    fn is_warp_at_row_checked(
+        list stops: f32,
+        list delays: f32,
+        list warps: f32,
+        value row: i32,
+    ) -> Looked = "marrighentu_is_warp_at_row_checked";
+    fn is_warp_at_beat_checked(
+        list stops: f32,
+        list delays: f32,
+        list warps: f32,
+        value beat: f64,
+    ) -> Looked = "marrighentu_is_warp_at_beat_checked";
+    fn is_fake_at_row_checked(list fakes: f32, value row: i32) -> Looked = "marrighentu_is_fake_at_row_checked";
+    fn is_fake_at_beat_checked(list fakes: f32, value beat: f64) -> Looked = "marrighentu_is_fake_at_beat_checked";
+    fn is_judgable_at_row_checked(
         list stops: f32,
         list delays: f32,
         list warps: f32,
         list fakes: f32,
         value row: i32,
-    ) -> Looked = "marrighentu_is_judgable_at_row";
-    fn is_judgable_at_beat(
+    ) -> Looked = "marrighentu_is_judgable_at_row_checked";
+    fn is_judgable_at_beat_checked(
         list stops: f32,
         list delays: f32,
         list warps: f32,
         list fakes: f32,
         value beat: f64,
-    ) -> Looked = "marrighentu_is_judgable_at_beat";
+    ) -> Looked = "marrighentu_is_judgable_at_beat_checked";
     fn judgable_rows(
         list stops: f32,
         list delays: f32,

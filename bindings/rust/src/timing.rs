@@ -169,8 +169,8 @@ impl Timing {
     /// A timing of lists that are tidy already, as another program kept them. `offset` is the song's and the beat-0 offset together.
     ///
     /// # Errors
-    /// What the clock refuses: lists that are too long, numbers beyond their limits, rows that do not rise strictly, a first tempo that is
-    /// not at beat 0. Scrolls and speeds are kept as they are given.
+    /// What the clock or the lookups refuse: lists that are too long, numbers beyond their limits, rows that do not rise strictly, at f64
+    /// and for stops, delays, warps and fakes at f32 too, a first tempo that is not at beat 0. Scrolls and speeds are kept as they are given.
     pub fn from_lists(lists: &Lists, offset: f64, global_offset: f64) -> Result<Timing, Refusal> {
         Timing {
             tempos: Columns::of(&lists.tempos),
@@ -187,9 +187,12 @@ impl Timing {
         .checked()
     }
 
+    /// The lists as the clock and as the lookups test them, once: the questions after that refuse only what is asked.
     fn checked(self) -> Result<Timing, Refusal> {
-        let number = ffi::check_timing(&self.tempos, &self.stops, &self.delays, &self.warps, self.offset, self.global);
-        taken(number, self)
+        let clock = ffi::check_timing(&self.tempos, &self.stops, &self.delays, &self.warps, self.offset, self.global);
+        let lookups = ffi::check_lookups(&self.stops, &self.delays, &self.warps, &self.fakes);
+        let lowest = [clock, lookups].into_iter().filter(|number| *number != 0).min();
+        taken(lowest.unwrap_or(0), self)
     }
 
     /// The tempos: beats a minute.
@@ -293,10 +296,10 @@ impl Timing {
     /// Whether a row is warped: the last warp that starts at or before it reaches beyond it, and no positive stop or delay is on the row.
     ///
     /// # Errors
-    /// [`Refusal::BadBeat`] for a row beyond 3,145,728; [`Refusal::NotRising`] or another where the lists came from
-    /// [`from_lists`](Timing::from_lists) and are none that the lookups take. This goes for all lookups.
+    /// [`Refusal::BadBeat`] for a row beyond 3,145,728. This goes for all lookups: the lists were tested when the timing was made, so that
+    /// a question's time grows with the logarithm of their lengths alone.
     pub fn is_warp_at_row(&self, row: i32) -> Result<bool, Refusal> {
-        answered(ffi::is_warp_at_row(&self.stops, &self.delays, &self.warps, row))
+        answered(ffi::is_warp_at_row_checked(&self.stops, &self.delays, &self.warps, row))
     }
 
     /// Whether the row of a beat is warped.
@@ -304,7 +307,7 @@ impl Timing {
     /// # Errors
     /// As [`is_warp_at_row`](Timing::is_warp_at_row).
     pub fn is_warp_at_beat(&self, beat: f64) -> Result<bool, Refusal> {
-        answered(ffi::is_warp_at_beat(&self.stops, &self.delays, &self.warps, beat))
+        answered(ffi::is_warp_at_beat_checked(&self.stops, &self.delays, &self.warps, beat))
     }
 
     /// Whether a row is fake: the last fake that starts at or before it reaches beyond it.
@@ -312,7 +315,7 @@ impl Timing {
     /// # Errors
     /// As [`is_warp_at_row`](Timing::is_warp_at_row).
     pub fn is_fake_at_row(&self, row: i32) -> Result<bool, Refusal> {
-        answered(ffi::is_fake_at_row(&self.fakes, row))
+        answered(ffi::is_fake_at_row_checked(&self.fakes, row))
     }
 
     /// Whether the row of a beat is fake.
@@ -320,7 +323,7 @@ impl Timing {
     /// # Errors
     /// As [`is_warp_at_row`](Timing::is_warp_at_row).
     pub fn is_fake_at_beat(&self, beat: f64) -> Result<bool, Refusal> {
-        answered(ffi::is_fake_at_beat(&self.fakes, beat))
+        answered(ffi::is_fake_at_beat_checked(&self.fakes, beat))
     }
 
     /// Whether a note on a row is judged: the row is neither warped nor fake.
@@ -340,7 +343,7 @@ impl Timing {
     /// # Errors
     /// As [`is_warp_at_row`](Timing::is_warp_at_row).
     pub fn is_judgable_at_row(&self, row: i32) -> Result<bool, Refusal> {
-        answered(ffi::is_judgable_at_row(&self.stops, &self.delays, &self.warps, &self.fakes, row))
+        answered(ffi::is_judgable_at_row_checked(&self.stops, &self.delays, &self.warps, &self.fakes, row))
     }
 
     /// Whether a note on a beat is judged.
@@ -348,7 +351,7 @@ impl Timing {
     /// # Errors
     /// As [`is_warp_at_row`](Timing::is_warp_at_row).
     pub fn is_judgable_at_beat(&self, beat: f64) -> Result<bool, Refusal> {
-        answered(ffi::is_judgable_at_beat(&self.stops, &self.delays, &self.warps, &self.fakes, beat))
+        answered(ffi::is_judgable_at_beat_checked(&self.stops, &self.delays, &self.warps, &self.fakes, beat))
     }
 
     /// Whether a note is judged on each row of a list. The timing's lists are tested once for all rows, and rising rows are cheapest: a
@@ -405,4 +408,37 @@ impl From<&Timing> for Lists {
 
 fn answered(looked: ffi::Looked) -> Result<bool, Refusal> {
     taken(looked.number, looked.yes)
+}
+
+#[cfg(test)]
+mod tests {
+    use super::*;
+
+    fn made(lists: Lists) -> Result<Timing, Refusal> {
+        Timing::from_lists(&Lists { tempos: vec![(0.0, 120.0)], ..lists }, 0.0, 0.0)
+    }
+
+    /// What only a lookup would refuse is refused when the timing is made.
+    #[test]
+    fn lists_that_no_lookup_takes_make_no_timing() {
+        let fakes = |fakes| made(Lists { fakes, ..Lists::default() });
+        assert_eq!(fakes(vec![(8.0, 1.0), (4.0, 1.0)]), Err(Refusal::NotRising));
+        assert_eq!(fakes(vec![(f32::NAN, 1.0)]), Err(Refusal::BadBeat));
+        assert_eq!(fakes(vec![(4.0, f32::INFINITY)]), Err(Refusal::BadValue));
+        assert!(fakes(vec![(4.0, 1.0), (8.0, 1.0)]).is_ok());
+        // two rows for the clock, one for the lookups
+        let warps = vec![(41_666.738_281_25, 1.0), (41_666.75, 1.0)];
+        assert_eq!(made(Lists { warps, ..Lists::default() }), Err(Refusal::NotRising));
+    }
+
+    #[test]
+    fn lookups_refuse_what_is_asked() {
+        let timing = made(Lists { warps: vec![(4.0, 2.0)], fakes: vec![(8.0, 1.0)], ..Lists::default() }).unwrap();
+        assert_eq!(timing.is_warp_at_row(5 * 48), Ok(true));
+        assert_eq!(timing.is_warp_at_beat(6.0), Ok(false));
+        assert_eq!(timing.is_fake_at_row(8 * 48), Ok(true));
+        assert_eq!(timing.is_fake_at_beat(9.0), Ok(false));
+        assert_eq!(timing.is_judgable_at_row(3_145_729), Err(Refusal::BadBeat));
+        assert_eq!(timing.is_judgable_at_beat(f64::NAN), Err(Refusal::BadBeat));
+    }
 }

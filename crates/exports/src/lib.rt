@@ -13,7 +13,9 @@ ghost use mathlib.Core.Path.{_≡_};
 ghost use Rattle.columns.specs.Laying.{LaidPair};
 ghost use Rattle.limits.specs.Numbers.{rangeOf, inRange, every, rowIn};
 ghost use Rattle.row_store.specs.RowStore.{RowsStored};
-ghost use Rattle.lookup.specs.Lookups.{isWarped, isFake, isJudgable, askedRow, warpNumber, fakeNumber, judgableNumber, looked, Judged};
+ghost use mathlib.Core.Bool.{true};
+ghost use Rattle.lookup.specs.Lookups.{isWarped, isFake, isJudgable, askedRow, askedNumber, warpNumber, fakeNumber, judgableNumber, looked, Judged};
+ghost use Rattle.lookup_checked.specs.Checked.{warpedBy, fakeBy, judgableBy, atRow};
 ghost use Rattle.limits.specs.Refusals.{listNumber};
 ghost use Rattle.tidy_rows.specs.RowTidying.{RowsTidied};
 ghost use Rattle.tidy_tempos.specs.TempoTidying.{tidyTempos};
@@ -229,6 +231,155 @@ pub extern "C" fn marrighentu_judgable_rows(
         fake_lengths,
         rows,
         out,
+    )
+}
+
+// ---- the lookups for lists that were tested once
+
+#[no_mangle]
+pub extern "C" fn marrighentu_check_lookups(
+    stop_beats: &[f32],
+    stop_values: &[f32],
+    delay_beats: &[f32],
+    delay_values: &[f32],
+    warp_beats: &[f32],
+    warp_lengths: &[f32],
+    fake_beats: &[f32],
+    fake_lengths: &[f32],
+) -> u32
+    ensures { λ r. ⌜ r ≡ judgableNumber (now («stop_beats» .entry)) (now («stop_values» .entry)) (now («delay_beats» .entry)) (now («delay_values» .entry)) (now («warp_beats» .entry)) (now («warp_lengths» .entry)) (now («fake_beats» .entry)) (now («fake_lengths» .entry)) true ⌝ }
+{
+    lookup_checked::check_lookups(
+        stop_beats,
+        stop_values,
+        delay_beats,
+        delay_values,
+        warp_beats,
+        warp_lengths,
+        fake_beats,
+        fake_lengths,
+    )
+}
+
+#[no_mangle]
+pub extern "C" fn marrighentu_is_warp_at_row_checked(
+    stop_beats: &[f32],
+    stop_values: &[f32],
+    delay_beats: &[f32],
+    delay_values: &[f32],
+    warp_beats: &[f32],
+    warp_lengths: &[f32],
+    row: i32,
+) -> Looked
+    ensures { λ r. ⌜ r ≡ looked (askedNumber (rowIn row)) (atRow (warpedBy (now («stop_beats» .entry)) (now («stop_values» .entry)) (now («delay_beats» .entry)) (now («delay_values» .entry)) (now («warp_beats» .entry)) (now («warp_lengths» .entry))) row) ⌝ }
+{
+    lookup_checked::is_warp_at_row_checked(
+        stop_beats,
+        stop_values,
+        delay_beats,
+        delay_values,
+        warp_beats,
+        warp_lengths,
+        row,
+    )
+}
+
+#[no_mangle]
+pub extern "C" fn marrighentu_is_warp_at_beat_checked(
+    stop_beats: &[f32],
+    stop_values: &[f32],
+    delay_beats: &[f32],
+    delay_values: &[f32],
+    warp_beats: &[f32],
+    warp_lengths: &[f32],
+    beat: f64,
+) -> Looked
+    ensures { λ r. ⌜ r ≡ looked (askedNumber (inRange (rangeOf Kind.Beat) beat)) (atRow (warpedBy (now («stop_beats» .entry)) (now («stop_values» .entry)) (now («delay_beats» .entry)) (now («delay_values» .entry)) (now («warp_beats» .entry)) (now («warp_lengths» .entry))) (askedRow beat)) ⌝ }
+{
+    lookup_checked::is_warp_at_beat_checked(
+        stop_beats,
+        stop_values,
+        delay_beats,
+        delay_values,
+        warp_beats,
+        warp_lengths,
+        beat,
+    )
+}
+
+#[no_mangle]
+pub extern "C" fn marrighentu_is_fake_at_row_checked(
+    fake_beats: &[f32],
+    fake_lengths: &[f32],
+    row: i32,
+) -> Looked
+    ensures { λ r. ⌜ r ≡ looked (askedNumber (rowIn row)) (atRow (fakeBy (now («fake_beats» .entry)) (now («fake_lengths» .entry))) row) ⌝ }
+{
+    lookup_checked::is_fake_at_row_checked(fake_beats, fake_lengths, row)
+}
+
+#[no_mangle]
+pub extern "C" fn marrighentu_is_fake_at_beat_checked(
+    fake_beats: &[f32],
+    fake_lengths: &[f32],
+    beat: f64,
+) -> Looked
+    ensures { λ r. ⌜ r ≡ looked (askedNumber (inRange (rangeOf Kind.Beat) beat)) (atRow (fakeBy (now («fake_beats» .entry)) (now («fake_lengths» .entry))) (askedRow beat)) ⌝ }
+{
+    lookup_checked::is_fake_at_beat_checked(fake_beats, fake_lengths, beat)
+}
+
+#[no_mangle]
+pub extern "C" fn marrighentu_is_judgable_at_row_checked(
+    stop_beats: &[f32],
+    stop_values: &[f32],
+    delay_beats: &[f32],
+    delay_values: &[f32],
+    warp_beats: &[f32],
+    warp_lengths: &[f32],
+    fake_beats: &[f32],
+    fake_lengths: &[f32],
+    row: i32,
+) -> Looked
+    ensures { λ r. ⌜ r ≡ looked (askedNumber (rowIn row)) (atRow (judgableBy (now («stop_beats» .entry)) (now («stop_values» .entry)) (now («delay_beats» .entry)) (now («delay_values» .entry)) (now («warp_beats» .entry)) (now («warp_lengths» .entry)) (now («fake_beats» .entry)) (now («fake_lengths» .entry))) row) ⌝ }
+{
+    lookup_checked::is_judgable_at_row_checked(
+        stop_beats,
+        stop_values,
+        delay_beats,
+        delay_values,
+        warp_beats,
+        warp_lengths,
+        fake_beats,
+        fake_lengths,
+        row,
+    )
+}
+
+#[no_mangle]
+pub extern "C" fn marrighentu_is_judgable_at_beat_checked(
+    stop_beats: &[f32],
+    stop_values: &[f32],
+    delay_beats: &[f32],
+    delay_values: &[f32],
+    warp_beats: &[f32],
+    warp_lengths: &[f32],
+    fake_beats: &[f32],
+    fake_lengths: &[f32],
+    beat: f64,
+) -> Looked
+    ensures { λ r. ⌜ r ≡ looked (askedNumber (inRange (rangeOf Kind.Beat) beat)) (atRow (judgableBy (now («stop_beats» .entry)) (now («stop_values» .entry)) (now («delay_beats» .entry)) (now («delay_values» .entry)) (now («warp_beats» .entry)) (now («warp_lengths» .entry)) (now («fake_beats» .entry)) (now («fake_lengths» .entry))) (askedRow beat)) ⌝ }
+{
+    lookup_checked::is_judgable_at_beat_checked(
+        stop_beats,
+        stop_values,
+        delay_beats,
+        delay_values,
+        warp_beats,
+        warp_lengths,
+        fake_beats,
+        fake_lengths,
+        beat,
     )
 }
 

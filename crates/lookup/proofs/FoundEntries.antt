@@ -1,19 +1,18 @@
 -- Where the entries at or before a row are counted: the search halves its bounds, a cursor goes on, and the last entry and the entry on the row are found. Assumes nothing.
 use Prim.Native.Nat.{ℕ, zero, suc, _+_, _-_, _≤_, _<_}
-use mathlib.Core.Path.{_≡_, refl, sym, ap, _∙_}
+use mathlib.Core.Path.{_≡_, refl, sym, _∙_}
 use mathlib.Core.Bool.{Bool, true, false}
 use mathlib.Core.List.{List, [], _∷_}
 use mathlib.Core.Logic.{⊎-elim}
 use native.Mathlib.Omega.{arith}
 use borrow.Author.Tests.{le-leb, lt-leb, eq-eqb, ne-eqb}
-use lib.Dec.{leb, eqb}
 use lib.ListN.{length, getD}
 use lib.Ieee.{Float, nan, lt}
 use Rattle.picks.specs.Pick.{pick}
 use Rattle.limits.specs.Numbers.{nothing}
 use Rattle.order.proofs.Compare.{below?}
-use Rattle.lookup.specs.Lookups.{keyOf, lastPasses, isPaused, rowsRise}
-use Rattle.lookup.specs.Finding.{keyAt, Passed, Past, Split, Between, ofLast}
+use Rattle.lookup.specs.Lookups.{keyOf, lastPasses, isPaused}
+use Rattle.lookup.specs.Finding.{keyAt, Passed, Past, Split, Between, ofLast, pausesOn}
 use Rattle.lookup_tests.proofs.RowsRise.{Rising}
 
 -- ---- the search, and the cursor
@@ -72,9 +71,6 @@ module _ (test : Float → Float → Bool) where
       go (suc m) = of-next (test beat value) beats values m ∙ sym (of-next none (beat ∷ beats) (value ∷ values) (suc m))
 
 -- ---- the entry on the row
-abbrev pub pausesOn : ℕ → Float → Float → Bool
-pausesOn key beat value = pick (eqb (keyOf beat) key) (lt nothing value) false
-
 none-paused : (key : ℕ) (beats values : List Float) → ((place : ℕ) → place < length beats → keyAt beats place ≡ key → ⊥) → isPaused key beats values ≡ false
 unfolding isPaused
 none-paused key [] values p = refl

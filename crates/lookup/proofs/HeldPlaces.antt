@@ -14,9 +14,9 @@ use Rattle.picks.specs.Pick.{pick}
 use Rattle.limits.specs.Numbers.{nothing}
 use Rattle.order.proofs.Compare.{below?}
 use Rattle.lookup.specs.Lookups.{isPaused}
-use Rattle.lookup.specs.Finding.{keyAt, keyBefore, keyAfter, Passed, Past, Split, ofLast, Stands, Usable}
+use Rattle.lookup.specs.Finding.{keyAt, keyBefore, keyAfter, Passed, Past, Split, ofLast, pausesOn, Stands, Usable}
 use Rattle.lookup_tests.proofs.RowsRise.{Rising, rises}
-use Rattle.lookup.proofs.FoundEntries.{passed-to, past-from, ended, of-next, pausesOn, pause-found}
+use Rattle.lookup.proofs.FoundEntries.{passed-to, past-from, ended, of-next, pause-found}
 
 before-next : (beats : List Float) (m : ℕ) → keyBefore beats (suc m) ≡ keyAt beats m
 before-next beats m = let e : suc m - 1 ≡ m = omega arith in rw (ne-eqb (suc m) 0 (λ e. omega arith), e)

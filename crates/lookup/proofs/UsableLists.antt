@@ -1,6 +1,6 @@
 -- Lists that are not refused can be looked into. Assumes nothing.
 use Prim.Native.Nat.{ℕ}
-use mathlib.Core.Path.{_≡_, refl, _∙_}
+use mathlib.Core.Path.{_≡_, refl}
 use mathlib.Core.Bool.{Bool, true, false}
 use mathlib.Core.List.{List}
 use native.Mathlib.Omega.{arith}
@@ -17,17 +17,21 @@ use Rattle.limits.proofs.ListTaken.{Taken, list-taken}
 use Rattle.lookup.specs.Lookups.{rowsRise, risingNumber, warpNumber, fakeNumber, judgableNumber}
 use Rattle.lookup.specs.Finding.{Usable, AllUsable}
 
-usable : (value : Range) (beats values : List Float) → risingNumber value beats values ≡ 0 → Usable beats values
+-- a list that answers 0 is taken as any list is, and its rows rise
+pub rising-taken : (value : Range) (beats values : List Float) → risingNumber value beats values ≡ 0 → Taken (rangeOf Beat) value beats values × (rowsRise beats ≡ true)
 unfolding risingNumber
-usable value beats values h = go (eqb (listNumber (rangeOf Beat) value beats values) 0) (rowsRise beats) refl refl h
+rising-taken value beats values h = go (eqb (listNumber (rangeOf Beat) value beats values) 0) (rowsRise beats) refl refl h
   where
-    go : (t r : Bool) → eqb (listNumber (rangeOf Beat) value beats values) 0 ≡ t → rowsRise beats ≡ r → pick t (pick r 0 5) (listNumber (rangeOf Beat) value beats values) ≡ 0 → Usable beats values
-    go true true e k z = let all : Taken (rangeOf Beat) value beats values = list-taken (eqb-true (listNumber (rangeOf Beat) value beats values) 0 e) in (all .even, k)
+    go : (t r : Bool) → eqb (listNumber (rangeOf Beat) value beats values) 0 ≡ t → rowsRise beats ≡ r → pick t (pick r 0 5) (listNumber (rangeOf Beat) value beats values) ≡ 0 → Taken (rangeOf Beat) value beats values × (rowsRise beats ≡ true)
+    go true true e k z = (list-taken (eqb-true (listNumber (rangeOf Beat) value beats values) 0 e), k)
     go true false e k z = absurd (omega arith)
     go false r e k z = absurd (apart (listNumber (rangeOf Beat) value beats values) e z)
       where
         apart : (n : ℕ) → eqb n 0 ≡ false → n ≡ 0 → ⊥
         apart n e z = eqb-false n 0 e z
+
+usable : (value : Range) (beats values : List Float) → risingNumber value beats values ≡ 0 → Usable beats values
+usable value beats values h = let all = rising-taken value beats values h in (all .0 .even, all .1)
 
 module _ (stopBeats stopValues delayBeats delayValues warpBeats warpLengths fakeBeats fakeLengths : List Float) (allowed : Bool) where
   pub warp-usable : warpNumber stopBeats stopValues delayBeats delayValues warpBeats warpLengths allowed ≡ 0 → Usable stopBeats stopValues × Usable delayBeats delayValues × Usable warpBeats warpLengths

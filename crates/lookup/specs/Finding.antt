@@ -13,7 +13,7 @@ use Rattle.lookup.specs.declared.Cursor.{Cursor}
 use Rattle.lookup.specs.declared.Place.{Place}
 use Rattle.lookup.specs.declared.Held.{Held}
 use Rattle.lookup_tests.specs.Refused.{rowsRise}
-pub use Rattle.lookup_tests.specs.Refused.{keyAt}
+pub use Rattle.lookup_tests.specs.Refused.{keyOf, keyAt}
 
 -- a list that can be looked into
 abbrev pub Usable : List Float → List Float → Type 0
@@ -41,6 +41,10 @@ pub record Between (key : ℕ) (beats : List Float) (low high : ℕ) : Type 0 wh
 -- what a test says of the last of the first n entries
 abbrev pub ofLast : (Float → Float → Bool) → Bool → List Float → List Float → ℕ → Bool
 ofLast test none beats values n = pick (eqb n 0) none (test (getD beats (n - 1) nan) (getD values (n - 1) nan))
+
+-- an entry above 0 on a row
+abbrev pub pausesOn : ℕ → Float → Float → Bool
+pausesOn key beat value = pick (eqb (keyOf beat) key) (lt nothing value) false
 
 -- ---- where a row stands in a list
 

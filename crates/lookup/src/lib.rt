@@ -452,7 +452,7 @@ fn look_up_judgable(
 }
 
 // The row of an asked beat.
-fn asked_row(beat: f64) -> i32
+pub fn asked_row(beat: f64) -> i32
     ensures { λ r. ⌜ r ≡ askedRow beat ⌝ }
 {
     rows::beat_to_note_row_f32(ieee::narrow_f64(beat))

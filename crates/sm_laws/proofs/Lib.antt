@@ -1,3 +1,4 @@
+pub mod PauseInWarp
 pub mod BeatsOnRows
 pub mod Segments
 pub mod ArrowsKeepOrder

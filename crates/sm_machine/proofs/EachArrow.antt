@@ -7,14 +7,12 @@ use Rattle.sm_machine.specs.declared.Warp.{Warp}
 use Rattle.sm_machine.specs.declared.Warp.the-variants.{Closed, Open}
 use Rattle.sm_machine.specs.declared.State.{State}
 use Rattle.sm_machine.specs.declared.Written.the-variants.{Nothing}
+use Rattle.sm_machine.specs.Fate.{owing}
+pub use Rattle.sm_machine.proofs.PauseKeeps.{pause-keeps}
 use Rattle.sm_machine.specs.Machine.{naught, fits, entryAt, warpOver, tempoAfter, still, openChart, owedAt, settledAt, keepWarp, closeByTime, passInWarp, pass, tempoOutside, meetTempo, stopOutside, closeByStop, beginAgain, stopInWarp, meetStop, endOf, finishWarp, finish}
 
 abbrev at : Float → Float → Warp → State
 at tempo beat warp = record { tempo = tempo; beat = beat; warp = warp }
-
--- the same warp, with this much owed
-abbrev pub owing : Opened → Float → Warp
-owing warp owed = Open (record { start = warp .start; former = warp .former; owed = owed })
 
 -- a warp that starts at a beat, with this tempo before it and this much owed
 abbrev pub starting : Float → Float → Float → Warp
@@ -104,14 +102,6 @@ module _ (state : State) (warp : Opened) (in-warp : state .warp ≡ Open warp) w
     pub stop-keeps : lt naught length && lt naught rest ≡ false → meetStop state length ≡ still (at (state .tempo) (state .beat) (owing warp rest))
     unfolding meetStop stopInWarp keepWarp
     stop-keeps h = rw (in-warp, h)
-
-    -- whatever its size, a pause that leaves the owed time at or below 0 ends nothing and writes nothing
-    pub pause-keeps : lt naught rest ≡ false → meetStop state length ≡ still (at (state .tempo) (state .beat) (owing warp rest))
-    pause-keeps h = stop-keeps (and-false (lt naught length) (lt naught rest) h)
-      where
-        and-false : (a b : Bool) → b ≡ false → a && b ≡ false
-        and-false true b h = h
-        and-false false b h = refl
 
   pub end-in-warp : finish state ≡ record { state = at (state .tempo) (state .beat) Closed; tempo = tempoAfter warp (state .tempo); stop = Nothing; warp = warpOver (warp .start) (endOf (state .tempo) (state .beat) (warp .owed)) }
   unfolding finish finishWarp

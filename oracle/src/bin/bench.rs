@@ -171,6 +171,37 @@ impl Bench {
                 black_box(probe::is_judgable_at_row(black_box(&timing), black_box(row)));
             },
         );
+        let random = &mut Random::new(1, "bench of lookups");
+        let asked = [
+            ("one row again and again", vec![row; 2_000]),
+            ("rows that rise", rows.clone()),
+            ("rows in no order", (0..20_000).map(|_| random.below(entries as u64 * 48) as i32).collect()),
+        ];
+        for (order, rows) in asked {
+            self.one_by_one(
+                &format!("is_judgable_at_row_checked over 4 x {entries}, {order}"),
+                &rows,
+                |row| lookups::judgable_at_row_checked(black_box(&lists), row).yes,
+                |row| probe::is_judgable_at_row(black_box(&timing), row),
+            );
+            self.one_by_one(
+                &format!("is_warp_at_row_checked over 3 x {entries}, {order}"),
+                &rows,
+                |row| lookups::warp_at_row_checked(black_box(&lists), row).yes,
+                |row| probe::is_warp_at_row(black_box(&timing), row),
+            );
+            self.one_by_one(
+                &format!("is_fake_at_row_checked over {entries}, {order}"),
+                &rows,
+                |row| lookups::fake_at_row_checked(black_box(&lists), row).yes,
+                |row| probe::is_fake_at_row(black_box(&timing), row),
+            );
+        }
+    }
+
+    /// Each row asked by itself; nanoseconds a question.
+    fn one_by_one(&mut self, name: &str, rows: &[i32], port: impl Fn(i32) -> bool, original: impl Fn(i32) -> bool) {
+        self.line(name, rows.len(), || ask_each(rows, &port), || ask_each(rows, &original));
     }
 }
 
@@ -336,6 +367,12 @@ impl Visit for Bench {
             || C::port_each(black_box(&from), black_box(&mut port)),
             || C::original_each(black_box(&from), black_box(&mut original)),
         );
+    }
+}
+
+fn ask_each(rows: &[i32], ask: impl Fn(i32) -> bool) {
+    for row in rows {
+        black_box(ask(black_box(*row)));
     }
 }
 

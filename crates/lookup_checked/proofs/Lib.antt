@@ -1,0 +1,4 @@
+pub mod WhereHalvesEnd
+pub mod LastCounted
+pub mod AnswersAtRow
+pub mod CheckedIsTested
