@@ -1,5 +1,6 @@
 // The report program: raw lists of a chart on standard input, the timing lists that come of them on standard output.
-// The input is read in pieces to its end, and only then is anything written, all of it at once; a write that fails ends the program.
+// The input is read in pieces to its end, and only then is anything written, all of it at once; an input that cannot be read to its end is
+// refused, and a write that fails ends the program.
 use libc::STDOUT_FILENO;
 use report_form::Reading;
 ghost use Rattle.io.specs.Counts.{Counts};
