@@ -152,7 +152,7 @@ struct Past {
     ahead: Ahead,
 }
 
-// Passes the next tempo where a beat is behind it and before all that follows it: what is passed is kept. Where that is not so, passes nothing.
+// Passes the next tempo for a beat that is not before it, where there is one and the beat is before all that follows: what is passed is kept. Else passes nothing.
 fn past_tempo(
     ahead: Ahead,
     at: Cursor,
