@@ -18,7 +18,7 @@ use Rattle.ieee.proofs.Narrow.{narrow-keeps-order}
 use Rattle.rows.specs.Rows.{row, quantized, allowedBeat, mostRow}
 use Rattle.rows.proofs.BeatsRise.{beat-order}
 use Rattle.rows.proofs.Quantizing.{narrow-allowed, row-quantized}
-use Rattle.rows.proofs.RowWithin.{row-within}
+use Rattle.rows.proofs.RowWithin.{row-within, in-i32}
 use Rattle.rows.proofs.RowsKeepOrder.{row-mono}
 use Rattle.limits.specs.declared.Kind.the-variants.{Beat}
 use Rattle.limits.specs.Numbers.{inRange, rangeOf, allIn}
@@ -28,7 +28,6 @@ use Rattle.order.specs.RowKey.{rowKey}
 use Rattle.order.proofs.RowKeys.{rows-below, rows-at-most}
 use Rattle.tidy_rows.specs.RowTidying.{rowKeyAt}
 use Rattle.tidy_rows.proofs.TakenBeats.{taken-allowed}
-use Rattle.tidy_rows.proofs.RowsRise.{in-i32}
 use Rattle.limits.specs.Neighbours.{neighbours, everyTwo, notAbove}
 
 -- the f32 row, which is the row of the quantised beat

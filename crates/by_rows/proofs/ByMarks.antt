@@ -1,6 +1,6 @@
 -- Beats that are allowed are moved to their rows by marks too; and where each is on a later row than the one before it, rows never fall. Assumes nothing.
 use Prim.Native.Nat.{ℕ, _≤_}
-use mathlib.Core.Path.{_≡_, refl, sym, ap, ap₂, _∙_}
+use mathlib.Core.Path.{_≡_, refl, ap, ap₂, _∙_}
 use mathlib.Core.Bool.{Bool, true, false}
 use mathlib.Core.List.{List, [], _∷_, map}
 use native.Mathlib.Omega.{arith}
@@ -18,7 +18,7 @@ use Rattle.columns.specs.Each.{laidEach}
 use Rattle.columns.proofs.EachOverFront.{each-over-front}
 use Rattle.tidy_rows.specs.RowTidying.{rowKeyAt, onRow}
 use Rattle.tidy_rows.proofs.TakenBeats.{taken-allowed}
-use Rattle.tidy_rows.proofs.RowMarks.{mark-beat}
+use Rattle.rows.proofs.RowMarks.{mark-beat}
 use Rattle.by_rows.specs.ByMarks.{rowRises, onMarkedRow}
 
 same-rows : (beats : List Float) → allIn (rangeOf Beat) beats ≡ true → map onMarkedRow beats ≡ map onRow beats

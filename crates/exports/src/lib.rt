@@ -247,7 +247,11 @@ pub extern "C" fn marrighentu_check_lookups(
     fake_beats: &[f32],
     fake_lengths: &[f32],
 ) -> u32
-    ensures { λ r. ⌜ r ≡ judgableNumber (now («stop_beats» .entry)) (now («stop_values» .entry)) (now («delay_beats» .entry)) (now («delay_values» .entry)) (now («warp_beats» .entry)) (now («warp_lengths» .entry)) (now («fake_beats» .entry)) (now («fake_lengths» .entry)) true ⌝ }
+    ensures { λ r. ⌜ r ≡ judgableNumber
+        (now («stop_beats» .entry)) (now («stop_values» .entry))
+        (now («delay_beats» .entry)) (now («delay_values» .entry))
+        (now («warp_beats» .entry)) (now («warp_lengths» .entry))
+        (now («fake_beats» .entry)) (now («fake_lengths» .entry)) true ⌝ }
 {
     lookup_checked::check_lookups(
         stop_beats,
@@ -271,7 +275,10 @@ pub extern "C" fn marrighentu_is_warp_at_row_checked(
     warp_lengths: &[f32],
     row: i32,
 ) -> Looked
-    ensures { λ r. ⌜ r ≡ looked (askedNumber (rowIn row)) (atRow (warpedBy (now («stop_beats» .entry)) (now («stop_values» .entry)) (now («delay_beats» .entry)) (now («delay_values» .entry)) (now («warp_beats» .entry)) (now («warp_lengths» .entry))) row) ⌝ }
+    ensures { λ r. ⌜ r ≡ looked (askedNumber (rowIn row)) (atRow (warpedBy
+        (now («stop_beats» .entry)) (now («stop_values» .entry))
+        (now («delay_beats» .entry)) (now («delay_values» .entry))
+        (now («warp_beats» .entry)) (now («warp_lengths» .entry))) row) ⌝ }
 {
     lookup_checked::is_warp_at_row_checked(
         stop_beats,
@@ -294,7 +301,10 @@ pub extern "C" fn marrighentu_is_warp_at_beat_checked(
     warp_lengths: &[f32],
     beat: f64,
 ) -> Looked
-    ensures { λ r. ⌜ r ≡ looked (askedNumber (inRange (rangeOf Kind.Beat) beat)) (atRow (warpedBy (now («stop_beats» .entry)) (now («stop_values» .entry)) (now («delay_beats» .entry)) (now («delay_values» .entry)) (now («warp_beats» .entry)) (now («warp_lengths» .entry))) (askedRow beat)) ⌝ }
+    ensures { λ r. ⌜ r ≡ looked (askedNumber (inRange (rangeOf Kind.Beat) beat)) (atRow (warpedBy
+        (now («stop_beats» .entry)) (now («stop_values» .entry))
+        (now («delay_beats» .entry)) (now («delay_values» .entry))
+        (now («warp_beats» .entry)) (now («warp_lengths» .entry))) (askedRow beat)) ⌝ }
 {
     lookup_checked::is_warp_at_beat_checked(
         stop_beats,
@@ -341,7 +351,11 @@ pub extern "C" fn marrighentu_is_judgable_at_row_checked(
     fake_lengths: &[f32],
     row: i32,
 ) -> Looked
-    ensures { λ r. ⌜ r ≡ looked (askedNumber (rowIn row)) (atRow (judgableBy (now («stop_beats» .entry)) (now («stop_values» .entry)) (now («delay_beats» .entry)) (now («delay_values» .entry)) (now («warp_beats» .entry)) (now («warp_lengths» .entry)) (now («fake_beats» .entry)) (now («fake_lengths» .entry))) row) ⌝ }
+    ensures { λ r. ⌜ r ≡ looked (askedNumber (rowIn row)) (atRow (judgableBy
+        (now («stop_beats» .entry)) (now («stop_values» .entry))
+        (now («delay_beats» .entry)) (now («delay_values» .entry))
+        (now («warp_beats» .entry)) (now («warp_lengths» .entry))
+        (now («fake_beats» .entry)) (now («fake_lengths» .entry))) row) ⌝ }
 {
     lookup_checked::is_judgable_at_row_checked(
         stop_beats,
@@ -368,7 +382,11 @@ pub extern "C" fn marrighentu_is_judgable_at_beat_checked(
     fake_lengths: &[f32],
     beat: f64,
 ) -> Looked
-    ensures { λ r. ⌜ r ≡ looked (askedNumber (inRange (rangeOf Kind.Beat) beat)) (atRow (judgableBy (now («stop_beats» .entry)) (now («stop_values» .entry)) (now («delay_beats» .entry)) (now («delay_values» .entry)) (now («warp_beats» .entry)) (now («warp_lengths» .entry)) (now («fake_beats» .entry)) (now («fake_lengths» .entry))) (askedRow beat)) ⌝ }
+    ensures { λ r. ⌜ r ≡ looked (askedNumber (inRange (rangeOf Kind.Beat) beat)) (atRow (judgableBy
+        (now («stop_beats» .entry)) (now («stop_values» .entry))
+        (now («delay_beats» .entry)) (now («delay_values» .entry))
+        (now («warp_beats» .entry)) (now («warp_lengths» .entry))
+        (now («fake_beats» .entry)) (now («fake_lengths» .entry))) (askedRow beat)) ⌝ }
 {
     lookup_checked::is_judgable_at_beat_checked(
         stop_beats,

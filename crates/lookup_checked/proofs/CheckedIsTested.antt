@@ -8,8 +8,8 @@ use native.Mathlib.Omega.{arith}
 use native.Mathlib.Numerals.{add-one}
 use borrow.Author.Tests.{leb-true}
 use lib.Dec.{T}
-use lib.IntN.{ℤ, pos, negsuc, natAbs}
-use lib.Signed.{mag, leZ}
+use lib.IntN.{ℤ, natAbs}
+use lib.Signed.{leZ}
 use lib.ListN.{length, getD}
 use lib.Ieee.{Float, nan, binary32, le}
 use lib.Ieee.Bits.{is-true}
@@ -20,7 +20,7 @@ use Rattle.ieee.proofs.Magnitude.{within-finite}
 use Rattle.rows.specs.Rows.{row, beatOf, allowedBeat, mostRow}
 use Rattle.rows.proofs.RowsKeepOrder.{row-mono}
 use Rattle.rows.proofs.RowOfBeat.{row-of-beat}
-use Rattle.rows.proofs.RowWithin.{row-within}
+use Rattle.rows.proofs.RowWithin.{row-within, in-i32}
 use Rattle.rows.proofs.BeatsRise.{beat-allowed}
 use Rattle.rows.proofs.Quantizing.{narrow-allowed}
 use Rattle.limits.specs.declared.Range.{Range}
@@ -43,10 +43,6 @@ use Rattle.lookup_checked.specs.SameAnswers.{SameAnswers}
 use Rattle.lookup_checked.proofs.WhereHalvesEnd.{Around, place-ends}
 use Rattle.lookup_checked.proofs.LastCounted.{on-row, off-row}
 
-small : (r : ℤ) → natAbs r ≤ mostRow → mag r < 2147483648
-small (pos n) h = omega arith
-small (negsuc n) h = omega arith
-
 -- ---- a list: the entries that count are just those at or before the row
 module _ (value : Range) (beats values : List Float) (taken : risingNumber value beats values ≡ 0) (asked : ℤ) (allowed : natAbs asked ≤ mostRow) where
   list-is : Taken (rangeOf Beat) value beats values × (rowsRise beats ≡ true)
@@ -64,7 +60,7 @@ module _ (value : Range) (beats values : List Float) (taken : risingNumber value
   keys-follow : (x y : Float) → T (allowedBeat x) → T (allowedBeat y) → T (le x y) → keyOf x ≤ keyOf y
   keys-follow x y p q h =
       leb-true (keyOf x) (keyOf y)
-      (sym (rows-at-most (row binary32 x) (row binary32 y) (small (row binary32 x) (row-within binary32 x p)) (small (row binary32 y) (row-within binary32 y q))) ∙ is-true (leZ (row binary32 x) (row binary32 y)) (row-mono binary32 x y p q h))
+      (sym (rows-at-most (row binary32 x) (row binary32 y) (in-i32 (row binary32 x) (row-within binary32 x p)) (in-i32 (row binary32 y) (row-within binary32 y q))) ∙ is-true (leZ (row binary32 x) (row binary32 y)) (row-mono binary32 x y p q h))
 
   own-key : keyOf at ≡ rowKey asked
   own-key = ap rowKey own-row

@@ -23,7 +23,11 @@ pub fn check_lookups(
     fake_beats: &[f32],
     fake_lengths: &[f32],
 ) -> u32
-    ensures { λ r. ⌜ r ≡ judgableNumber (now («stop_beats» .entry)) (now («stop_values» .entry)) (now («delay_beats» .entry)) (now («delay_values» .entry)) (now («warp_beats» .entry)) (now («warp_lengths» .entry)) (now («fake_beats» .entry)) (now («fake_lengths» .entry)) true ⌝ }
+    ensures { λ r. ⌜ r ≡ judgableNumber
+        (now («stop_beats» .entry)) (now («stop_values» .entry))
+        (now («delay_beats» .entry)) (now («delay_values» .entry))
+        (now («warp_beats» .entry)) (now («warp_lengths» .entry))
+        (now («fake_beats» .entry)) (now («fake_lengths» .entry)) true ⌝ }
 {
     lookup_tests::judgable_number(
         stop_beats,
@@ -192,7 +196,10 @@ pub fn is_warp_at_row_checked(
     warp_lengths: &[f32],
     row: i32,
 ) -> Looked
-    ensures { λ r. ⌜ r ≡ looked (askedNumber (rowIn row)) (atRow (warpedBy (now («stop_beats» .entry)) (now («stop_values» .entry)) (now («delay_beats» .entry)) (now («delay_values» .entry)) (now («warp_beats» .entry)) (now («warp_lengths» .entry))) row) ⌝ }
+    ensures { λ r. ⌜ r ≡ looked (askedNumber (rowIn row)) (atRow (warpedBy
+        (now («stop_beats» .entry)) (now («stop_values» .entry))
+        (now («delay_beats» .entry)) (now («delay_values» .entry))
+        (now («warp_beats» .entry)) (now («warp_lengths» .entry))) row) ⌝ }
 {
     if limits::row_taken(row) {
         let at = rows::note_row_to_beat_f32(row);
@@ -224,7 +231,10 @@ pub fn is_warp_at_beat_checked(
     warp_lengths: &[f32],
     beat: f64,
 ) -> Looked
-    ensures { λ r. ⌜ r ≡ looked (askedNumber (inRange (rangeOf Kind.Beat) beat)) (atRow (warpedBy (now («stop_beats» .entry)) (now («stop_values» .entry)) (now («delay_beats» .entry)) (now («delay_values» .entry)) (now («warp_beats» .entry)) (now («warp_lengths» .entry))) (askedRow beat)) ⌝ }
+    ensures { λ r. ⌜ r ≡ looked (askedNumber (inRange (rangeOf Kind.Beat) beat)) (atRow (warpedBy
+        (now («stop_beats» .entry)) (now («stop_values» .entry))
+        (now («delay_beats» .entry)) (now («delay_values» .entry))
+        (now («warp_beats» .entry)) (now («warp_lengths» .entry))) (askedRow beat)) ⌝ }
 {
     if limits::taken(Kind::Beat, beat) {
         let row = lookup::asked_row(beat);
@@ -288,7 +298,11 @@ pub fn is_judgable_at_row_checked(
     fake_lengths: &[f32],
     row: i32,
 ) -> Looked
-    ensures { λ r. ⌜ r ≡ looked (askedNumber (rowIn row)) (atRow (judgableBy (now («stop_beats» .entry)) (now («stop_values» .entry)) (now («delay_beats» .entry)) (now («delay_values» .entry)) (now («warp_beats» .entry)) (now («warp_lengths» .entry)) (now («fake_beats» .entry)) (now («fake_lengths» .entry))) row) ⌝ }
+    ensures { λ r. ⌜ r ≡ looked (askedNumber (rowIn row)) (atRow (judgableBy
+        (now («stop_beats» .entry)) (now («stop_values» .entry))
+        (now («delay_beats» .entry)) (now («delay_values» .entry))
+        (now («warp_beats» .entry)) (now («warp_lengths» .entry))
+        (now («fake_beats» .entry)) (now («fake_lengths» .entry))) row) ⌝ }
 {
     if limits::row_taken(row) {
         let at = rows::note_row_to_beat_f32(row);
@@ -317,7 +331,11 @@ pub fn is_judgable_at_beat_checked(
     fake_lengths: &[f32],
     beat: f64,
 ) -> Looked
-    ensures { λ r. ⌜ r ≡ looked (askedNumber (inRange (rangeOf Kind.Beat) beat)) (atRow (judgableBy (now («stop_beats» .entry)) (now («stop_values» .entry)) (now («delay_beats» .entry)) (now («delay_values» .entry)) (now («warp_beats» .entry)) (now («warp_lengths» .entry)) (now («fake_beats» .entry)) (now («fake_lengths» .entry))) (askedRow beat)) ⌝ }
+    ensures { λ r. ⌜ r ≡ looked (askedNumber (inRange (rangeOf Kind.Beat) beat)) (atRow (judgableBy
+        (now («stop_beats» .entry)) (now («stop_values» .entry))
+        (now («delay_beats» .entry)) (now («delay_values» .entry))
+        (now («warp_beats» .entry)) (now («warp_lengths» .entry))
+        (now («fake_beats» .entry)) (now («fake_lengths» .entry))) (askedRow beat)) ⌝ }
 {
     if limits::taken(Kind::Beat, beat) {
         let row = lookup::asked_row(beat);

@@ -579,7 +579,94 @@ fn same_looked(words: &[u64], at: usize, looked: Looked) -> bool {
     )
 }
 
-// All six lookups, of a row and of a beat.
+// The six checked lookups, where the test of the lists takes them: what the tested ones answer.
+fn same_when_checked(words: &[u64], floats: &[f32], at: usize) -> bool {
+    let stop_beats_at = further(at, 1);
+    let stop_values_at = behind(words, stop_beats_at);
+    let delay_beats_at = behind(words, stop_values_at);
+    let delay_values_at = behind(words, delay_beats_at);
+    let warp_beats_at = behind(words, delay_values_at);
+    let warp_lengths_at = behind(words, warp_beats_at);
+    let fake_beats_at = behind(words, warp_lengths_at);
+    let fake_lengths_at = behind(words, fake_beats_at);
+    let answer_at = behind(words, fake_lengths_at);
+    let row = row_of_word(word_at(words, answer_at));
+    let beat = patterns::f64_of_bits(word_at(words, further(answer_at, 1)));
+    let number = lookup_checked::check_lookups(
+        f32_column(floats, words, stop_beats_at),
+        f32_column(floats, words, stop_values_at),
+        f32_column(floats, words, delay_beats_at),
+        f32_column(floats, words, delay_values_at),
+        f32_column(floats, words, warp_beats_at),
+        f32_column(floats, words, warp_lengths_at),
+        f32_column(floats, words, fake_beats_at),
+        f32_column(floats, words, fake_lengths_at),
+    );
+    if number != 0 {
+        return true;
+    }
+    let warped = lookup_checked::is_warp_at_row_checked(
+        f32_column(floats, words, stop_beats_at),
+        f32_column(floats, words, stop_values_at),
+        f32_column(floats, words, delay_beats_at),
+        f32_column(floats, words, delay_values_at),
+        f32_column(floats, words, warp_beats_at),
+        f32_column(floats, words, warp_lengths_at),
+        row,
+    );
+    let warped_beat = lookup_checked::is_warp_at_beat_checked(
+        f32_column(floats, words, stop_beats_at),
+        f32_column(floats, words, stop_values_at),
+        f32_column(floats, words, delay_beats_at),
+        f32_column(floats, words, delay_values_at),
+        f32_column(floats, words, warp_beats_at),
+        f32_column(floats, words, warp_lengths_at),
+        beat,
+    );
+    let fake = lookup_checked::is_fake_at_row_checked(
+        f32_column(floats, words, fake_beats_at),
+        f32_column(floats, words, fake_lengths_at),
+        row,
+    );
+    let fake_beat = lookup_checked::is_fake_at_beat_checked(
+        f32_column(floats, words, fake_beats_at),
+        f32_column(floats, words, fake_lengths_at),
+        beat,
+    );
+    let judgable = lookup_checked::is_judgable_at_row_checked(
+        f32_column(floats, words, stop_beats_at),
+        f32_column(floats, words, stop_values_at),
+        f32_column(floats, words, delay_beats_at),
+        f32_column(floats, words, delay_values_at),
+        f32_column(floats, words, warp_beats_at),
+        f32_column(floats, words, warp_lengths_at),
+        f32_column(floats, words, fake_beats_at),
+        f32_column(floats, words, fake_lengths_at),
+        row,
+    );
+    let judgable_beat = lookup_checked::is_judgable_at_beat_checked(
+        f32_column(floats, words, stop_beats_at),
+        f32_column(floats, words, stop_values_at),
+        f32_column(floats, words, delay_beats_at),
+        f32_column(floats, words, delay_values_at),
+        f32_column(floats, words, warp_beats_at),
+        f32_column(floats, words, warp_lengths_at),
+        f32_column(floats, words, fake_beats_at),
+        f32_column(floats, words, fake_lengths_at),
+        beat,
+    );
+    let same = same_looked(words, further(answer_at, 2), warped);
+    let same = both(same, same_looked(words, further(answer_at, 4), warped_beat));
+    let same = both(same, same_looked(words, further(answer_at, 6), fake));
+    let same = both(same, same_looked(words, further(answer_at, 8), fake_beat));
+    let same = both(same, same_looked(words, further(answer_at, 10), judgable));
+    both(
+        same,
+        same_looked(words, further(answer_at, 12), judgable_beat),
+    )
+}
+
+// All six lookups, of a row and of a beat, and their checked twins.
 fn replay_lookups(words: &[u64], floats: &[f32], at: usize) -> Replayed {
     let stop_beats_at = further(at, 1);
     let stop_values_at = behind(words, stop_beats_at);
@@ -651,6 +738,7 @@ fn replay_lookups(words: &[u64], floats: &[f32], at: usize) -> Replayed {
         same,
         same_looked(words, further(answer_at, 12), judgable_beat),
     );
+    let same = both(same, same_when_checked(words, floats, at));
     Replayed {
         same: same,
         next: further(answer_at, 14),

@@ -12,3 +12,4 @@ pub mod WholeF32
 pub mod RowByHalves
 pub mod Quantizing
 pub mod RowBySum
+pub mod RowMarks

@@ -4,7 +4,7 @@
 --
 -- What holds: a stop that is met in an open warp and leaves the owed time at or below 0, whatever its size, ends no warp and writes nothing.
 -- And so on the whole walk: what was written before such a stop stays what it is, the stop adds nothing, and the changes after it are
--- walked in the same warp, which owes so much more as the stop is long.
+-- walked in the same warp, to whose owed time the stop is added.
 use mathlib.Core.Bool.{false, _&&_}
 use mathlib.Core.List.{List, [], _∷_, _++_}
 use mathlib.Core.Path.{_≡_}

@@ -8,9 +8,8 @@ use Rattle.sm_machine.specs.declared.Opened.{Opened}
 use Rattle.sm_machine.specs.declared.Warp.{Warp}
 use Rattle.sm_machine.specs.declared.Warp.the-variants.{Closed, Open}
 use Rattle.sm_machine.specs.declared.State.{State}
-use Rattle.sm_machine.specs.declared.Moved.{Moved}
-use Rattle.sm_machine.specs.Machine.{naught, fits, still, beatAt, meet, finishWarp, finishBy, finish, passed, met}
-use Rattle.sm_machine.specs.Fate.{owing, owedBy, owedAfter, tempoFrom, Fate, goesOn, endedByTime, endedByStop}
+use Rattle.sm_machine.specs.Machine.{naught, fits, still, beatAt, finishWarp, finishBy, finish, passed, met}
+use Rattle.sm_machine.specs.Fate.{owing, owedBy, Fate, goesOn, endedByTime, endedByStop}
 use Rattle.sm_machine.proofs.EachArrow.{time-keeps, tempo-keeps, stop-keeps}
 
 module _ (state : State) (warp : Opened) (in-warp : state .warp ≡ Open warp) where

@@ -1,6 +1,5 @@
 pub mod TakenBeats
 pub mod RowPattern
-pub mod RowMarks
 pub mod BothWays
 pub mod RowsRise
 pub mod LastOfEachRow

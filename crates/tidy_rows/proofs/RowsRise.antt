@@ -1,16 +1,13 @@
 -- The tidied list rises strictly by row, and so by beat. Assumes nothing.
-use Prim.Native.Nat.{_≤_, _<_}
+use Prim.Native.Nat.{_<_}
 use mathlib.Core.Path.{_≡_, sym, ap, _∙_, subst}
 use mathlib.Core.List.{List, [], _∷_, map}
-use native.Mathlib.Omega.{arith}
 use borrow.Author.Tests.{lt-ltb}
 use lib.Dec.{T}
-use lib.IntN.{ℤ, pos, negsuc, natAbs}
-use lib.Signed.{mag}
 use lib.Ieee.{Float, binary64, lt}
-use Rattle.rows.specs.Rows.{row, allowedBeat, mostRow}
+use Rattle.rows.specs.Rows.{row, allowedBeat}
 use Rattle.rows.proofs.RowOfBeat.{row-of-beat}
-use Rattle.rows.proofs.RowWithin.{row-within}
+use Rattle.rows.proofs.RowWithin.{row-within, in-i32}
 use Rattle.rows.proofs.BeatsRise.{beats-rise}
 use Rattle.limits.proofs.ListTaken.{list-taken}
 use Rattle.order.specs.Order.{tidied, Above, Rises}
@@ -49,10 +46,6 @@ BeatAbove beat (e ∷ l) = T (lt beat (e .0)) × BeatAbove beat l
 abbrev pub BeatsRise : List (Float × Float) → Type 0
 BeatsRise [] = Unit {0}
 BeatsRise (e ∷ l) = BeatAbove (e .0) l × BeatsRise l
-
-pub in-i32 : (r : ℤ) → natAbs r ≤ mostRow → mag r < 2147483648
-in-i32 (pos n) h = omega arith
-in-i32 (negsuc n) h = omega arith
 
 row-beats-rise : (x y : Float) → T (allowedBeat x) → T (allowedBeat y) → rowKeyAt x < rowKeyAt y → T (lt (onRow x) (onRow y))
 row-beats-rise x y p q l =

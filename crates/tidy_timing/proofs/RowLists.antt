@@ -8,7 +8,7 @@ use lib.Signed.{ltZ}
 use lib.Ieee.{Float, binary32, binary64}
 use Rattle.picks.specs.Pick.{pick}
 use Rattle.rows.specs.Rows.{row}
-use Rattle.rows.proofs.RowWithin.{row-within}
+use Rattle.rows.proofs.RowWithin.{row-within, in-i32}
 use Rattle.limits.specs.declared.Range.{Range}
 use Rattle.limits.specs.declared.Kind.the-variants.{Beat, Value, Pause}
 use Rattle.limits.specs.Numbers.{rangeOf, inRange, allIn, every}
@@ -20,7 +20,6 @@ use Rattle.order.specs.Order.{Above, Rises}
 use Rattle.order.specs.Entries.{first, second}
 use Rattle.order.specs.RowKey.{rowKey}
 use Rattle.order.proofs.RowKeys.{rows-below}
-use Rattle.tidy_rows.proofs.RowsRise.{in-i32}
 use Rattle.timing_tests.specs.TimingNumbers.{risesFrom, rises}
 use Rattle.lookup.specs.Lookups.{isBelow, rowsRise, risingNumber}
 use Rattle.assembled_rows.specs.AssembledRows.{assembledRows, assembledNumber}

@@ -1,7 +1,7 @@
 -- `tidy_rows::allowed_on_row` goes by the mark of the row. Assumes nothing.
 use mathlib.Core.Path.{ap, _∙_}
 use Rattle.rows.specs.Marks.{beatOfMark}
-use Rattle.tidy_rows.proofs.RowMarks.{mark-beat}
+use Rattle.rows.proofs.RowMarks.{mark-beat}
 use borrow.Author.Needs.{needs}
 use Rattle.tidy_rows.proofs.allowed_on_row.Statement.{statement}
 use Rattle.tidy_rows.proofs.allowed_on_row.Tie as tie
