@@ -7,7 +7,7 @@ import re
 import sys
 
 HERE = pathlib.Path(__file__).resolve().parent
-LAWS = HERE.parent / "crates/sm_machine/proofs"
+LAWS = HERE.parent / "crates/process_sm_machine/proofs"
 PAGE = HERE / "STATE-DIAGRAM.md"
 BEGIN, END = "<!-- the arrows: written by docs/state-diagram.py -->", "<!-- the end of the arrows -->"
 WIDTH, ROW = 1720, 92
@@ -24,7 +24,7 @@ def arrows():
             continue
         start, to, comes, where, follows, writes, law = [part.strip() for part in line.split("|")]
         if law not in known:
-            sys.exit(f"state-diagram: no law {law} in crates/sm_machine/proofs")
+            sys.exit(f"state-diagram: no law {law} in crates/process_sm_machine/proofs")
         table.append((start, to, comes, where, follows, writes, law))
     return table
 

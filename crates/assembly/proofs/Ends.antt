@@ -15,21 +15,21 @@ use Rattle.order.specs.Order.{laid}
 use Rattle.columns.specs.declared.Outcome.{Outcome}
 use Rattle.columns.specs.Laying.{roomNumber, LaidPair, LaidList}
 use Rattle.columns.proofs.Rooms.{nothing-given, list-of-pair}
-use Rattle.raw_lists.specs.RawLists.{roomFor}
-use Rattle.speeds.specs.Speed.{SpeedEntry}
-use Rattle.speeds.specs.LaidSpeeds.{leastOf, LaidSpeeds}
+use Rattle.process_raw.specs.RawLists.{roomFor}
+use Rattle.tidy_speeds_entries.specs.Speed.{SpeedEntry}
+use Rattle.tidy_speeds_entries.specs.LaidSpeeds.{leastOf, LaidSpeeds}
 use Rattle.tidy_speeds.specs.SpeedTidying.{speedListNumber}
-use Rattle.by_format.specs.ByFormat.{Lists}
-use Rattle.assembled_rows.specs.AssembledRows.{changeBy, assembledRows, RowsUntested, rowsFit}
-use Rattle.assembled_rows.proofs.QuantizedTaken.{quantized-taken}
-use Rattle.assembled_rows.proofs.Untested.{untested-taken}
-use Rattle.assembled_scrolls.specs.AssembledScrolls.{scrollsRoomNumber, scrollsLater}
-use Rattle.assembled_scrolls.proofs.Untested as scrolls
-use Rattle.assembled_speeds.specs.AssembledSpeeds.{speedsRoomNumber, speedsLater}
-use Rattle.assembled_speeds.proofs.Untested as speeds
-use Rattle.assembled_tempos.specs.declared.AssembledTempos.{AssembledTempos}
-use Rattle.assembled_tempos.specs.AssembledTempos.{verdict, fitNumber, threeRooms, ThreeLaid}
-use Rattle.assembled_tempos.proofs.RowsFit.{fit-number}
+use Rattle.process.specs.ByFormat.{Lists}
+use Rattle.assembly_rows.specs.AssembledRows.{changeBy, assembledRows, RowsUntested, rowsFit}
+use Rattle.assembly_rows.proofs.QuantizedTaken.{quantized-taken}
+use Rattle.assembly_rows.proofs.Untested.{untested-taken}
+use Rattle.assembly_scrolls.specs.AssembledScrolls.{scrollsRoomNumber, scrollsLater}
+use Rattle.assembly_scrolls.proofs.Untested as scrolls
+use Rattle.assembly_speeds.specs.AssembledSpeeds.{speedsRoomNumber, speedsLater}
+use Rattle.assembly_speeds.proofs.Untested as speeds
+use Rattle.assembly_tempos.specs.declared.AssembledTempos.{AssembledTempos}
+use Rattle.assembly_tempos.specs.AssembledTempos.{verdict, fitNumber, threeRooms, ThreeLaid}
+use Rattle.assembly_tempos.proofs.RowsFit.{fit-number}
 use Rattle.assembly.specs.Assembly.{listOf, assembledDelays, assembledFakes, othersNumber, othersLater, SpeedsLaid}
 
 -- ---- four columns under one number

@@ -3,7 +3,7 @@ use Prim.Native.Nat.{ℕ}
 use mathlib.Core.Path.{_≡_}
 use mathlib.Core.List.{List}
 use lib.Ieee.{Float}
-use Rattle.speeds.specs.Speed.{SpeedEntry}
+use Rattle.tidy_speeds_entries.specs.Speed.{SpeedEntry}
 use Rattle.assembly.specs.Assembly.{SpeedsLaid}
 
 pub one-outcome : {number : ℕ} {result : List SpeedEntry} {countA countB : ℕ}

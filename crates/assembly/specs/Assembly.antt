@@ -10,15 +10,15 @@ use Rattle.limits.specs.Numbers.{rangeOf}
 use Rattle.limits.specs.Refusals.{lower, listNumber}
 use Rattle.order.specs.Entries.{first}
 use Rattle.columns.specs.Laying.{given, columnLaid, LaidList}
-use Rattle.raw_lists.specs.RawLists.{roomFor}
-use Rattle.speeds.specs.Speed.{SpeedEntry}
-use Rattle.speeds.specs.LaidSpeeds.{ratioOf, delayOf, unitOf, leastOf}
+use Rattle.process_raw.specs.RawLists.{roomFor}
+use Rattle.tidy_speeds_entries.specs.Speed.{SpeedEntry}
+use Rattle.tidy_speeds_entries.specs.LaidSpeeds.{ratioOf, delayOf, unitOf, leastOf}
 use Rattle.tidy_speeds.specs.SpeedTidying.{speedListNumber}
-use Rattle.assembled_rows.specs.AssembledRows.{changeBy, assembledRows}
-use Rattle.assembled_scrolls.specs.AssembledScrolls.{assembledScrolls, scrollsRoomNumber}
-use Rattle.assembled_speeds.specs.AssembledSpeeds.{assembledSpeeds, speedsRoomNumber}
-use Rattle.assembled_tempos.specs.declared.AssembledTempos.{AssembledTempos}
-use Rattle.assembled_tempos.specs.AssembledTempos.{fitNumber}
+use Rattle.assembly_rows.specs.AssembledRows.{changeBy, assembledRows}
+use Rattle.assembly_scrolls.specs.AssembledScrolls.{assembledScrolls, scrollsRoomNumber}
+use Rattle.assembly_speeds.specs.AssembledSpeeds.{assembledSpeeds, speedsRoomNumber}
+use Rattle.assembly_tempos.specs.declared.AssembledTempos.{AssembledTempos}
+use Rattle.assembly_tempos.specs.AssembledTempos.{fitNumber}
 use Rattle.assembly.specs.declared.Assembled.{Assembled}
 
 -- ---- the lists that are not processed

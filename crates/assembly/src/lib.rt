@@ -1,16 +1,16 @@
 // Assembly: the seven raw lists of a chart as the f32 columns of a timing.
-use by_format::TimingFormat;
+use process::TimingFormat;
 use limits::Kind;
 ghost use mathlib.Core.Path.{_≡_};
 ghost use lib.ListN.{length};
 ghost use Rattle.limits.specs.Refusals.{lower};
 ghost use Rattle.columns.specs.Laying.{LaidList};
-ghost use Rattle.raw_lists.specs.RawLists.{roomFor};
-ghost use Rattle.speeds.specs.LaidSpeeds.{leastOf};
-ghost use Rattle.assembled_scrolls.specs.AssembledScrolls.{assembledScrolls};
-ghost use Rattle.assembled_speeds.specs.AssembledSpeeds.{assembledSpeeds};
-ghost use Rattle.merged_warps.specs.MergedWarps.{threeNumber, mergedLists};
-ghost use Rattle.assembled_tempos.specs.AssembledTempos.{ThreeLaid};
+ghost use Rattle.process_raw.specs.RawLists.{roomFor};
+ghost use Rattle.tidy_speeds_entries.specs.LaidSpeeds.{leastOf};
+ghost use Rattle.assembly_scrolls.specs.AssembledScrolls.{assembledScrolls};
+ghost use Rattle.assembly_speeds.specs.AssembledSpeeds.{assembledSpeeds};
+ghost use Rattle.assembly_warps.specs.MergedWarps.{threeNumber, mergedLists};
+ghost use Rattle.assembly_tempos.specs.AssembledTempos.{ThreeLaid};
 ghost use Rattle.assembly.specs.Assembly.{assembledDelays, assembledFakes, othersNumber, othersLater, processedPart, SpeedsLaid};
 
 // The refusal number, 0 where all lists are taken, how many entries of each list were written, and the seconds that beat 0 is moved by.
@@ -78,21 +78,21 @@ fn others_later(
 ) -> u32
     ensures { λ r. ⌜ (othersNumber (now («delay_beats» .entry)) (now («delay_values» .entry)) (now («speed_beats» .entry)) (now («speed_ratios» .entry)) (now («speed_delays» .entry)) (now («speed_units» .entry)) (now («scroll_beats» .entry)) (now («scroll_values» .entry)) (now («fake_beats» .entry)) (now («fake_lengths» .entry)) ≡ 0 → r ≡ othersLater (now («delay_beats» .entry)) (now («delay_values» .entry)) (now («speed_beats» .entry)) (now («speed_ratios» .entry)) (now («speed_delays» .entry)) (now («speed_units» .entry)) (now («scroll_beats» .entry)) (now («scroll_values» .entry)) (now («fake_beats» .entry)) (now («fake_lengths» .entry)) «delay_room» «speed_room» «scroll_room» «fake_room») ⌝ }
 {
-    let delays = limits::no_room(assembled_rows::rows_fit(
+    let delays = limits::no_room(assembly_rows::rows_fit(
         delay_beats,
         delay_values,
         false,
         delay_room,
     ));
-    let speeds = assembled_speeds::speeds_number(
+    let speeds = assembly_speeds::speeds_number(
         speed_beats,
         speed_ratios,
         speed_delays,
         speed_units,
         speed_room,
     );
-    let scrolls = assembled_scrolls::scrolls_number(scroll_beats, scroll_values, scroll_room);
-    let fakes = limits::no_room(assembled_rows::rows_fit(
+    let scrolls = assembly_scrolls::scrolls_number(scroll_beats, scroll_values, scroll_room);
+    let fakes = limits::no_room(assembly_rows::rows_fit(
         fake_beats,
         fake_lengths,
         true,
@@ -175,7 +175,7 @@ pub fn compute_timing_segments(
         fake_beats,
         fake_lengths,
         columns::room_of(out_delay_beats.len(), out_delay_values.len()),
-        speeds::least_of(
+        tidy_speeds_entries::least_of(
             out_speed_beats.len(),
             out_speed_ratios.len(),
             out_speed_delays.len(),
@@ -184,7 +184,7 @@ pub fn compute_timing_segments(
         columns::room_of(out_scroll_beats.len(), out_scroll_values.len()),
         columns::room_of(out_fake_beats.len(), out_fake_lengths.len()),
     );
-    let processed = assembled_tempos::assemble_tempos(
+    let processed = assembly_tempos::assemble_tempos(
         format,
         most_warps,
         other,
@@ -215,14 +215,14 @@ pub fn compute_timing_segments(
             offset: processed.offset,
         };
     }
-    let delays = assembled_rows::assemble_untested(
+    let delays = assembly_rows::assemble_untested(
         delay_beats,
         delay_values,
         false,
         out_delay_beats,
         out_delay_values,
     );
-    let speeds = assembled_speeds::assemble_untested(
+    let speeds = assembly_speeds::assemble_untested(
         speed_beats,
         speed_ratios,
         speed_delays,
@@ -232,13 +232,13 @@ pub fn compute_timing_segments(
         out_speed_delays,
         out_speed_units,
     );
-    let scrolls = assembled_scrolls::assemble_untested(
+    let scrolls = assembly_scrolls::assemble_untested(
         scroll_beats,
         scroll_values,
         out_scroll_beats,
         out_scroll_values,
     );
-    let fakes = assembled_rows::assemble_untested(
+    let fakes = assembly_rows::assemble_untested(
         fake_beats,
         fake_lengths,
         true,

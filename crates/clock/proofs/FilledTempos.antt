@@ -9,12 +9,12 @@ use lib.IntN.{ℤ}
 use lib.ListN.{length}
 use lib.Ieee.{Float}
 use Rattle.picks.specs.Pick.{pick}
-use Rattle.walk.specs.Events.{Timing, timing}
-use Rattle.walk.specs.Passing.{noTime, sixty}
-use Rattle.walk.specs.Walk.{walk}
-use Rattle.walk.specs.declared.State.{State}
-use Rattle.walk.specs.declared.Walked.{Walked}
-use Rattle.walk.proofs.EventsSpent.{passed-fits}
+use Rattle.clock_walk.specs.Events.{Timing, timing}
+use Rattle.clock_walk.specs.Passing.{noTime, sixty}
+use Rattle.clock_walk.specs.Walk.{walk}
+use Rattle.clock_walk.specs.declared.State.{State}
+use Rattle.clock_walk.specs.declared.Walked.{Walked}
+use Rattle.clock_walk.proofs.EventsSpent.{passed-fits}
 use Rattle.clock.specs.Question.{filled}
 
 -- the columns of a timing, its tempos replaced

@@ -12,11 +12,11 @@ use lib.ListN.{length}
 use lib.Ieee.{Float}
 use Rattle.picks.specs.Pick.{pick}
 use Rattle.limits.specs.Numbers.{rowIn}
-use Rattle.walk.specs.Quiet.{onlyTempos}
-use Rattle.walk.proofs.PlacesWithin.{each-test, places-within}
-use Rattle.walk.proofs.RowOrder.{no}
-use Rattle.timing_tests.specs.CursorNumbers.{timeAndEndIn, cursorNumber}
-use Rattle.timing_tests.proofs.CursorTaken.{cursor-taken}
+use Rattle.clock_walk.specs.Quiet.{onlyTempos}
+use Rattle.clock_walk.proofs.PlacesWithin.{each-test, places-within}
+use Rattle.clock_walk.proofs.RowOrder.{no}
+use Rattle.clock_tests.specs.CursorNumbers.{timeAndEndIn, cursorNumber}
+use Rattle.clock_tests.proofs.CursorTaken.{cursor-taken}
 use Rattle.clock.specs.declared.Cursor.{Cursor}
 
 last-in : (row : ℤ) → ltZ row (pos 0) ≡ false → ltZ (pos 3145728) row ≡ false → natAbs row ≤ 3145728

@@ -3,8 +3,8 @@ use mathlib.Core.Path.{_≡_, refl}
 use borrow.Author.Tests.{eq-eqb}
 use lib.Ieee.{Float}
 use Rattle.limits.proofs.NoRefusal.{lower-none}
-use Rattle.walk.specs.Events.{Timing}
-use Rattle.timing_tests.specs.TimingNumbers.{listsNumber, offsetsNumber, orderNumber, timingNumber}
+use Rattle.clock_walk.specs.Events.{Timing}
+use Rattle.clock_tests.specs.TimingNumbers.{listsNumber, offsetsNumber, orderNumber, timingNumber}
 use Rattle.clock.specs.Question.{freshCursor, made}
 
 pub new-is-fresh : (offset global : Float) → offsetsNumber offset global ≡ 0 → (made offset global .cursor ≡ freshCursor offset global) × (made offset global .number ≡ 0)

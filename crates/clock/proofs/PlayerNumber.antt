@@ -10,10 +10,10 @@ use Rattle.picks.specs.Pick.{pick}
 use Rattle.limits.specs.Numbers.{rangeOf, inRange}
 use Rattle.limits.specs.Refusals.{lower}
 use Rattle.limits.specs.declared.Kind.the-variants.{Beat}
-use Rattle.walk.specs.Events.{Timing}
-use Rattle.walk.proofs.RowOrder.{no}
-use Rattle.timing_tests.specs.TimingNumbers.{beatNumber}
-use Rattle.timing_tests.specs.CursorNumbers.{placesIn, rowsIn, endIn, cursorNumber}
+use Rattle.clock_walk.specs.Events.{Timing}
+use Rattle.clock_walk.proofs.RowOrder.{no}
+use Rattle.clock_tests.specs.TimingNumbers.{beatNumber}
+use Rattle.clock_tests.specs.CursorNumbers.{placesIn, rowsIn, endIn, cursorNumber}
 use Rattle.clock.specs.Question.{temposOf, cursorRefusal, playerNumber, playerQuestion, refusedWith, reply}
 use Rattle.clock.specs.declared.Cursor.{Cursor}
 

@@ -5,9 +5,9 @@ use mathlib.Core.Path.{_≡_, refl}
 use lib.Dec.{eqb}
 use lib.Ieee.{Float}
 use Rattle.picks.specs.Pick.{pick}
-use Rattle.walk.specs.Events.{Timing}
-use Rattle.walk.specs.Passing.{noTime}
-use Rattle.timing_tests.specs.TimingNumbers.{beatNumber}
+use Rattle.clock_walk.specs.Events.{Timing}
+use Rattle.clock_walk.specs.Passing.{noTime}
+use Rattle.clock_tests.specs.TimingNumbers.{beatNumber}
 use Rattle.clock.specs.Question.{refusedWith, byNumber, reply, asking, playerNumber, playerQuestion, questionNumber, question}
 use Rattle.clock.specs.History.{Asking, ofBeat, ofCursor, ofAll, asks}
 use Rattle.clock.specs.declared.Cursor.{Cursor}

@@ -9,10 +9,10 @@ use lib.Signed.{ltZ}
 use lib.ListN.{length}
 use lib.Ieee.{Float, binary64}
 use Rattle.rows.specs.Rows.{row}
-use Rattle.walk.specs.Events.{Timing}
-use Rattle.walk.specs.Walk.{walk}
-use Rattle.walk.specs.declared.Walked.{Walked}
-use Rattle.timing_tests.specs.TimingNumbers.{beatNumber}
+use Rattle.clock_walk.specs.Events.{Timing}
+use Rattle.clock_walk.specs.Walk.{walk}
+use Rattle.clock_walk.specs.declared.Walked.{Walked}
+use Rattle.clock_tests.specs.TimingNumbers.{beatNumber}
 use Rattle.clock.specs.Question.{filled, beginning, answered, reply, asking}
 use Rattle.clock.specs.declared.Cursor.{Cursor}
 

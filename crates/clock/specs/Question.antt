@@ -10,13 +10,13 @@ use lib.Ieee.{Float, fin, binary64, sub, neg}
 use Rattle.picks.specs.Pick.{pick}
 use Rattle.rows.specs.Rows.{row}
 use Rattle.limits.specs.Refusals.{lower}
-use Rattle.walk.specs.Events.{Timing}
-use Rattle.walk.specs.Passing.{noTime, sixty}
-use Rattle.walk.specs.Walk.{walk}
-use Rattle.walk.specs.declared.State.{State}
-use Rattle.walk.specs.declared.Walked.{Walked}
-use Rattle.timing_tests.specs.TimingNumbers.{offsetsNumber, timingNumber, beatNumber}
-use Rattle.timing_tests.specs.CursorNumbers.{freshMark, cursorNumber}
+use Rattle.clock_walk.specs.Events.{Timing}
+use Rattle.clock_walk.specs.Passing.{noTime, sixty}
+use Rattle.clock_walk.specs.Walk.{walk}
+use Rattle.clock_walk.specs.declared.State.{State}
+use Rattle.clock_walk.specs.declared.Walked.{Walked}
+use Rattle.clock_tests.specs.TimingNumbers.{offsetsNumber, timingNumber, beatNumber}
+use Rattle.clock_tests.specs.CursorNumbers.{freshMark, cursorNumber}
 use Rattle.clock.specs.declared.Cursor.{Cursor}
 use Rattle.clock.specs.declared.Answer.{Answer}
 use Rattle.clock.specs.declared.Made.{Made}

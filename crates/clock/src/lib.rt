@@ -1,23 +1,23 @@
 // The clock: at what time is this beat? A cursor goes along a timing and is handed back with each answer.
-use walk::Soon;
-use walk::State;
-use walk::Walked;
+use clock_walk::Soon;
+use clock_walk::State;
+use clock_walk::Walked;
 ghost use mathlib.Core.Path.{_≡_};
 ghost use Prim.Native.Nat.{_+_, _<_, _≤_, _^_};
 ghost use lib.ListN.{length};
 ghost use lib.Dec.{eqb};
 ghost use Rattle.picks.specs.Pick.{pick};
 ghost use lib.Ieee.{binary64};
-ghost use Rattle.timing_tests.specs.TimingNumbers.{beatNumber};
-ghost use Rattle.timing_tests.specs.CursorNumbers.{timeAndEndIn, cursorNumber};
+ghost use Rattle.clock_tests.specs.TimingNumbers.{beatNumber};
+ghost use Rattle.clock_tests.specs.CursorNumbers.{timeAndEndIn, cursorNumber};
 ghost use lib.IntN.{pos};
 ghost use lib.Signed.{ltZ};
 ghost use mathlib.Core.Bool.{true, false};
 ghost use Rattle.rows.specs.Rows.{row};
-ghost use Rattle.walk.specs.Events.{timing};
-ghost use Rattle.walk.specs.Quiet.{onlyTempos};
-ghost use Rattle.walk.specs.Soon.{walkedSoon};
-ghost use Rattle.walk.specs.Walk.{walk};
+ghost use Rattle.clock_walk.specs.Events.{timing};
+ghost use Rattle.clock_walk.specs.Quiet.{onlyTempos};
+ghost use Rattle.clock_walk.specs.Soon.{walkedSoon};
+ghost use Rattle.clock_walk.specs.Walk.{walk};
 ghost use Rattle.clock.specs.Question.{freshState, freshCursor, made, filled, beginning, answered, refusedWith, asking, playerQuestion, question};
 
 // How far the questions so far have come, and the row asked last.
@@ -64,7 +64,7 @@ fn fresh_cursor(offset: f64, global: f64) -> Cursor
     let state = fresh_state(offset, global);
     Cursor {
         state: state,
-        asked: timing_tests::FRESH_MARK,
+        asked: clock_tests::FRESH_MARK,
     }
 }
 
@@ -140,7 +140,7 @@ fn walk_filled(
     let tempo_of_none = [60.0f32];
     let beats = either(none, &beat_of_none, tempo_beats);
     let tempos = either(none, &tempo_of_none, tempo_values);
-    walk::walk_to(
+    clock_walk::walk_to(
         begin,
         row,
         beats,
@@ -159,7 +159,7 @@ impl Cursor {
     pub fn new(offset: f64, global: f64) -> Made
         ensures { λ r. ⌜ r ≡ made offset global ⌝ }
     {
-        let number = timing_tests::offsets_number(offset, global);
+        let number = clock_tests::offsets_number(offset, global);
         if number == 0 {
             let cursor = fresh_cursor(offset, global);
             return Made {
@@ -239,7 +239,7 @@ impl Cursor {
         if tempos < place {
             return false;
         }
-        timing_tests::time_and_end_in(state.time, state.end)
+        clock_tests::time_and_end_in(state.time, state.end)
     }
 
     // True only where the cursor is not refused, the walk to a row goes on from here, past a tempo and over the tempos as they are, and nothing but tempos is due.
@@ -258,7 +258,7 @@ impl Cursor {
         }
         let state = self.state;
         if self.is_past_tempo(tempo_beats.len()) {
-            return walk::is_only_tempos(state, row, stop_beats, delay_beats, warp_beats);
+            return clock_walk::is_only_tempos(state, row, stop_beats, delay_beats, warp_beats);
         }
         false
     }
@@ -280,7 +280,7 @@ impl Cursor {
     {
         let state = self.state;
         if self.is_near(row, tempo_beats, stop_beats, delay_beats, warp_beats) {
-            return walk::walk_soon(
+            return clock_walk::walk_soon(
                 state,
                 row,
                 tempo_beats,
@@ -316,7 +316,7 @@ impl Cursor {
     ) -> Answer
         ensures { λ r. ⌜ r ≡ asking (timing (now («tempo_beats» .entry)) (now («tempo_values» .entry)) (now («stop_beats» .entry)) (now («stop_values» .entry)) (now («delay_beats» .entry)) (now («delay_values» .entry)) (now («warp_beats» .entry)) (now («warp_lengths» .entry))) self offset global beat ⌝ }
     {
-        let number = timing_tests::beat_number(beat);
+        let number = clock_tests::beat_number(beat);
         if number == 0 {
             let row = rows::beat_to_note_row(beat);
             let begin = self.begin(row, offset, global);
@@ -352,7 +352,7 @@ impl Cursor {
     {
         let tempos = tempos_of(tempo_beats.len());
         let state = self.state;
-        timing_tests::cursor_number(
+        clock_tests::cursor_number(
             tempos,
             stop_beats.len(),
             delay_beats.len(),
@@ -362,7 +362,7 @@ impl Cursor {
         )
     }
 
-    // The player's question, for a timing that `timing_tests::check_timing` took and that has not changed since: the beat and the cursor are tested, in a time
+    // The player's question, for a timing that `clock_tests::check_timing` took and that has not changed since: the beat and the cursor are tested, in a time
     // that does not grow with the lists. Over a timing that would be refused it answers what the walk's definition says.
     pub fn time_for_beat_checked(
         mut self,
@@ -380,7 +380,7 @@ impl Cursor {
     ) -> Answer
         ensures { λ r. ⌜ r ≡ playerQuestion (timing (now («tempo_beats» .entry)) (now («tempo_values» .entry)) (now («stop_beats» .entry)) (now («stop_values» .entry)) (now («delay_beats» .entry)) (now («delay_values» .entry)) (now («warp_beats» .entry)) (now («warp_lengths» .entry))) self offset global beat ⌝ }
     {
-        let asked = timing_tests::beat_number(beat);
+        let asked = clock_tests::beat_number(beat);
         if asked != 0 {
             return refused(asked, self);
         }
@@ -398,7 +398,7 @@ impl Cursor {
         );
         if soon.whole {
             let state = soon.state;
-            let time = walk::quiet_time(state, row, tempo_values);
+            let time = clock_walk::quiet_time(state, row, tempo_values);
             self.state = state;
             self.asked = row;
             return answered(self, soon.passed, time, global);
@@ -443,7 +443,7 @@ impl Cursor {
     ) -> Answer
         ensures { λ r. ⌜ r ≡ question (timing (now («tempo_beats» .entry)) (now («tempo_values» .entry)) (now («stop_beats» .entry)) (now («stop_values» .entry)) (now («delay_beats» .entry)) (now («delay_values» .entry)) (now («warp_beats» .entry)) (now («warp_lengths» .entry))) self offset global beat ⌝ }
     {
-        let timing = timing_tests::check_timing(
+        let timing = clock_tests::check_timing(
             tempo_beats,
             tempo_values,
             stop_beats,
@@ -455,7 +455,7 @@ impl Cursor {
             offset,
             global,
         );
-        let asked = timing_tests::beat_number(beat);
+        let asked = clock_tests::beat_number(beat);
         let lent = self.refusal(tempo_beats, stop_beats, delay_beats, warp_beats);
         let player = limits::lower_of(asked, lent);
         let number = limits::lower_of(timing, player);

@@ -12,23 +12,23 @@ use lib.ListN.{length, getD}
 use lib.Ieee.{Float, nan, binary64, add, sub, div}
 use Rattle.picks.specs.Pick.{pick}
 use Rattle.rows.specs.Rows.{row}
-use Rattle.walk.specs.Events.{Timing}
-use Rattle.walk.specs.Passing.{noTime, sixty, inForce, timeTo, passed, afterTempo}
-use Rattle.walk.specs.Walk.{walk}
-use Rattle.walk.specs.Quiet.{farthest, rowAt, endRow}
-use Rattle.walk.specs.Soon.{tempoPassed, rowAfter}
-use Rattle.walk.specs.declared.State.{State}
-use Rattle.walk.specs.declared.Walked.{Walked}
-use Rattle.walk.specs.declared.Event.the-variants.{Tempo}
-use Rattle.walk.proofs.OneTempo.{Others, past, none-soon, one-soon}
-use Rattle.timing_tests.specs.TimingNumbers.{beatNumber}
+use Rattle.clock_walk.specs.Events.{Timing}
+use Rattle.clock_walk.specs.Passing.{noTime, sixty, inForce, timeTo, passed, afterTempo}
+use Rattle.clock_walk.specs.Walk.{walk}
+use Rattle.clock_walk.specs.Quiet.{farthest, rowAt, endRow}
+use Rattle.clock_walk.specs.Soon.{tempoPassed, rowAfter}
+use Rattle.clock_walk.specs.declared.State.{State}
+use Rattle.clock_walk.specs.declared.Walked.{Walked}
+use Rattle.clock_walk.specs.declared.Event.the-variants.{Tempo}
+use Rattle.clock_walk.proofs.OneTempo.{Others, past, none-soon, one-soon}
+use Rattle.clock_tests.specs.TimingNumbers.{beatNumber}
 use Rattle.clock.specs.Question.{filled, beginning, reply, asking}
 use Rattle.clock.specs.declared.Cursor.{Cursor}
 use Rattle.clock.specs.declared.Answer.{Answer}
 use Rattle.clock_run.specs.Ahead.{least, restUntil, blind, lookOn, lookAhead, isBefore, quietTime, pastOne, pastNone, pastTempo}
 use Rattle.clock_run.specs.declared.Ahead.{Ahead}
 use Rattle.clock_run.specs.declared.Past.{Past}
-use Rattle.walk.proofs.RowOrder.{no, lt-le, lt-not}
+use Rattle.clock_walk.proofs.RowOrder.{no, lt-le, lt-not}
 
 module _ (r : ℤ) where
   below-left : (a b : ℤ) → ltZ r (least a b) ≡ true → ltZ r a ≡ true

@@ -11,8 +11,8 @@ use Rattle.picks.specs.Pick.{pick}
 use Rattle.limits.proofs.NoRefusal.{lower-none}
 use Rattle.order.specs.Order.{laid}
 use Rattle.columns.specs.Laying.{given}
-use Rattle.walk.specs.Events.{Timing}
-use Rattle.timing_tests.specs.TimingNumbers.{timingNumber}
+use Rattle.clock_walk.specs.Events.{Timing}
+use Rattle.clock_tests.specs.TimingNumbers.{timingNumber}
 use Rattle.clock.specs.Question.{cursorRefusal}
 use Rattle.clock.specs.History.{lastCursor}
 use Rattle.clock.specs.declared.Cursor.{Cursor}

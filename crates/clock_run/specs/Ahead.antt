@@ -9,12 +9,12 @@ use lib.ListN.{length, getD}
 use lib.Ieee.{Float, nan, binary64, add, div}
 use Rattle.picks.specs.Pick.{pick}
 use Rattle.rows.specs.Rows.{beatOf}
-use Rattle.walk.specs.Events.{Timing}
-use Rattle.walk.specs.Quiet.{farthest, rowAt, endRow}
-use Rattle.walk.specs.Passing.{noTime, sixty}
-use Rattle.walk.specs.Soon.{tempoPassed, rowAfter}
-use Rattle.walk.specs.declared.State.{State}
-use Rattle.timing_tests.specs.TimingNumbers.{beatNumber}
+use Rattle.clock_walk.specs.Events.{Timing}
+use Rattle.clock_walk.specs.Quiet.{farthest, rowAt, endRow}
+use Rattle.clock_walk.specs.Passing.{noTime, sixty}
+use Rattle.clock_walk.specs.Soon.{tempoPassed, rowAfter}
+use Rattle.clock_walk.specs.declared.State.{State}
+use Rattle.clock_tests.specs.TimingNumbers.{beatNumber}
 use Rattle.clock.specs.declared.Cursor.{Cursor}
 use Rattle.clock_run.specs.declared.Ahead.{Ahead}
 use Rattle.clock_run.specs.declared.Past.{Past}

@@ -8,8 +8,8 @@ use lib.Ieee.{Float}
 use Rattle.picks.specs.Pick.{pick}
 use Rattle.limits.specs.Refusals.{lower}
 use Rattle.columns.specs.Laying.{given, columnLaid}
-use Rattle.walk.specs.Events.{Timing}
-use Rattle.timing_tests.specs.TimingNumbers.{timingNumber}
+use Rattle.clock_walk.specs.Events.{Timing}
+use Rattle.clock_tests.specs.TimingNumbers.{timingNumber}
 use Rattle.clock.specs.Question.{cursorRefusal}
 use Rattle.clock.specs.History.{ofBeat, History, answers, lastCursor, numberOf, timeOf, countOf}
 use Rattle.clock.specs.declared.Cursor.{Cursor}

@@ -1,10 +1,10 @@
 // A run: at what times are these beats? The timing and the cursor are tested once, and each beat is asked by the cursor that the one before it left.
 use clock::Cursor;
-use walk::State;
+use clock_walk::State;
 ghost use mathlib.Core.Path.{_≡_};
 ghost use Prim.Native.Nat.{_≤_};
 ghost use lib.ListN.{length};
-ghost use Rattle.walk.specs.Events.{timing};
+ghost use Rattle.clock_walk.specs.Events.{timing};
 ghost use Rattle.clock_run.specs.Run.{roomNumber, RunLaid};
 ghost use Rattle.clock_run.specs.Asked.{AllAsked};
 ghost use Rattle.clock_run.specs.Ahead.{least, restUntil, lookOn, lookAhead, isBefore, quietTime, pastTempo};
@@ -50,12 +50,12 @@ fn least_of(one: i32, other: i32) -> i32
 fn rest_until(state: State, stop_beats: &[f32], delay_beats: &[f32], warp_beats: &[f32]) -> i32
     ensures { λ r. ⌜ r ≡ restUntil (now («stop_beats» .entry)) (now («delay_beats» .entry)) (now («warp_beats» .entry)) state ⌝ }
 {
-    let stop = walk::row_at(stop_beats, state.stops);
-    let warp = walk::row_at(warp_beats, state.warps);
+    let stop = clock_walk::row_at(stop_beats, state.stops);
+    let warp = clock_walk::row_at(warp_beats, state.warps);
     let later = least_of(stop, warp);
-    let delay = walk::row_at(delay_beats, state.delays);
+    let delay = clock_walk::row_at(delay_beats, state.delays);
     let behind = least_of(delay, later);
-    let end = walk::end_row(state.warping, state.end);
+    let end = clock_walk::end_row(state.warping, state.end);
     let next = least_of(end, behind);
     least_of(2147483647, next)
 }
@@ -76,7 +76,7 @@ fn look_on(state: State, rest: i32, tempo_beats: &[f32], tempo_values: &[f32]) -
     let place = tempos - 1;
     if place < tempo_values.len() {
         let rate = std::num::f32_to_f64_with_nan(tempo_values[place]) / 60.0;
-        let tempo = walk::row_at(tempo_beats, tempos);
+        let tempo = clock_walk::row_at(tempo_beats, tempos);
         let row = least_of(tempo, rest);
         return Ahead {
             known: true,
@@ -122,7 +122,7 @@ fn look_ahead(
 fn is_before(known: bool, until: i32, last: i32, beat: f64, row: i32) -> bool
     ensures { λ r. ⌜ r ≡ isBefore known until last beat row ⌝ }
 {
-    if timing_tests::beat_number(beat) == 0 {
+    if clock_tests::beat_number(beat) == 0 {
         if known {
             if row < last {
                 return false;
@@ -141,7 +141,7 @@ fn quiet_time(state: State, rate: f64, row: i32) -> f64
     if warping {
         return state.time + 0.0;
     }
-    let beats = walk::beats_between(state.row, row);
+    let beats = clock_walk::beats_between(state.row, row);
     state.time + beats / rate
 }
 
@@ -169,11 +169,11 @@ fn past_tempo(
 {
     let state = at.state;
     let next = state.tempos;
-    let until = least_of(walk::row_after(tempo_beats, next), ahead.rest);
+    let until = least_of(clock_walk::row_after(tempo_beats, next), ahead.rest);
     if is_before(ahead.known, until, at.asked, beat, row) {
         if next < tempo_beats.len() {
             if next < tempo_values.len() {
-                let moved = walk::pass_next_tempo(
+                let moved = clock_walk::pass_next_tempo(
                     state,
                     ahead.row,
                     tempo_beats,
@@ -327,7 +327,7 @@ pub fn run(
 ) -> Ran
     ensures { λ r. ⌜ RunLaid (timing (now («tempo_beats» .entry)) (now («tempo_values» .entry)) (now («stop_beats» .entry)) (now («stop_values» .entry)) (now («delay_beats» .entry)) (now («delay_values» .entry)) (now («warp_beats» .entry)) (now («warp_lengths» .entry))) offset global cursor (now (beats .entry)) r (now (numbers .entry)) (now (numbers .exit)) (now (times .entry)) (now (times .exit)) (now (counts .entry)) (now (counts .exit)) ⌝ }
 {
-    let timing = timing_tests::check_timing(
+    let timing = clock_tests::check_timing(
         tempo_beats,
         tempo_values,
         stop_beats,

@@ -1,16 +1,16 @@
 // Assembly under C names, for native programs to link.
 use assembly::Assembled;
-use by_format::TimingFormat;
+use process::TimingFormat;
 ghost use mathlib.Core.Path.{_≡_};
 ghost use lib.ListN.{length};
 ghost use Rattle.limits.specs.Refusals.{lower};
 ghost use Rattle.columns.specs.Laying.{LaidList};
-ghost use Rattle.raw_lists.specs.RawLists.{roomFor};
-ghost use Rattle.speeds.specs.LaidSpeeds.{leastOf};
-ghost use Rattle.assembled_scrolls.specs.AssembledScrolls.{assembledScrolls};
-ghost use Rattle.assembled_speeds.specs.AssembledSpeeds.{assembledSpeeds};
-ghost use Rattle.merged_warps.specs.MergedWarps.{threeNumber, mergedLists};
-ghost use Rattle.assembled_tempos.specs.AssembledTempos.{ThreeLaid};
+ghost use Rattle.process_raw.specs.RawLists.{roomFor};
+ghost use Rattle.tidy_speeds_entries.specs.LaidSpeeds.{leastOf};
+ghost use Rattle.assembly_scrolls.specs.AssembledScrolls.{assembledScrolls};
+ghost use Rattle.assembly_speeds.specs.AssembledSpeeds.{assembledSpeeds};
+ghost use Rattle.assembly_warps.specs.MergedWarps.{threeNumber, mergedLists};
+ghost use Rattle.assembly_tempos.specs.AssembledTempos.{ThreeLaid};
 ghost use Rattle.assembly.specs.Assembly.{assembledDelays, assembledFakes, othersNumber, othersLater, processedPart, SpeedsLaid};
 ghost use Rattle.exports_assembly.specs.Format.{formatOf};
 

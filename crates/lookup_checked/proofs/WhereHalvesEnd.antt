@@ -10,7 +10,7 @@ use lib.ListN.{length, getD}
 use lib.Ieee.{Float, nan, le}
 use Rattle.picks.specs.Pick.{pick}
 use Rattle.order.proofs.Compare.{below?}
-use Rattle.keeping.specs.Searching.{halved}
+use Rattle.tidy_kept.specs.Searching.{halved}
 use Rattle.lookup_checked.specs.Checked.{placeOf}
 
 module _ (passes : ℕ → Bool) (n : ℕ) where

@@ -12,7 +12,7 @@ use lib.Ieee.{Float, nan, binary32, le}
 use Rattle.picks.specs.Pick.{pick}
 use Rattle.rows.specs.Rows.{beatOf}
 use Rattle.order.specs.RowKey.{rowKey}
-use Rattle.keeping.specs.Searching.{halved}
+use Rattle.tidy_kept.specs.Searching.{halved}
 use Rattle.lookup.specs.Finding.{keyAt, ofLast, pausesOn}
 use Rattle.lookup.specs.Lookups.{warpCovers, fakeCovers}
 

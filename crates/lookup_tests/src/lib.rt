@@ -47,7 +47,7 @@ fn rows_rise(beats: &[f32]) -> bool
 fn rising_number(value_kind: Kind, beats: &[f32], values: &[f32]) -> u32
     ensures { λ r. ⌜ r ≡ risingNumber (rangeOf «value_kind») (now (beats .entry)) (now (values .entry)) ⌝ }
 {
-    let number = timing_limits::list_number_f32(Kind::Beat, value_kind, beats, values);
+    let number = limits_f32::list_number_f32(Kind::Beat, value_kind, beats, values);
     if number == limits::TAKEN {
         if rows_rise(beats) {
             return limits::TAKEN;

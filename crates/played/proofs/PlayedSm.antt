@@ -12,9 +12,9 @@ use Rattle.order.specs.Entries.{entries}
 use Rattle.order.specs.FloatKey.{floatKey}
 use Rattle.columns.specs.Kept.{kept}
 use Rattle.tidy_tempos.specs.TempoTidying.{fromZero, changesAfter, changes, tidyTempos}
-use Rattle.sm_changes.specs.SmChanges.{staysSm, smChanges}
-use Rattle.sm_machine.specs.Machine.{fits, warpOver, tempoAfter, openChart, owedAt, keepWarp, closeByTime, passInWarp, pass, tempoOutside, meetTempo, endOf, finishWarp, finish}
-use Rattle.sm_walk.specs.Chart.{Output, processed, walk, stopsBefore, lastTempo, temposBy0}
+use Rattle.process_sm_changes.specs.SmChanges.{staysSm, smChanges}
+use Rattle.process_sm_machine.specs.Machine.{fits, warpOver, tempoAfter, openChart, owedAt, keepWarp, closeByTime, passInWarp, pass, tempoOutside, meetTempo, endOf, finishWarp, finish}
+use Rattle.process_sm_walk.specs.Chart.{Output, processed, walk, stopsBefore, lastTempo, temposBy0}
 use Rattle.process_sm.specs.Sm.{tidied as Sm·tidied}
 use Rattle.played.specs.Numbers.{decimal, whole}
 use Rattle.played.specs.Table.{smOf}

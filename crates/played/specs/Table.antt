@@ -8,10 +8,10 @@ use Rattle.rows.specs.Rows.{row}
 use Rattle.tidy_rows.specs.RowTidying.{tidyRows}
 use Rattle.tidy_tempos.specs.TempoTidying.{tidyTempos}
 use Rattle.lookup.specs.Lookups.{isWarped, askedRow}
-use Rattle.sm_stops.specs.Merging.{sources, merged, atFirst}
+use Rattle.stops_for_sm.specs.Merging.{sources, merged, atFirst}
 use Rattle.played.specs.Charts.{stopped, warped, asked}
 use Rattle.tidy_scrolls.specs.ScrollTidying.{tidyScrolls, scrollsNumber}
-use Rattle.sm_walk.specs.Chart.{Output}
+use Rattle.process_sm_walk.specs.Chart.{Output}
 use Rattle.process_sm.specs.Sm.{written, tidied}
 use Rattle.played.specs.Numbers.{decimal, whole, minus}
 

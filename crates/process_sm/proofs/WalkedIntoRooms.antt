@@ -12,25 +12,25 @@ use Rattle.order.specs.Entries.{first, second}
 use Rattle.columns.specs.declared.Outcome.{Outcome}
 use Rattle.columns.specs.Laying.{given, columnLaid, LaidPair}
 use Rattle.columns.proofs.Rooms.{number-taken}
-use Rattle.raw_lists.specs.RawLists.{rawNumbers, processedNothing, roomFor}
-use Rattle.raw_lists.proofs.BothTaken.{both-taken}
-use Rattle.sm_changes.specs.SmChanges.{smChanges}
-use Rattle.sm_walk.specs.declared.Walked.{Walked}
-use Rattle.sm_walk.specs.Chart.{Output, offsetOf}
-use Rattle.sm_walk.specs.Columns.{Columns, columns, most}
-use Rattle.sm_walk.specs.Walking.{WalkLaid}
-use Rattle.sm_walk.proofs.Lengths.{Bounded}
+use Rattle.process_raw.specs.RawLists.{rawNumbers, processedNothing, roomFor}
+use Rattle.process_raw.proofs.BothTaken.{both-taken}
+use Rattle.process_sm_changes.specs.SmChanges.{smChanges}
+use Rattle.process_sm_walk.specs.declared.Walked.{Walked}
+use Rattle.process_sm_walk.specs.Chart.{Output, offsetOf}
+use Rattle.process_sm_walk.specs.Columns.{Columns, columns, most}
+use Rattle.process_sm_walk.specs.Walking.{WalkLaid}
+use Rattle.process_sm_walk.proofs.Lengths.{Bounded}
 use Rattle.tidy_tempos.specs.TempoTidying.{tidyTempos}
 use Rattle.limits.specs.declared.Kind.the-variants.{Beat, TidyTempo}
 use Rattle.limits.specs.Numbers.{rangeOf}
 use Rattle.limits.specs.Refusals.{listNumber}
-use Rattle.sm_bounds.proofs.ChangesTaken.{few-changes, few-written}
-use Rattle.sm_bounds.proofs.AssemblyTakes.{sm-tempos-tidied}
-use Rattle.sm_raw.specs.RawWalk.{RawWalked, walkedNumber}
-use Rattle.sm_raw.proofs.Numbers.{number-with-room}
-use Rattle.sm_lent.specs.Sm.{tidied, written}
-use Rattle.sm_lent.proofs.Ends.{by-tests, taken}
-use Rattle.sm_lent.proofs.WalkedColumns.{Fronts, walked-fronts}
+use Rattle.process_sm_laws.proofs.ChangesTaken.{few-changes, few-written}
+use Rattle.process_sm_laws.proofs.AssemblyTakes.{sm-tempos-tidied}
+use Rattle.process_sm_walk_raw.specs.RawWalk.{RawWalked, walkedNumber}
+use Rattle.process_sm_walk_raw.proofs.Numbers.{number-with-room}
+use Rattle.process_sm_lent.specs.Sm.{tidied, written}
+use Rattle.process_sm_lent.proofs.Ends.{by-tests, taken}
+use Rattle.process_sm_lent.proofs.WalkedColumns.{Fronts, walked-fronts}
 use Rattle.process_sm.specs.Inside.{WorkRooms, Holds, ResultRooms}
 use Rattle.process_sm.specs.Sm.{SmProcessed}
 use Rattle.process_sm.proofs.FewTidied.{few-tidied}

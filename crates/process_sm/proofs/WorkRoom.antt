@@ -5,16 +5,16 @@ use native.Mathlib.Omega.{arith}
 use native.Mathlib.Nat.{le-max-left, le-max-right, max-le, min-le-left, min-le-right}
 use lib.ListN.{length}
 use lib.Ieee.{Float}
-use Rattle.raw_lists.specs.RawLists.{rawNumbers}
-use Rattle.raw_lists.proofs.BothTaken.{both-taken}
-use Rattle.sm_changes.specs.SmChanges.{smChanges}
-use Rattle.sm_walk.specs.Columns.{Columns, columns, most}
-use Rattle.sm_walk.specs.Inside.{Room}
+use Rattle.process_raw.specs.RawLists.{rawNumbers}
+use Rattle.process_raw.proofs.BothTaken.{both-taken}
+use Rattle.process_sm_changes.specs.SmChanges.{smChanges}
+use Rattle.process_sm_walk.specs.Columns.{Columns, columns, most}
+use Rattle.process_sm_walk.specs.Inside.{Room}
 use Rattle.process_sm.specs.Inside.{WorkRooms}
-use Rattle.sm_bounds.proofs.ChangesTaken.{few-changes}
-use Rattle.raw_lists.specs.declared.Processed.{Processed}
-use Rattle.sm_raw.proofs.Numbers.{number-with-room}
-use Rattle.sm_lent.specs.Lent.{LentLaid}
+use Rattle.process_sm_laws.proofs.ChangesTaken.{few-changes}
+use Rattle.process_raw.specs.declared.Processed.{Processed}
+use Rattle.process_sm_walk_raw.proofs.Numbers.{number-with-room}
+use Rattle.process_sm_lent.specs.Lent.{LentLaid}
 use Rattle.process_sm.specs.Sm.{SmProcessed}
 
 -- room for the walk

@@ -4,7 +4,7 @@ use mathlib.Core.List.{List}
 use mathlib.Core.Path.{_≡_}
 use lib.ListN.{length}
 use lib.Ieee.{Float}
-use Rattle.raw_lists.specs.RawLists.{rawNumbers}
+use Rattle.process_raw.specs.RawLists.{rawNumbers}
 
 -- work columns with room for the most that the walk makes of lists that are taken
 pub record WorkRooms (tempoBeats tempoValues stopBeats stopValues walkedTempoBeats walkedTempoValues walkedStopBeats walkedStopValues walkedWarpBeats walkedWarpLengths : List Float) : Type 0 where

@@ -1,9 +1,9 @@
 -- The processing of raw tempos and stops in SM. Definitions only.
 use mathlib.Core.List.{List}
 use lib.Ieee.{Float}
-use Rattle.raw_lists.specs.declared.Processed.{Processed}
-use Rattle.raw_lists.specs.RawLists.{rawNumbers}
-pub use Rattle.sm_lent.specs.Sm.{written, tidied, SmLaid, SmListsLaid}
+use Rattle.process_raw.specs.declared.Processed.{Processed}
+use Rattle.process_raw.specs.RawLists.{rawNumbers}
+pub use Rattle.process_sm_lent.specs.Sm.{written, tidied, SmLaid, SmListsLaid}
 
 -- the one outcome of the call: by the tests of both lists, then 7 where a list is longer than its room
 abbrev pub SmProcessed : (tempoBeats tempoValues stopBeats stopValues : List Float) → Processed

@@ -1,10 +1,10 @@
 // SM: the processing of raw tempos and stops.
-use raw_lists::Processed;
+use process_raw::Processed;
 ghost use mathlib.Core.Path.{_≡_};
 ghost use mathlib.Core.Bool.{true};
 ghost use Prim.Native.Nat.{_≤_, _+_, _<_, _^_, max, min};
 ghost use lib.ListN.{length};
-ghost use Rattle.raw_lists.specs.RawLists.{rawNumbers};
+ghost use Rattle.process_raw.specs.RawLists.{rawNumbers};
 ghost use Rattle.process_sm.specs.Sm.{SmProcessed};
 ghost use Rattle.process_sm.specs.Inside.{Holds, ResultRooms};
 
@@ -51,7 +51,7 @@ fn process_into(
     requires { ⌜ (rawNumbers (now «tempo_beats») (now «tempo_values») (now «stop_beats») (now «stop_values») ≡ 0 → max (length (now «tempo_beats»)) 1 ≤ min (length (now «walked_beats»)) (length (now «walked_values»))) ⌝ }
     ensures { λ r. ⌜ SmProcessed (now («tempo_beats» .entry)) (now («tempo_values» .entry)) (now («stop_beats» .entry)) (now («stop_values» .entry)) r (now («out_tempo_beats» .entry)) (now («out_tempo_beats» .exit)) (now («out_tempo_values» .entry)) (now («out_tempo_values» .exit)) (now («out_stop_beats» .entry)) (now («out_stop_beats» .exit)) (now («out_stop_values» .entry)) (now («out_stop_values» .exit)) (now («out_warp_beats» .entry)) (now («out_warp_beats» .exit)) (now («out_warp_lengths» .entry)) (now («out_warp_lengths» .exit)) ⌝ }
 {
-    let walked = sm_raw::walk_raw(
+    let walked = process_sm_walk_raw::walk_raw(
         tempo_beats,
         tempo_values,
         stop_beats,
@@ -64,7 +64,7 @@ fn process_into(
         out_warp_lengths,
     );
     if walked.number != 0 {
-        return raw_lists::refused(walked.number);
+        return process_raw::refused(walked.number);
     }
     let count = walked.tempos;
     let tempos = tidy_tempos::tidy_bpms(
@@ -218,7 +218,7 @@ fn process_few(
     let mut walked_stop_values = [0.0; 64];
     let mut walked_warp_beats = [0.0; 128];
     let mut walked_warp_lengths = [0.0; 128];
-    sm_lent::process_lent(
+    process_sm_lent::process_lent(
         tempo_beats,
         tempo_values,
         stop_beats,
@@ -275,7 +275,7 @@ fn process_by_columns(
     let mut walked_stop_values = [0.0; 1024];
     let mut walked_warp_beats = [0.0; 2048];
     let mut walked_warp_lengths = [0.0; 2048];
-    sm_lent::process_lent(
+    process_sm_lent::process_lent(
         tempo_beats,
         tempo_values,
         stop_beats,

@@ -21,7 +21,7 @@ use Rattle.order.specs.Entries.{entries}
 use Rattle.columns.specs.Kept.{kept}
 use Rattle.process_ssc.specs.Ssc.{zero, staysSsc, stayed}
 use Rattle.process_ssc.specs.Tests.{beatStays, valueStays}
-use Rattle.raw_lists.specs.RawLists.{Whole}
+use Rattle.process_raw.specs.RawLists.{Whole}
 
 pub no : {A : Type 0} → false ≡ true → A
 no h = let z : _≡_ {A = ℕ} 0 1 = cc in absurd (omega arith)

@@ -3,7 +3,7 @@ use mathlib.Core.Path.{_≡_, sym}
 use mathlib.Core.List.{List}
 use lib.Ieee.{Float}
 use Rattle.columns.proofs.OneOutcome.{one-list}
-use Rattle.raw_lists.specs.declared.Processed.{Processed}
+use Rattle.process_raw.specs.declared.Processed.{Processed}
 use Rattle.process_ssc.specs.Ssc.{SscProcessed}
 
 pub one-outcome : {tempoBeats tempoValues stopBeats stopValues : List Float} {a b : Processed}

@@ -10,7 +10,7 @@ use Rattle.order.specs.Entries.{first, second}
 use Rattle.columns.specs.declared.Outcome.{Outcome}
 use Rattle.columns.specs.Laying.{roomNumber, LaidPair}
 use Rattle.columns.proofs.Rooms.{number-of-tests, number-no-room, number-taken, list-refused, list-laid, list-of-pair, pair-fits, pair-short, pair-untouched}
-use Rattle.raw_lists.specs.RawLists.{rawNumbers, roomFor, processedNothing}
+use Rattle.process_raw.specs.RawLists.{rawNumbers, roomFor, processedNothing}
 use Rattle.process_ssc.specs.Ssc.{zero, stayed, sscTempos, SscProcessed}
 
 module _ {tempoBeats tempoValues stopBeats stopValues tempoBeatsOld tempoValuesOld stopBeatsOld stopValuesOld : List Float} where

@@ -21,7 +21,7 @@ use Rattle.order.specs.Entries.{entries, first, second}
 use Rattle.order.proofs.Columns.{length-entries}
 use Rattle.columns.specs.Kept.{kept}
 use Rattle.columns.proofs.KeptLaid.{few-kept}
-use Rattle.raw_lists.specs.RawLists.{rawNumber}
+use Rattle.process_raw.specs.RawLists.{rawNumber}
 use Rattle.process_ssc.specs.Ssc.{staysSsc, onRow, stayed}
 
 -- what stays is finite

@@ -13,8 +13,8 @@ use Rattle.order.specs.Entries.{entries, first, second}
 use Rattle.columns.specs.Kept.{kept}
 use Rattle.columns.specs.Laying.{roomNumber, LaidList}
 use Rattle.tidy_tempos.specs.TempoTidying.{tidyTempos}
-use Rattle.raw_lists.specs.declared.Processed.{Processed}
-use Rattle.raw_lists.specs.RawLists.{rawNumbers, roomFor}
+use Rattle.process_raw.specs.declared.Processed.{Processed}
+use Rattle.process_raw.specs.RawLists.{rawNumbers, roomFor}
 
 abbrev pub zero : Float
 zero = fin false 0 (pos 0)

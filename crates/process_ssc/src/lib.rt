@@ -1,6 +1,6 @@
 // SSC: the processing of raw tempos and stops.
 use columns::Outcome;
-use raw_lists::Processed;
+use process_raw::Processed;
 ghost use mathlib.Core.Path.{_≡_};
 ghost use mathlib.Core.Bool.{true};
 ghost use mathlib.Core.List.{map};
@@ -15,7 +15,7 @@ ghost use Rattle.order.specs.Order.{laid};
 ghost use Rattle.order.specs.Entries.{first, second};
 ghost use Rattle.columns.specs.Each.{laidEach};
 ghost use Rattle.columns.specs.Laying.{LaidPair};
-ghost use Rattle.raw_lists.specs.RawLists.{rawNumber, rawNumbers, Known};
+ghost use Rattle.process_raw.specs.RawLists.{rawNumber, rawNumbers, Known};
 ghost use Rattle.process_ssc.specs.Tests.{beatStays, valueStays};
 ghost use Rattle.process_ssc.specs.Ssc.{staysSsc, stayed, sscTempos, SscProcessed};
 
@@ -382,7 +382,7 @@ fn number_of(
             return limits::TAKEN;
         }
     }
-    raw_lists::number_of(tempo_beats, tempo_values, stop_beats, stop_values)
+    process_raw::number_of(tempo_beats, tempo_values, stop_beats, stop_values)
 }
 
 fn process_known(
@@ -410,11 +410,11 @@ fn process_known(
         stops_whole,
     );
     if number != 0 {
-        return raw_lists::refused(number);
+        return process_raw::refused(number);
     }
     let stop_room = columns::room_of(out_stop_beats.len(), out_stop_values.len());
     if !have_room(stop_beats, stop_values, stop_room) {
-        return raw_lists::refused(limits::NO_ROOM);
+        return process_raw::refused(limits::NO_ROOM);
     }
     let tempos = lay_tempos(
         tempo_beats,
@@ -424,7 +424,7 @@ fn process_known(
         tempos_whole,
     );
     if tempos.number != 0 {
-        return raw_lists::refused(limits::NO_ROOM);
+        return process_raw::refused(limits::NO_ROOM);
     }
     let stops = lay_stayed(
         stop_beats,

@@ -25,7 +25,7 @@ fn row_of_bits(bits: u64) -> i32 {
 }
 
 fn f32_of_bits(bits: u64) -> f32 {
-    patterns::f32_of_bits((bits % 0x1_0000_0000) as u32)
+    ieee_patterns::f32_of_bits((bits % 0x1_0000_0000) as u32)
 }
 
 // Whether a whole number is the one that is stored.
@@ -34,24 +34,24 @@ fn same_row(row: i32, stored: u64) -> bool {
 }
 
 fn same_f32(value: f32, stored: u64) -> bool {
-    patterns::bits_of_f32(value) as u64 == stored
+    ieee_patterns::bits_of_f32(value) as u64 == stored
 }
 
 fn same_f64(value: f64, stored: u64) -> bool {
-    patterns::bits_of_f64(value) == stored
+    ieee_patterns::bits_of_f64(value) == stored
 }
 
 // Whether the port answers to a line's call as the original did; false for a letter that names no call.
 fn same(call: u8, bits: u64, stored: u64) -> bool {
     match call {
-        b'a' => same_row(ieee::lrint_f64(patterns::f64_of_bits(bits)), stored),
+        b'a' => same_row(ieee::lrint_f64(ieee_patterns::f64_of_bits(bits)), stored),
         b'b' => same_row(ieee::lrint_f32(f32_of_bits(bits)), stored),
-        b'c' => same_f32(ieee::narrow_f64(patterns::f64_of_bits(bits)), stored),
+        b'c' => same_f32(ieee::narrow_f64(ieee_patterns::f64_of_bits(bits)), stored),
         b'd' => same_f64(rows::note_row_to_beat(row_of_bits(bits)), stored),
         b'e' => same_f32(rows::note_row_to_beat_f32(row_of_bits(bits)), stored),
-        b'f' => same_row(rows::beat_to_note_row(patterns::f64_of_bits(bits)), stored),
+        b'f' => same_row(rows::beat_to_note_row(ieee_patterns::f64_of_bits(bits)), stored),
         b'g' => same_row(rows::beat_to_note_row_f32(f32_of_bits(bits)), stored),
-        b'h' => same_f64(rows::quantize_beat(patterns::f64_of_bits(bits)), stored),
+        b'h' => same_f64(rows::quantize_beat(ieee_patterns::f64_of_bits(bits)), stored),
         b'i' => same_f32(rows::quantize_beat_f32(f32_of_bits(bits)), stored),
         _ => false,
     }
@@ -69,8 +69,8 @@ fn replay(text: &[u8]) -> Tally {
     let mut different: u64 = 0;
     let mut at = 0;
     while text.len() - at >= LINE {
-        let bits = patterns::hex_word(text, at + 2);
-        let stored = patterns::hex_word(text, at + 19);
+        let bits = ieee_patterns::hex_word(text, at + 2);
+        let stored = ieee_patterns::hex_word(text, at + 19);
         different += one_if(!same(text[at], bits, stored));
         replayed += 1;
         at += LINE;

@@ -7,8 +7,8 @@ use columns::Outcome;
 use libc::STDIN_FILENO;
 use libc::STDOUT_FILENO;
 use lookup::Looked;
-use raw_lists::Processed;
-use walk::State;
+use process_raw::Processed;
+use clock_walk::State;
 ghost use Prim.Native.Nat.{_≤_};
 ghost use lib.ListN.{length};
 
@@ -67,7 +67,7 @@ fn entry_at(words: &[u64], column: usize, i: usize) -> u64 {
 }
 
 fn f32_of_word(word: u64) -> f32 {
-    patterns::f32_of_bits((word % 0x1_0000_0000) as u32)
+    ieee_patterns::f32_of_bits((word % 0x1_0000_0000) as u32)
 }
 
 // The whole number whose two's complement stands in the lower half.
@@ -80,7 +80,7 @@ fn row_of_word(word: u64) -> i32 {
 }
 
 fn is_f64(x: f64, word: u64) -> bool {
-    patterns::bits_of_f64(x) == word
+    ieee_patterns::bits_of_f64(x) == word
 }
 
 fn is_row(row: i32, word: u64) -> bool {
@@ -108,7 +108,7 @@ fn is_yes(yes: bool, word: u64) -> bool {
 fn read_f64s(words: &[u64], to: &mut [f64]) {
     let mut i = 0;
     while i < to.len() {
-        to[i] = patterns::f64_of_bits(word_at(words, i));
+        to[i] = ieee_patterns::f64_of_bits(word_at(words, i));
         i += 1;
     }
 }
@@ -215,7 +215,7 @@ fn same_f32s(words: &[u64], column: usize, found: &[f32]) -> bool {
     let mut i = 0;
     while i < found.len() {
         let stored = entry_or(words, column, size, i, 0x3FC0_0000);
-        same = both(same, patterns::bits_of_f32(found[i]) as u64 == stored);
+        same = both(same, ieee_patterns::bits_of_f32(found[i]) as u64 == stored);
         i += 1;
     }
     same
@@ -500,7 +500,7 @@ fn replay_sm_stops(words: &[u64], floats: &[f32], at: usize) -> Replayed {
     let work_at = behind(words, warp_lengths_at);
     let answer_at = behind(words, work_at);
     let mut work_room = [1.5f32; 300];
-    let filled = sm_stops::convert_warps_and_delays_to_sm_stops(
+    let filled = stops_for_sm::convert_warps_and_delays_to_sm_stops(
         f32_column(floats, words, tempo_beats_at),
         f32_column(floats, words, tempo_values_at),
         f32_column(floats, words, stops_at),
@@ -538,7 +538,7 @@ fn replay_row_store(words: &[u64], floats: &[f32], at: usize) -> Replayed {
     let stored_at = behind(words, fake_lengths_at);
     let answer_at = behind(words, stored_at);
     let mut stored_room = [77i32; 300];
-    let stored = row_store::build_segment_row_storage(
+    let stored = lookup_row_store::build_segment_row_storage(
         f32_column(floats, words, stop_beats_at),
         f32_column(floats, words, stop_values_at),
         f32_column(floats, words, delay_beats_at),
@@ -591,7 +591,7 @@ fn same_when_checked(words: &[u64], floats: &[f32], at: usize) -> bool {
     let fake_lengths_at = behind(words, fake_beats_at);
     let answer_at = behind(words, fake_lengths_at);
     let row = row_of_word(word_at(words, answer_at));
-    let beat = patterns::f64_of_bits(word_at(words, further(answer_at, 1)));
+    let beat = ieee_patterns::f64_of_bits(word_at(words, further(answer_at, 1)));
     let number = lookup_checked::check_lookups(
         f32_column(floats, words, stop_beats_at),
         f32_column(floats, words, stop_values_at),
@@ -678,7 +678,7 @@ fn replay_lookups(words: &[u64], floats: &[f32], at: usize) -> Replayed {
     let fake_lengths_at = behind(words, fake_beats_at);
     let answer_at = behind(words, fake_lengths_at);
     let row = row_of_word(word_at(words, answer_at));
-    let beat = patterns::f64_of_bits(word_at(words, further(answer_at, 1)));
+    let beat = ieee_patterns::f64_of_bits(word_at(words, further(answer_at, 1)));
     let warped = lookup::is_warp_at_row(
         f32_column(floats, words, stop_beats_at),
         f32_column(floats, words, stop_values_at),
@@ -805,8 +805,8 @@ fn cursor_of_words(words: &[u64], at: usize) -> Cursor {
             warps: word_at(words, further(at, 3)) as usize,
             row: row_of_word(word_at(words, further(at, 4))),
             warping: word_at(words, further(at, 5)) == 1,
-            time: patterns::f64_of_bits(word_at(words, further(at, 6))),
-            end: patterns::f64_of_bits(word_at(words, further(at, 7))),
+            time: ieee_patterns::f64_of_bits(word_at(words, further(at, 6))),
+            end: ieee_patterns::f64_of_bits(word_at(words, further(at, 7))),
         },
         asked: row_of_word(word_at(words, further(at, 8))),
     }
@@ -841,11 +841,11 @@ fn replay_question(words: &[u64], floats: &[f32], at: usize) -> Replayed {
     let warp_beats_at = behind(words, delay_values_at);
     let warp_lengths_at = behind(words, warp_beats_at);
     let answer_at = behind(words, warp_lengths_at);
-    let offset = patterns::f64_of_bits(word_at(words, answer_at));
-    let global = patterns::f64_of_bits(word_at(words, further(answer_at, 1)));
-    let beat = patterns::f64_of_bits(word_at(words, further(answer_at, 2)));
+    let offset = ieee_patterns::f64_of_bits(word_at(words, answer_at));
+    let global = ieee_patterns::f64_of_bits(word_at(words, further(answer_at, 1)));
+    let beat = ieee_patterns::f64_of_bits(word_at(words, further(answer_at, 2)));
     let cursor = cursor_of_words(words, further(answer_at, 3));
-    let number = timing_tests::check_timing(
+    let number = clock_tests::check_timing(
         f32_column(floats, words, tempo_beats_at),
         f32_column(floats, words, tempo_values_at),
         f32_column(floats, words, stop_beats_at),
@@ -927,8 +927,8 @@ fn replay_run(words: &[u64], floats: &[f32], numbers: &[f64], at: usize) -> Repl
     let mut numbers_room = [77u32; 300];
     let mut times_room = [1.5; 300];
     let mut counts_room = [77usize; 300];
-    let offset = patterns::f64_of_bits(word_at(words, answer_at));
-    let global = patterns::f64_of_bits(word_at(words, further(answer_at, 1)));
+    let offset = ieee_patterns::f64_of_bits(word_at(words, answer_at));
+    let global = ieee_patterns::f64_of_bits(word_at(words, further(answer_at, 1)));
     let cursor = cursor_of_words(words, further(answer_at, 2));
     let ran = clock_run::run(
         cursor,
@@ -1035,7 +1035,7 @@ fn read_words(text: &[u8], words: &mut [u64]) -> usize
         if text.len() - at < LINE {
             return i;
         }
-        words[i] = patterns::hex_word(text, at);
+        words[i] = ieee_patterns::hex_word(text, at);
         at += LINE;
         i += 1;
     }

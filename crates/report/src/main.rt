@@ -28,7 +28,7 @@ fn write_input(page: &mut [u8]) -> usize
     let mut scroll_values = [0.0; 256];
     let mut fake_beats = [0.0; 256];
     let mut fake_values = [0.0; 256];
-    let reading: Reading = report_input::read_all(
+    let reading: Reading = report_stdin::read_all(
         &mut counts,
         &mut bpm_beats,
         &mut bpm_values,

@@ -17,7 +17,7 @@ fn put_number(store: Store, list: u64, part: u64, column: &mut [f64])
     }
     let at = store.at as usize;
     if at < column.len() {
-        column[at] = patterns::f64_of_bits(store.number);
+        column[at] = ieee_patterns::f64_of_bits(store.number);
     }
 }
 

@@ -8,7 +8,7 @@ use native.Mathlib.Nat.{div-add-mod', div-div-eq-div-mul, div-le-self, div-one, 
 use borrow.Author.Tests.{lt-ltb, le-ltb, le-leb, lt-leb, ne-eqb, ltb-true, ltb-false}
 use lib.Dec.{ltb, eqb}
 use Rattle.picks.specs.Pick.{pick}
-use Rattle.patterns.specs.Hex.{hexValue, hexDigit, hexText}
+use Rattle.ieee_patterns.specs.Hex.{hexValue, hexDigit, hexText}
 use Rattle.report_form.specs.declared.Reading.{Reading}
 use Rattle.report_form.specs.declared.Store.{Store}
 use Rattle.report_form.specs.Form.{hexOf, unitOf, letterOf, characterOf, listOf, follows, begun, opened, namedOf, widthOf, lastDigits, commaOf, more, entryOf, endedOf, stepOf, after}

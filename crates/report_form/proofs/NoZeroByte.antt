@@ -3,7 +3,7 @@ use mathlib.Core.Path.{_≡_, refl, ap}
 use mathlib.Core.Bool.{Bool, true, false}
 use lib.Dec.{ltb, eqb}
 use Rattle.picks.specs.Pick.{pick}
-use Rattle.patterns.specs.Hex.{hexValue}
+use Rattle.ieee_patterns.specs.Hex.{hexValue}
 use Rattle.report_form.specs.declared.Reading.{Reading}
 use Rattle.report_form.specs.Form.{broken, letterOf, hexOf, unitOf, characterOf, stepOf, whole}
 use Rattle.report_form.specs.Stores.{nothing, storeOf}

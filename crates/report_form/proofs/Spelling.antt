@@ -10,7 +10,7 @@ use native.Mathlib.Nat.{div-div-eq-div-mul, div-one, pow-suc, pow-succ'}
 use borrow.Author.Tests.{ltb-true, leb-true, eqb-true}
 use lib.Dec.{ltb, leb, eqb}
 use Rattle.picks.specs.Pick.{pick}
-use Rattle.patterns.specs.Hex.{hexDigit, hexText}
+use Rattle.ieee_patterns.specs.Hex.{hexDigit, hexText}
 use Rattle.report_form.specs.Form.{listOf}
 use Rattle.report_form.specs.Text.{Pair, bpm, stop, delay, warp, scroll, fake, pairList, pairWord, speedWord}
 

@@ -9,7 +9,7 @@ use native.Mathlib.Nat.{pow-le-pow-right, mod-eq-of-lt}
 use borrow.Author.Tests.{lt-ltb, ltb-true, ltb-false, leb-true, eqb-true, le-ltb}
 use lib.Dec.{ltb, leb, eqb}
 use Rattle.picks.specs.Pick.{pick}
-use Rattle.patterns.specs.Hex.{hexValue, hexDigit, hexText}
+use Rattle.ieee_patterns.specs.Hex.{hexValue, hexDigit, hexText}
 use Rattle.report_form.specs.declared.Reading.{Reading}
 use Rattle.report_form.specs.Form.{start, grown, letterOf, hexOf, unitOf, characterOf, listOf, follows, namedOf, widthOf, lastDigits, commaOf, more, formatOf, entryOf, endedOf, stepOf, after, whole}
 use Rattle.report_form.specs.Text.{Pair, bpm, stop, delay, warp, scroll, fake, Entry, pair, speed, pairList, entryList, pairWord, speedWord, entryLine, entryLines, formatLine, text}

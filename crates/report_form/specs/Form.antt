@@ -5,7 +5,7 @@ use mathlib.Core.Bool.{Bool, true, false}
 use mathlib.Core.List.{List, [], _∷_}
 use lib.Dec.{ltb, leb, eqb}
 use Rattle.picks.specs.Pick.{pick}
-use Rattle.patterns.specs.Hex.{hexValue}
+use Rattle.ieee_patterns.specs.Hex.{hexValue}
 use Rattle.report_form.specs.declared.Reading.{Reading}
 
 -- nothing read: the format line is still to come

@@ -3,7 +3,7 @@ use Prim.Native.Nat.{ℕ, _+_}
 use mathlib.Core.Bool.{Bool, true, false}
 use mathlib.Core.List.{List, [], _∷_, _++_}
 use Rattle.picks.specs.Pick.{pick}
-use Rattle.patterns.specs.Hex.{hexText}
+use Rattle.ieee_patterns.specs.Hex.{hexText}
 
 -- the lists whose entries are a beat and a value
 pub data Pair : Type 0 where

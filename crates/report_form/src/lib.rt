@@ -99,7 +99,7 @@ fn hex(reading: Reading, byte: u8) -> Reading
     if reading.digits >= 16 {
         return refuse(reading);
     }
-    let value = patterns::hex_value(byte);
+    let value = ieee_patterns::hex_value(byte);
     if value >= 16 {
         return refuse(reading);
     }

@@ -8,7 +8,7 @@ use lib.Dec.{ltb}
 use lib.ListN.{length, length-append}
 use lib.Ieee.{Float, toBits, binary32}
 use Rattle.picks.specs.Pick.{pick}
-use Rattle.patterns.specs.Hex.{hexText}
+use Rattle.ieee_patterns.specs.Hex.{hexText}
 use Rattle.report_form.specs.Text.{bpm, stop, delay, warp, scroll, fake}
 use Rattle.report_text.specs.Output.{decimalDigits, decimal, number, answerLine, offsetLine, named, pairLine, pairLines, speedLine, speedLines, warpedRows, warpedLine, listsText}
 

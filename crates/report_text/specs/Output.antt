@@ -7,7 +7,7 @@ use lib.Ieee.{Float, toBits, binary32, binary64, lt}
 use Rattle.picks.specs.Pick.{pick}
 use Rattle.limits.specs.Numbers.{nothing}
 use Rattle.rows.specs.Rows.{row}
-use Rattle.patterns.specs.Hex.{hexText}
+use Rattle.ieee_patterns.specs.Hex.{hexText}
 use Rattle.report_form.specs.Text.{Pair, bpm, stop, delay, warp, scroll, fake, pairWord, speedWord}
 
 -- the decimal digits of a number, k at most

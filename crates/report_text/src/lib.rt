@@ -33,7 +33,7 @@ fn put_bytes(page: &mut [u8], at: usize, bytes: &[u8]) -> usize
 fn put_number(page: &mut [u8], at: usize, x: f32, end: u8) -> usize
     ensures { λ r. ⌜ Wrote (number x ++ (end ∷ [])) at r (now (page .entry)) (now (page .exit)) ⌝ }
 {
-    let digits = patterns::hex8(patterns::bits_of_f32(x));
+    let digits = ieee_patterns::hex8(ieee_patterns::bits_of_f32(x));
     let at = put_bytes(page, at, &digits);
     put_byte(page, at, end)
 }

@@ -6,13 +6,13 @@ use lib.ListN.{length}
 use lib.Ieee.{Float}
 use Rattle.limits.specs.Refusals.{lower}
 use Rattle.columns.specs.Laying.{LaidList}
-use Rattle.raw_lists.specs.RawLists.{roomFor}
-use Rattle.speeds.specs.LaidSpeeds.{leastOf}
-use Rattle.by_format.specs.declared.TimingFormat.{TimingFormat}
-use Rattle.merged_warps.specs.MergedWarps.{threeNumber, mergedLists}
-use Rattle.assembled_tempos.specs.AssembledTempos.{ThreeLaid}
-use Rattle.assembled_scrolls.specs.AssembledScrolls.{assembledScrolls}
-use Rattle.assembled_speeds.specs.AssembledSpeeds.{assembledSpeeds}
+use Rattle.process_raw.specs.RawLists.{roomFor}
+use Rattle.tidy_speeds_entries.specs.LaidSpeeds.{leastOf}
+use Rattle.process.specs.declared.TimingFormat.{TimingFormat}
+use Rattle.assembly_warps.specs.MergedWarps.{threeNumber, mergedLists}
+use Rattle.assembly_tempos.specs.AssembledTempos.{ThreeLaid}
+use Rattle.assembly_scrolls.specs.AssembledScrolls.{assembledScrolls}
+use Rattle.assembly_speeds.specs.AssembledSpeeds.{assembledSpeeds}
 use Rattle.assembly.specs.declared.Assembled.{Assembled}
 use Rattle.assembly.specs.Assembly.{assembledDelays, assembledFakes, othersNumber, othersLater, processedPart, SpeedsLaid}
 use Rattle.report_answer.specs.Report.{doneText}

@@ -14,14 +14,14 @@ use Rattle.limits.specs.Refusals.{lower}
 use Rattle.limits.proofs.NoRefusal.{lower-none}
 use Rattle.order.specs.Entries.{first, second}
 use Rattle.columns.specs.Laying.{roomNumber}
-use Rattle.speeds.specs.LaidSpeeds.{ratioOf, delayOf, unitOf}
-use Rattle.by_format.specs.declared.TimingFormat.{TimingFormat}
-use Rattle.merged_warps.specs.MergedWarps.{threeNumber}
-use Rattle.merged_warps.proofs.Merging.{taken-fits}
-use Rattle.assembled_tempos.specs.AssembledTempos.{assembledTempos, assembledStops, assembledWarps, fitNumber, threeRooms}
-use Rattle.assembled_tempos.proofs.ProcessedColumns.{all-fit}
-use Rattle.assembled_scrolls.specs.AssembledScrolls.{assembledScrolls}
-use Rattle.assembled_speeds.specs.AssembledSpeeds.{assembledSpeeds}
+use Rattle.tidy_speeds_entries.specs.LaidSpeeds.{ratioOf, delayOf, unitOf}
+use Rattle.process.specs.declared.TimingFormat.{TimingFormat}
+use Rattle.assembly_warps.specs.MergedWarps.{threeNumber}
+use Rattle.assembly_warps.proofs.Merging.{taken-fits}
+use Rattle.assembly_tempos.specs.AssembledTempos.{assembledTempos, assembledStops, assembledWarps, fitNumber, threeRooms}
+use Rattle.assembly_tempos.proofs.ProcessedColumns.{all-fit}
+use Rattle.assembly_scrolls.specs.AssembledScrolls.{assembledScrolls}
+use Rattle.assembly_speeds.specs.AssembledSpeeds.{assembledSpeeds}
 use Rattle.assembly.specs.Assembly.{assembledDelays, assembledFakes, othersNumber, othersLater}
 use Rattle.assembly.proofs.Ends.{none-refused, others-fit}
 use Rattle.report_text.specs.Output.{answerLine}

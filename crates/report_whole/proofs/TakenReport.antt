@@ -13,10 +13,10 @@ use Rattle.ieee.specs.Narrowing.{narrow}
 use Rattle.order.specs.Order.{laid}
 use Rattle.order.specs.Entries.{first, second}
 use Rattle.columns.specs.Laying.{given, columnLaid, LaidList}
-use Rattle.speeds.specs.LaidSpeeds.{ratioOf, delayOf, unitOf}
-use Rattle.by_format.specs.declared.TimingFormat.{TimingFormat}
-use Rattle.assembled_tempos.specs.AssembledTempos.{assembledTempos, assembledStops, assembledWarps, ThreeLaid}
-use Rattle.assembled_scrolls.specs.AssembledScrolls.{assembledScrolls}
+use Rattle.tidy_speeds_entries.specs.LaidSpeeds.{ratioOf, delayOf, unitOf}
+use Rattle.process.specs.declared.TimingFormat.{TimingFormat}
+use Rattle.assembly_tempos.specs.AssembledTempos.{assembledTempos, assembledStops, assembledWarps, ThreeLaid}
+use Rattle.assembly_scrolls.specs.AssembledScrolls.{assembledScrolls}
 use Rattle.assembly.specs.declared.Assembled.{Assembled}
 use Rattle.assembly.specs.Assembly.{assembledDelays, assembledFakes, processedPart, SpeedsLaid}
 use Rattle.report_text.specs.Output.{answerLine, listsText}

@@ -8,13 +8,13 @@ use Rattle.picks.specs.Pick.{pick}
 use Rattle.ieee.specs.Narrowing.{narrow}
 use Rattle.limits.specs.Refusals.{lower}
 use Rattle.order.specs.Entries.{first, second}
-use Rattle.speeds.specs.LaidSpeeds.{ratioOf, delayOf, unitOf}
-use Rattle.by_format.specs.declared.TimingFormat.{TimingFormat}
-use Rattle.by_format.specs.ByFormat.{Lists}
-use Rattle.merged_warps.specs.MergedWarps.{threeNumber, mergedLists}
-use Rattle.assembled_tempos.specs.AssembledTempos.{assembledTempos, assembledStops, assembledWarps, verdict, threeRooms}
-use Rattle.assembled_scrolls.specs.AssembledScrolls.{assembledScrolls}
-use Rattle.assembled_speeds.specs.AssembledSpeeds.{assembledSpeeds}
+use Rattle.tidy_speeds_entries.specs.LaidSpeeds.{ratioOf, delayOf, unitOf}
+use Rattle.process.specs.declared.TimingFormat.{TimingFormat}
+use Rattle.process.specs.ByFormat.{Lists}
+use Rattle.assembly_warps.specs.MergedWarps.{threeNumber, mergedLists}
+use Rattle.assembly_tempos.specs.AssembledTempos.{assembledTempos, assembledStops, assembledWarps, verdict, threeRooms}
+use Rattle.assembly_scrolls.specs.AssembledScrolls.{assembledScrolls}
+use Rattle.assembly_speeds.specs.AssembledSpeeds.{assembledSpeeds}
 use Rattle.assembly.specs.Assembly.{assembledDelays, assembledFakes, othersNumber, othersLater}
 use Rattle.report_text.specs.Output.{answerLine, listsText}
 

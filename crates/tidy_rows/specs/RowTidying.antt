@@ -7,8 +7,8 @@ use Rattle.limits.specs.Numbers.{rangeOf}
 use Rattle.limits.specs.Refusals.{listNumber}
 use Rattle.columns.specs.declared.Outcome.{Outcome}
 use Rattle.columns.specs.Laying.{LaidPair}
-pub use Rattle.row_sort.specs.RowEntries.{rowKeyAt, onRow, rowKeyOf, onItsRow}
-unfoldable pub use Rattle.row_sort.specs.RowEntries.{tidyRows}
+pub use Rattle.tidy_rows_sort.specs.RowEntries.{rowKeyAt, onRow, rowKeyOf, onItsRow}
+unfoldable pub use Rattle.tidy_rows_sort.specs.RowEntries.{tidyRows}
 
 -- the tests of a list before it is tidied
 abbrev pub rowsNumber : List Float → List Float → ℕ

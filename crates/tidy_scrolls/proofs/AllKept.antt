@@ -8,11 +8,11 @@ use lib.Ieee.{Float, nan}
 use Rattle.limits.specs.Neighbours.{everyTwo}
 use Rattle.order.specs.Entries.{entries}
 use Rattle.tidy_rows.specs.RowTidying.{rowKeyAt}
-use Rattle.keeping.specs.Near.{nearTo, farFrom}
-use Rattle.keeping.specs.Passing.{writes, passed, written}
-use Rattle.keeping.proofs.NearNothing.{near-nothing}
-use Rattle.keeping.proofs.AllApart.{all-written, columns-apart}
-use Rattle.by_rows.specs.ByMarks.{rowRises}
+use Rattle.tidy_kept.specs.Near.{nearTo, farFrom}
+use Rattle.tidy_kept.specs.Passing.{writes, passed, written}
+use Rattle.tidy_kept.proofs.NearNothing.{near-nothing}
+use Rattle.tidy_kept.proofs.AllApart.{all-written, columns-apart}
+use Rattle.tidy_by_rows.specs.ByMarks.{rowRises}
 use Rattle.tidy_scrolls.specs.Ways.{unheld}
 
 pub every-kept : (beats values : List Float) → length beats ≡ length values → everyTwo rowRises beats ≡ true → everyTwo farFrom values ≡ true → written rowKeyAt nearTo unheld (entries beats values) ≡ entries beats values

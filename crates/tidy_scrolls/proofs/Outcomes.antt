@@ -7,8 +7,8 @@ use lib.Dec.{ltb, eqb}
 use borrow.Author.Tests.{le-ltb}
 use Rattle.limits.specs.Numbers.{allIn}
 use Rattle.tidy_scrolls.specs.declared.Placed.{Placed}
-use Rattle.keeping.specs.Placing.{listed, placingNumber, PlacedAll}
-use Rattle.keeping.proofs.PlacedInColumns.{length-listed}
+use Rattle.tidy_kept.specs.Placing.{listed, placingNumber, PlacedAll}
+use Rattle.tidy_kept.proofs.PlacedInColumns.{length-listed}
 use native.Mathlib.Omega.{arith}
 use lib.ListN.{length, length-map}
 use lib.Ieee.{Float, nan}
@@ -24,13 +24,13 @@ use Rattle.columns.specs.Laying.{refusedBy}
 use Rattle.columns.proofs.Rooms.{refused-by-tests, refused-for-room, taken}
 use Rattle.tidy_rows.specs.RowTidying.{rowKeyAt, onItsRow}
 use Rattle.tidy_rows.specs.Ways.{Laid}
-use Rattle.keeping.specs.Near.{nearTo}
-use Rattle.keeping.specs.Keeping.{rowOf, placed, fallsWhile}
-use Rattle.keeping.specs.Passing.{written}
-use Rattle.keeping.proofs.Answered as answered
-use Rattle.keeping.proofs.InOnePass.{in-one-pass, few-written}
-use Rattle.keeping.proofs.ColumnsPlaced.{never-falls-entries}
-use Rattle.keeping.proofs.NearNothing.{near-nothing}
+use Rattle.tidy_kept.specs.Near.{nearTo}
+use Rattle.tidy_kept.specs.Keeping.{rowOf, placed, fallsWhile}
+use Rattle.tidy_kept.specs.Passing.{written}
+use Rattle.tidy_kept.proofs.Answered as answered
+use Rattle.tidy_kept.proofs.InOnePass.{in-one-pass, few-written}
+use Rattle.tidy_kept.proofs.ColumnsPlaced.{never-falls-entries}
+use Rattle.tidy_kept.proofs.NearNothing.{near-nothing}
 use Rattle.tidy_scrolls.specs.ScrollTidying.{tidyScrolls, scrollsNumber, ScrollsTidied}
 use Rattle.tidy_scrolls.specs.Ways.{unheld, writtenFrom}
 

@@ -12,10 +12,10 @@ use Rattle.order.specs.Entries.{entries, first, second}
 use Rattle.order.proofs.Columns.{length-entries, entries-getD}
 use Rattle.tidy_rows.specs.RowTidying.{rowKeyAt, onItsRow}
 use Rattle.tidy_rows.specs.Ways.{Laid}
-use Rattle.keeping.specs.Near.{nearTo}
-use Rattle.keeping.specs.Passing.{Waiting, passed, written}
-use Rattle.keeping.proofs.PassTurns as turns
-use Rattle.keeping.proofs.FieldsLaid.{LayingField, field-none, field-room, field-more, field-count, field-all}
+use Rattle.tidy_kept.specs.Near.{nearTo}
+use Rattle.tidy_kept.specs.Passing.{Waiting, passed, written}
+use Rattle.tidy_kept.proofs.PassTurns as turns
+use Rattle.tidy_kept.proofs.FieldsLaid.{LayingField, field-none, field-room, field-more, field-count, field-all}
 
 module _ (beats values : List Float) (same : length beats ≡ length values) where
   abbrev pub at : ℕ → Float × Float

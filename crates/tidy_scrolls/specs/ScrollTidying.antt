@@ -9,8 +9,8 @@ use Rattle.order.specs.Entries.{entries}
 use Rattle.columns.specs.declared.Outcome.{Outcome}
 use Rattle.columns.specs.Laying.{LaidPair}
 use Rattle.tidy_rows.specs.RowTidying.{rowKeyAt, onItsRow}
-use Rattle.keeping.specs.Near.{nearTo}
-use Rattle.keeping.specs.Keeping.{keptOf, keepNumber}
+use Rattle.tidy_kept.specs.Near.{nearTo}
+use Rattle.tidy_kept.specs.Keeping.{keptOf, keepNumber}
 
 -- the kept entries, each on its row
 unfoldable pub tidyScrolls : List Float → List Float → List (Float × Float)

@@ -4,8 +4,8 @@ use mathlib.Core.List.{List, map}
 use lib.IntN.{pos}
 use lib.Ieee.{Float, fin, nan}
 use Rattle.tidy_rows.specs.RowTidying.{rowKeyAt, onItsRow}
-use Rattle.keeping.specs.Near.{nearTo}
-use Rattle.keeping.specs.Passing.{Waiting, written}
+use Rattle.tidy_kept.specs.Near.{nearTo}
+use Rattle.tidy_kept.specs.Passing.{Waiting, written}
 use Rattle.tidy_scrolls.specs.declared.Held.{Held}
 
 abbrev pub waiting : Held → Waiting Float Float

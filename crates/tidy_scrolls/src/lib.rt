@@ -1,6 +1,6 @@
 // Scroll tidying: entries in order are kept in one pass; others are placed one by one.
 use columns::Outcome;
-use keeping::Change;
+use tidy_kept::Change;
 use limits::Kind;
 ghost use mathlib.Core.Path.{_≡_};
 ghost use mathlib.Core.Bool.{true, false};
@@ -17,11 +17,11 @@ ghost use Rattle.order.specs.Order.{neverFalls};
 ghost use Rattle.order.specs.Entries.{entries};
 ghost use Rattle.tidy_rows.specs.RowTidying.{rowKeyAt, onRow, onItsRow};
 ghost use Rattle.tidy_rows.specs.Ways.{Laid};
-ghost use Rattle.by_rows.specs.ByMarks.{rowRises};
-ghost use Rattle.keeping.specs.Near.{nearTo};
-ghost use Rattle.keeping.specs.Passing.{comes, passed, written};
-ghost use Rattle.keeping.specs.Changing.{Changed};
-ghost use Rattle.keeping.specs.Placing.{listed, PlacedOne, PlacedAll};
+ghost use Rattle.tidy_by_rows.specs.ByMarks.{rowRises};
+ghost use Rattle.tidy_kept.specs.Near.{nearTo};
+ghost use Rattle.tidy_kept.specs.Passing.{comes, passed, written};
+ghost use Rattle.tidy_kept.specs.Changing.{Changed};
+ghost use Rattle.tidy_kept.specs.Placing.{listed, PlacedOne, PlacedAll};
 ghost use Rattle.tidy_scrolls.specs.ScrollTidying.{ScrollsTidied};
 ghost use Rattle.tidy_scrolls.specs.Ways.{waiting, unheld, writtenFrom};
 
@@ -53,7 +53,7 @@ fn come(before: f64, held: Held, row: u32, beat: f64, value: f64) -> Held
     requires { ⌜ row ≡ rowKeyAt beat ⌝ }
     ensures { λ r. ⌜ waiting r ≡ comes rowKeyAt nearTo before (waiting held) (beat, value) ⌝ }
 {
-    if keeping::near(value, before) {
+    if tidy_kept::near(value, before) {
         return Held {
             before: before,
             waits: false,
@@ -89,10 +89,10 @@ fn pass(held: Held, row: u32, beat: f64, value: f64) -> Held
         if held.row < row {
             return come(held.value, held, row, beat, value);
         }
-        if keeping::near(value, held.before) {
+        if tidy_kept::near(value, held.before) {
             return come(held.before, held, row, beat, value);
         }
-        if keeping::near(value, held.value) {
+        if tidy_kept::near(value, held.value) {
             return held;
         }
         return come(held.before, held, row, beat, value);
@@ -108,7 +108,7 @@ fn count_kept(beats: &[f64], values: &[f64]) -> usize
     let mut count = 0;
     let mut i = 0;
     while i < beats.len() {
-        let row = row_sort::row_key(beats[i]);
+        let row = tidy_rows_sort::row_key(beats[i]);
         let next = pass(held, row, beats[i], values[i]);
         if writes(held, row) {
             count += 1;
@@ -135,10 +135,10 @@ fn lay_kept(beats: &[f64], values: &[f64], out_beats: &mut [f64], out_values: &m
     let mut count = 0;
     let mut i = 0;
     while i < beats.len() {
-        let row = row_sort::row_key(beats[i]);
+        let row = tidy_rows_sort::row_key(beats[i]);
         let next = pass(held, row, beats[i], values[i]);
         if writes(held, row) {
-            out_beats[count] = row_sort::on_row(held.beat);
+            out_beats[count] = tidy_rows_sort::on_row(held.beat);
             out_values[count] = held.value;
             count += 1;
             held = next;
@@ -149,7 +149,7 @@ fn lay_kept(beats: &[f64], values: &[f64], out_beats: &mut [f64], out_values: &m
         i += 1;
     }
     if held.waits {
-        out_beats[count] = row_sort::on_row(held.beat);
+        out_beats[count] = tidy_rows_sort::on_row(held.beat);
         out_values[count] = held.value;
         return count + 1;
     }
@@ -201,8 +201,8 @@ fn tidy_rising(
     ensures { λ r. ⌜ ScrollsTidied (now (beats .entry)) (now (values .entry)) r (now («out_beats» .entry)) (now («out_beats» .exit)) (now («out_values» .entry)) (now («out_values» .exit)) ⌝ }
 {
     if beats.len() <= columns::room_of(out_beats.len(), out_values.len()) {
-        if keeping::all_apart(values) {
-            by_rows::lay_on_rows(beats, out_beats);
+        if tidy_kept::all_apart(values) {
+            tidy_by_rows::lay_on_rows(beats, out_beats);
             columns::copy(values, out_values);
             return Outcome {
                 number: limits::TAKEN,
@@ -221,7 +221,7 @@ fn near_at(values: &[f64], n: usize, place: usize, value: f64) -> bool
     ensures { λ r. ⌜ r ≡ pick (ltb place n) (nearTo value (getD (now (values .entry)) place nan)) false ⌝ }
 {
     if place < n {
-        return keeping::near(value, values[place]);
+        return tidy_kept::near(value, values[place]);
     }
     false
 }
@@ -231,15 +231,15 @@ fn change_at(beats: &[f64], values: &[f64], n: usize, beat: f64, value: f64) -> 
     requires { ⌜ neverFalls rowKeyAt (take n (now beats)) ≡ true ⌝ }
     ensures { λ r. ⌜ Changed rowKeyAt nearTo (beat, value) (listed n (now (beats .entry)) (now (values .entry))) r ⌝ }
 {
-    let row = row_sort::row_key(beat);
-    let at = by_rows::place_after(&beats[..n], row);
-    let last = keeping::place_before(at);
-    let on_row = row_sort::row_key(beats[last]) == row;
-    keeping::change_of(
+    let row = tidy_rows_sort::row_key(beat);
+    let at = tidy_by_rows::place_after(&beats[..n], row);
+    let last = tidy_kept::place_before(at);
+    let on_row = tidy_rows_sort::row_key(beats[last]) == row;
+    tidy_kept::change_of(
         at,
         on_row,
         near_at(values, n, last + 1, value),
-        near_at(values, n, keeping::held_against(last, on_row), value),
+        near_at(values, n, tidy_kept::held_against(last, on_row), value),
         near_at(values, n, last, value),
     )
 }
@@ -276,8 +276,8 @@ fn place(beats: &mut [f64], values: &mut [f64], n: usize, beat: f64, value: f64)
     }
     let change = change_at(beats, values, n, beat, value);
     let comes = value_of(values, change, value);
-    splicing::splice(beats, n, change.low, change.high, change.comes, beat);
-    splicing::splice(values, n, change.low, change.high, change.comes, comes);
+    tidy_splice::splice(beats, n, change.low, change.high, change.comes, beat);
+    tidy_splice::splice(values, n, change.low, change.high, change.comes, comes);
     let left = n - (change.high - change.low);
     if change.comes {
         return Placed {
@@ -336,7 +336,7 @@ fn lay_rows(
 {
     let mut i = 0;
     while i < count {
-        out_beats[i] = row_sort::on_row(beats[i]);
+        out_beats[i] = tidy_rows_sort::on_row(beats[i]);
         out_values[i] = values[i];
         i += 1;
     }
@@ -405,10 +405,10 @@ pub fn tidy_scroll_segments(
     if number != 0 {
         return columns::refused(number);
     }
-    if by_rows::rise(beats) {
+    if tidy_by_rows::rise(beats) {
         return tidy_rising(beats, values, out_beats, out_values);
     }
-    if by_rows::in_order(beats) {
+    if tidy_by_rows::in_order(beats) {
         return tidy_ordered(beats, values, out_beats, out_values);
     }
     tidy_placed(beats, values, out_beats, out_values)

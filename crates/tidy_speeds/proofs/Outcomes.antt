@@ -13,15 +13,15 @@ use Rattle.limits.specs.Numbers.{rangeOf, allIn, unitsIn}
 use Rattle.order.specs.Order.{run, neverFalls}
 use Rattle.columns.specs.Laying.{refusedBy}
 use Rattle.tidy_rows.specs.RowTidying.{rowKeyAt}
-use Rattle.keeping.specs.Keeping.{rowOf, placed}
-use Rattle.keeping.specs.Placing.{placingNumber}
-use Rattle.keeping.proofs.Answered as answered
-use Rattle.keeping.proofs.ColumnsPlaced.{never-falls-entries}
-use Rattle.speeds.specs.Speed.{SpeedEntry, nearSpeed, speedValues, speedEntries, speedOnRow}
-use Rattle.speeds.proofs.SpeedColumns.{many-values, many-speeds}
-use Rattle.speeds.proofs.Rooms.{refused-by-tests}
-use Rattle.speed_order.specs.OrderedSpeeds.{keptSpeeds}
-use Rattle.speed_order.proofs.KeptInOnePass.{kept-in-order}
+use Rattle.tidy_kept.specs.Keeping.{rowOf, placed}
+use Rattle.tidy_kept.specs.Placing.{placingNumber}
+use Rattle.tidy_kept.proofs.Answered as answered
+use Rattle.tidy_kept.proofs.ColumnsPlaced.{never-falls-entries}
+use Rattle.tidy_speeds_entries.specs.Speed.{SpeedEntry, nearSpeed, speedValues, speedEntries, speedOnRow}
+use Rattle.tidy_speeds_entries.proofs.SpeedColumns.{many-values, many-speeds}
+use Rattle.tidy_speeds_entries.proofs.Rooms.{refused-by-tests}
+use Rattle.tidy_speeds_ordered.specs.OrderedSpeeds.{keptSpeeds}
+use Rattle.tidy_speeds_ordered.proofs.KeptInOnePass.{kept-in-order}
 use Rattle.tidy_speeds.specs.SpeedTidying.{valuesNumber, speedListNumber, tidySpeeds, speedsNumber, SpeedsTidied}
 use Rattle.tidy_speeds.proofs.ListTaken.{speeds-taken}
 

@@ -7,16 +7,16 @@ use native.Mathlib.Omega.{arith}
 use lib.ListN.{length}
 use lib.Ieee.{Float}
 use Rattle.limits.specs.Neighbours.{everyTwo}
-use Rattle.keeping.specs.Near.{farFrom}
-use Rattle.by_rows.specs.ByMarks.{rowRises}
-use Rattle.by_rows.proofs.ByMarks.{rising-never-falls}
-use Rattle.speeds.specs.Speed.{speedEntries, speedOnRow}
-use Rattle.speeds.specs.LaidSpeeds.{leastOf, LaidRooms}
-use Rattle.speeds.proofs.SpeedColumns.{many-speeds}
-use Rattle.speed_order.specs.Apart.{ColumnsApart}
-use Rattle.speed_order.specs.OrderedSpeeds.{keptSpeeds, OrderedTidied}
-use Rattle.speed_order.proofs.ColumnsLaid.{apart-kept}
-use Rattle.speed_order.proofs.KeptInOnePass.{ordered-laid}
+use Rattle.tidy_kept.specs.Near.{farFrom}
+use Rattle.tidy_by_rows.specs.ByMarks.{rowRises}
+use Rattle.tidy_by_rows.proofs.ByMarks.{rising-never-falls}
+use Rattle.tidy_speeds_entries.specs.Speed.{speedEntries, speedOnRow}
+use Rattle.tidy_speeds_entries.specs.LaidSpeeds.{leastOf, LaidRooms}
+use Rattle.tidy_speeds_entries.proofs.SpeedColumns.{many-speeds}
+use Rattle.tidy_speeds_ordered.specs.Apart.{ColumnsApart}
+use Rattle.tidy_speeds_ordered.specs.OrderedSpeeds.{keptSpeeds, OrderedTidied}
+use Rattle.tidy_speeds_ordered.proofs.ColumnsLaid.{apart-kept}
+use Rattle.tidy_speeds_ordered.proofs.KeptInOnePass.{ordered-laid}
 use Rattle.columns.specs.declared.Outcome.{Outcome}
 use Rattle.tidy_speeds.specs.SpeedTidying.{speedListNumber, SpeedsTidied}
 use Rattle.tidy_speeds.proofs.ListTaken.{speeds-taken}

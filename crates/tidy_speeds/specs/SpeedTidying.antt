@@ -10,9 +10,9 @@ use Rattle.limits.specs.Numbers.{rangeOf, allIn, unitsIn}
 use Rattle.limits.specs.Refusals.{lower}
 use Rattle.columns.specs.declared.Outcome.{Outcome}
 use Rattle.tidy_rows.specs.RowTidying.{rowKeyAt}
-use Rattle.keeping.specs.Keeping.{keptOf, keepNumber}
-use Rattle.speeds.specs.Speed.{SpeedEntry, nearSpeed, speedEntries, speedOnRow}
-use Rattle.speeds.specs.LaidSpeeds.{LaidSpeeds}
+use Rattle.tidy_kept.specs.Keeping.{keptOf, keepNumber}
+use Rattle.tidy_speeds_entries.specs.Speed.{SpeedEntry, nearSpeed, speedEntries, speedOnRow}
+use Rattle.tidy_speeds_entries.specs.LaidSpeeds.{LaidSpeeds}
 
 -- 4 where a ratio, a delay or a unit is out of range
 unfoldable pub valuesNumber : List Float → List Float → List ℕ → ℕ

@@ -7,10 +7,10 @@ ghost use mathlib.Core.List.{map};
 ghost use Prim.Native.Nat.{_≤_};
 ghost use lib.ListN.{length};
 ghost use Rattle.limits.specs.Neighbours.{everyTwo};
-ghost use Rattle.by_rows.specs.ByMarks.{rowRises};
-ghost use Rattle.speeds.specs.Speed.{speedEntries, speedOnRow};
-ghost use Rattle.speeds.specs.LaidSpeeds.{leastOf, LaidRooms};
-ghost use Rattle.speed_order.specs.Apart.{ColumnsApart};
+ghost use Rattle.tidy_by_rows.specs.ByMarks.{rowRises};
+ghost use Rattle.tidy_speeds_entries.specs.Speed.{speedEntries, speedOnRow};
+ghost use Rattle.tidy_speeds_entries.specs.LaidSpeeds.{leastOf, LaidRooms};
+ghost use Rattle.tidy_speeds_ordered.specs.Apart.{ColumnsApart};
 ghost use Rattle.tidy_speeds.specs.SpeedTidying.{valuesNumber, speedListNumber, SpeedsTidied};
 
 fn values_number(ratios: &[f64], delays: &[f64], units: &[u8]) -> u32
@@ -75,10 +75,10 @@ fn lay_columns(
     requires { ⌜ length (now beats) ≤ leastOf (length (now «out_beats»)) (length (now «out_ratios»)) (length (now «out_delays»)) (length (now «out_units»)) ⌝ }
     ensures { λ _. ⌜ LaidRooms (map speedOnRow (speedEntries (now (beats .entry)) (now (ratios .entry)) (now (delays .entry)) (now (units .entry)))) (now («out_beats» .entry)) (now («out_beats» .exit)) (now («out_ratios» .entry)) (now («out_ratios» .exit)) (now («out_delays» .entry)) (now («out_delays» .exit)) (now («out_units» .entry)) (now («out_units» .exit)) ⌝ }
 {
-    by_rows::lay_on_rows(beats, out_beats);
+    tidy_by_rows::lay_on_rows(beats, out_beats);
     columns::copy(ratios, out_ratios);
     columns::copy(delays, out_delays);
-    speeds::copy_units(units, out_units);
+    tidy_speeds_entries::copy_units(units, out_units);
 }
 
 fn tidy_rising(
@@ -94,14 +94,14 @@ fn tidy_rising(
     requires { ⌜ (speedListNumber (now beats) (now ratios) (now delays) (now units) ≡ 0) × (everyTwo rowRises (now beats) ≡ true) ⌝ }
     ensures { λ r. ⌜ SpeedsTidied (now (beats .entry)) (now (ratios .entry)) (now (delays .entry)) (now (units .entry)) r (now («out_beats» .entry)) (now («out_beats» .exit)) (now («out_ratios» .entry)) (now («out_ratios» .exit)) (now («out_delays» .entry)) (now («out_delays» .exit)) (now («out_units» .entry)) (now («out_units» .exit)) ⌝ }
 {
-    let room = speeds::least_of(
+    let room = tidy_speeds_entries::least_of(
         out_beats.len(),
         out_ratios.len(),
         out_delays.len(),
         out_units.len(),
     );
     if beats.len() <= room {
-        if keeping::all_apart(ratios) {
+        if tidy_kept::all_apart(ratios) {
             lay_columns(
                 beats,
                 ratios,
@@ -118,7 +118,7 @@ fn tidy_rising(
             };
         }
     }
-    speed_order::tidy_ordered(
+    tidy_speeds_ordered::tidy_ordered(
         beats,
         ratios,
         delays,
@@ -148,7 +148,7 @@ pub fn tidy_speed_segments(
     if number != 0 {
         return columns::refused(number);
     }
-    if by_rows::rise(beats) {
+    if tidy_by_rows::rise(beats) {
         return tidy_rising(
             beats,
             ratios,
@@ -160,8 +160,8 @@ pub fn tidy_speed_segments(
             out_units,
         );
     }
-    if by_rows::in_order(beats) {
-        return speed_order::tidy_ordered(
+    if tidy_by_rows::in_order(beats) {
+        return tidy_speeds_ordered::tidy_ordered(
             beats,
             ratios,
             delays,
@@ -172,7 +172,7 @@ pub fn tidy_speed_segments(
             out_units,
         );
     }
-    speed_places::tidy_placed(
+    tidy_speeds_placed::tidy_placed(
         beats,
         ratios,
         delays,

@@ -4,13 +4,13 @@ use mathlib.Core.Bool.{true, false}
 use lib.ListN.{length}
 use Rattle.limits.proofs.NoRefusal.{lower-none}
 use Rattle.columns.proofs.Rooms.{list-refused, list-of-pair}
-use Rattle.raw_lists.specs.RawLists.{roomFor}
-use Rattle.speeds.specs.LaidSpeeds.{leastOf}
-use Rattle.merged_warps.specs.MergedWarps.{threeNumber}
+use Rattle.process_raw.specs.RawLists.{roomFor}
+use Rattle.tidy_speeds_entries.specs.LaidSpeeds.{leastOf}
+use Rattle.assembly_warps.specs.MergedWarps.{threeNumber}
 use Rattle.assembly.specs.Assembly.{othersNumber, othersLater}
 use Rattle.assembly.proofs.Ends.{speeds-refused, speeds-laid, others-taken, others-fit, rows-laid, as-asked, taken-part, all-passed}
-use Rattle.assembled_speeds.proofs.Untested.{untested-taken as speeds-untested}
-use Rattle.assembled_scrolls.proofs.Untested.{untested-taken as scrolls-untested}
+use Rattle.assembly_speeds.proofs.Untested.{untested-taken as speeds-untested}
+use Rattle.assembly_scrolls.proofs.Untested.{untested-taken as scrolls-untested}
 use borrow.Author.Needs.{needs}
 use Rattle.assembly.proofs.compute_timing_segments.Statement.{statement}
 use Rattle.assembly.proofs.compute_timing_segments.Tie as tie

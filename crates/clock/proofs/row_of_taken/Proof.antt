@@ -10,7 +10,7 @@ use Rattle.rows.specs.Rows.{allowedBeat}
 use Rattle.rows.proofs.RowBySum.{mark-number, mark-in64, count-in64, count-in32, row-by-sum}
 use Rattle.limits.specs.Numbers.{inRange, upTo}
 use Rattle.limits.proofs.TakenWithin.{taken-within}
-use Rattle.timing_tests.specs.TimingNumbers.{beatNumber}
+use Rattle.clock_tests.specs.TimingNumbers.{beatNumber}
 use borrow.Author.Needs.{needs}
 use Rattle.clock.proofs.row_of_taken.Statement.{statement}
 use Rattle.clock.proofs.row_of_taken.Tie as tie

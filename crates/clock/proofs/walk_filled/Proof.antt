@@ -1,9 +1,9 @@
 -- `clock::walk_filled` walks the filled timing. Assumes nothing.
 use mathlib.Core.Path.{_≡_}
 use lib.Ieee.{ofBits}
-use Rattle.walk.specs.Events.{Timing, timing}
-use Rattle.walk.specs.Walk.{walk}
-use Rattle.walk.proofs.BackFromBits.{back}
+use Rattle.clock_walk.specs.Events.{Timing, timing}
+use Rattle.clock_walk.specs.Walk.{walk}
+use Rattle.clock_walk.proofs.BackFromBits.{back}
 use Rattle.clock.specs.Question.{filled}
 use Rattle.clock.proofs.FilledTempos.{filled-by, filled-fits}
 use borrow.Author.Needs.{needs}

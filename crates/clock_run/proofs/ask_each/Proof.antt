@@ -9,9 +9,9 @@ use lib.Ieee.{Float, nan, binary64, sub}
 use mir.Syntax.{w32}
 use mir.Val.{SFits, toZ, ofZ}
 use Rattle.rows.specs.Rows.{row}
-use Rattle.walk.specs.Events.{timing}
-use Rattle.walk.proofs.BackFromBits.{back}
-use Rattle.walk.proofs.RowOrder.{no}
+use Rattle.clock_walk.specs.Events.{timing}
+use Rattle.clock_walk.proofs.BackFromBits.{back}
+use Rattle.clock_walk.proofs.RowOrder.{no}
 use Rattle.clock_run.specs.Ahead.{isBefore, pastTempo}
 use Rattle.clock_run.specs.declared.Past.{Past}
 use Rattle.clock_run.proofs.BeatByBeat.{Running, begun, turned, quiet-turn, ended}

@@ -2,8 +2,8 @@
 use mathlib.Core.Bool.{true, false}
 use mathlib.Core.Path.{_≡_, sym, _∙_}
 use borrow.Author.Tests.{lt-ltb, le-ltb}
-use Rattle.walk.specs.Soon.{rowAfter}
-use Rattle.walk.proofs.BackFromBits.{back}
+use Rattle.clock_walk.specs.Soon.{rowAfter}
+use Rattle.clock_walk.proofs.BackFromBits.{back}
 use Rattle.clock_run.specs.Ahead.{least, isBefore, pastTempo}
 use borrow.Author.Needs.{needs}
 use Rattle.clock_run.proofs.past_tempo.Statement.{statement}

@@ -1,5 +1,5 @@
 -- `lookup_checked::place_of` halves what is left until the place is found. Assumes nothing.
-use Rattle.keeping.proofs.Searched.{Halving, halving-all, halving-up, halving-down, halving-ends}
+use Rattle.tidy_kept.proofs.Searched.{Halving, halving-all, halving-up, halving-down, halving-ends}
 use Rattle.lookup_checked.specs.Checked.{placeOf}
 use lib.ListN.{length, getD}
 use lib.Ieee.{Float, nan, le}

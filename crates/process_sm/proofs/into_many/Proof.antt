@@ -3,7 +3,7 @@ use native.Mathlib.Nat.{max-le}
 use native.Mathlib.Omega.{arith}
 use lib.ListN.{length}
 use Rattle.limits.proofs.ListTaken.{list-taken}
-use Rattle.raw_lists.proofs.BothTaken.{both-taken}
+use Rattle.process_raw.proofs.BothTaken.{both-taken}
 use borrow.Author.Needs.{needs}
 use Rattle.process_sm.proofs.into_many.Statement.{statement}
 use Rattle.process_sm.proofs.into_many.Tie as tie

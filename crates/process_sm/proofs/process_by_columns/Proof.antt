@@ -3,7 +3,7 @@ use native.Mathlib.Omega.{arith}
 use native.Mathlib.Nat.{max-le}
 use lib.ListN.{length}
 use Rattle.limits.proofs.ListTaken.{list-taken}
-use Rattle.raw_lists.proofs.BothTaken.{both-taken}
+use Rattle.process_raw.proofs.BothTaken.{both-taken}
 use Rattle.process_sm.proofs.WorkRoom.{with-room}
 use borrow.Author.Needs.{needs}
 use Rattle.process_sm.proofs.process_by_columns.Statement.{statement}

@@ -2,10 +2,10 @@
 use Prim.Native.Nat.{ℕ}
 use mathlib.Core.Path.{_≡_, sym, _∙_}
 use lib.Seq.{length-take-le}
-use Rattle.raw_lists.specs.RawLists.{rawNumbers}
-use Rattle.sm_changes.specs.SmChanges.{smChanges}
-use Rattle.sm_walk.specs.Columns.{Columns, columns}
-use Rattle.sm_lent.proofs.WalkedColumns.{Fronts}
+use Rattle.process_raw.specs.RawLists.{rawNumbers}
+use Rattle.process_sm_changes.specs.SmChanges.{smChanges}
+use Rattle.process_sm_walk.specs.Columns.{Columns, columns}
+use Rattle.process_sm_lent.proofs.WalkedColumns.{Fronts}
 use Rattle.process_sm.proofs.WalkedIntoRooms.{number-walked, fronts, into-refused, into-taken}
 use borrow.Author.Needs.{needs}
 use Rattle.process_sm.proofs.process_into.Statement.{statement}

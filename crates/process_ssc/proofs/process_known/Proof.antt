@@ -7,8 +7,8 @@ use borrow.Author.Tests.{not-true, not-false, leb-true, leb-false}
 use lib.ListN.{length}
 use lib.Ieee.{Float, ofBits}
 use Rattle.limits.proofs.ListTaken.{list-taken}
-use Rattle.raw_lists.specs.RawLists.{rawNumbers, roomFor, processedNothing}
-use Rattle.raw_lists.proofs.BothTaken.{BothTaken, both-taken}
+use Rattle.process_raw.specs.RawLists.{rawNumbers, roomFor, processedNothing}
+use Rattle.process_raw.proofs.BothTaken.{BothTaken, both-taken}
 use Rattle.process_ssc.specs.Ssc.{stayed}
 use Rattle.process_ssc.proofs.Outcomes.{by-tests, for-stops, for-tempos, taken}
 use borrow.Author.Needs.{needs}

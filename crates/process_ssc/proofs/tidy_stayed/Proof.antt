@@ -11,7 +11,7 @@ use Rattle.order.specs.Entries.{entries, first, second}
 use Rattle.order.proofs.Columns.{length-entries}
 use Rattle.order.proofs.LaidOverFront.{laid-length}
 use Rattle.columns.proofs.KeptLaid.{few-kept}
-use Rattle.raw_lists.proofs.FrontRead.{front-read}
+use Rattle.process_raw.proofs.FrontRead.{front-read}
 use Rattle.process_ssc.specs.Ssc.{staysSsc, onRow, stayed}
 use Rattle.process_ssc.proofs.TemposTaken.{tempos-taken}
 use borrow.Author.Needs.{needs}

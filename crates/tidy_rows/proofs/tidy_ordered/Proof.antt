@@ -10,7 +10,7 @@ use Rattle.order.proofs.Columns.{length-entries}
 use Rattle.tidy_rows.specs.RowTidying.{rowKeyOf, onItsRow, rowsNumber}
 use Rattle.limits.proofs.ListTaken.{list-taken}
 use Rattle.tidy_rows.proofs.BothWays.{lasts-length, ordered-way, plain-way}
-use Rattle.row_sort.proofs.Outcomes.{no-room, all-laid}
+use Rattle.tidy_rows_sort.proofs.Outcomes.{no-room, all-laid}
 use borrow.Author.Needs.{needs}
 use Rattle.tidy_rows.proofs.tidy_ordered.Statement.{statement}
 use Rattle.tidy_rows.proofs.tidy_ordered.Tie as tie

@@ -1,8 +1,8 @@
 -- `tidy_scrolls::change_at` finds the change by place and nearness. Assumes nothing.
 use Rattle.tidy_rows.specs.RowTidying.{rowKeyAt}
-use Rattle.keeping.specs.Near.{nearTo}
-use Rattle.keeping.proofs.Searched.{place-within}
-use Rattle.keeping.proofs.PlacedInColumns.{change-by}
+use Rattle.tidy_kept.specs.Near.{nearTo}
+use Rattle.tidy_kept.proofs.Searched.{place-within}
+use Rattle.tidy_kept.proofs.PlacedInColumns.{change-by}
 use lib.Ieee.{nan}
 use lib.Seq.{length-take-le}
 use native.Mathlib.Omega.{arith}

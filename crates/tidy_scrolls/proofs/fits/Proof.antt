@@ -1,8 +1,8 @@
 -- `tidy_scrolls::fits` counts only where it has to. Assumes nothing.
 use Rattle.tidy_scrolls.proofs.Outcomes.{few-kept}
 use Rattle.tidy_scrolls.specs.Ways.{unheld}
-use Rattle.keeping.specs.Passing.{written}
-use Rattle.keeping.specs.Near.{nearTo}
+use Rattle.tidy_kept.specs.Passing.{written}
+use Rattle.tidy_kept.specs.Near.{nearTo}
 use Rattle.tidy_rows.specs.RowTidying.{rowKeyAt}
 use Rattle.order.proofs.Columns.{length-entries}
 use Rattle.order.specs.Entries.{entries}

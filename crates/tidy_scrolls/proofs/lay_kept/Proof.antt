@@ -3,8 +3,8 @@ use mathlib.Core.Path.{refl}
 use mathlib.Core.List.{[]}
 use Rattle.tidy_scrolls.proofs.Turns.{turn-writes, turn-waits, ends-waiting, ends, LayingRows, rows-none, rows-same, rows-room, rows-more, rows-count, rows-all}
 use Rattle.tidy_scrolls.specs.Ways.{waiting, unheld, writtenFrom}
-use Rattle.keeping.specs.Passing.{written}
-use Rattle.keeping.specs.Near.{nearTo}
+use Rattle.tidy_kept.specs.Passing.{written}
+use Rattle.tidy_kept.specs.Near.{nearTo}
 use Rattle.tidy_rows.specs.RowTidying.{rowKeyAt, onItsRow}
 use Rattle.order.specs.Entries.{entries, first, second}
 use lib.Ieee.{nan}

@@ -4,8 +4,8 @@ use mathlib.Core.Path.{refl}
 use native.Mathlib.Omega.{arith}
 use lib.ListN.{drop, getD}
 use lib.Ieee.{Float, nan}
-use Rattle.keeping.specs.Placing.{listed}
-use Rattle.keeping.proofs.PlacedInColumns.{listed-here, listed-end}
+use Rattle.tidy_kept.specs.Placing.{listed}
+use Rattle.tidy_kept.proofs.PlacedInColumns.{listed-here, listed-end}
 use Rattle.tidy_scrolls.proofs.Turns.{LayingRows, rows-none, rows-more, rows-all}
 use borrow.Author.Needs.{needs}
 use Rattle.tidy_scrolls.proofs.lay_rows.Statement.{statement}

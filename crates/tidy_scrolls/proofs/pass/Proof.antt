@@ -1,7 +1,7 @@
 -- `tidy_scrolls::pass` meets its contract. Assumes nothing.
 use Rattle.tidy_scrolls.specs.Ways.{waiting}
-use Rattle.keeping.proofs.PassTurns.{passed-later, passed-away, passed-by, passed-over, passed-alone}
-use Rattle.keeping.specs.Near.{nearTo}
+use Rattle.tidy_kept.proofs.PassTurns.{passed-later, passed-away, passed-by, passed-over, passed-alone}
+use Rattle.tidy_kept.specs.Near.{nearTo}
 use Rattle.tidy_rows.specs.RowTidying.{rowKeyAt}
 use lib.Ieee.{Float}
 use native.Mathlib.Omega.{arith}

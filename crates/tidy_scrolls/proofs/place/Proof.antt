@@ -1,9 +1,9 @@
 -- `tidy_scrolls::place` writes the first entry, or makes the change. Assumes nothing.
 use Rattle.tidy_rows.specs.RowTidying.{rowKeyAt}
-use Rattle.keeping.specs.Near.{nearTo}
-use Rattle.keeping.proofs.PlacedInColumns.{placed-first, high-fits, placed-later}
+use Rattle.tidy_kept.specs.Near.{nearTo}
+use Rattle.tidy_kept.proofs.PlacedInColumns.{placed-first, high-fits, placed-later}
 use lib.Ieee.{nan}
-use Rattle.keeping.specs.Changing.{countBy}
+use Rattle.tidy_kept.specs.Changing.{countBy}
 use native.Mathlib.Omega.{arith}
 use mathlib.Core.Path.{_≡_, refl, sym, _∙_}
 use Prim.Native.Nat.{_+_, _-_}

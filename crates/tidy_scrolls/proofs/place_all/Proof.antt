@@ -2,10 +2,10 @@
 use native.Mathlib.Omega.{arith}
 use mathlib.Core.Path.{_≡_, refl, _∙_}
 use Prim.Native.Nat.{_-_, _≤_}
-use Rattle.keeping.proofs.PlacedInColumns.{PlacingAll, placing-none, beats-stand, placing-falls, placing-more, placing-ends}
+use Rattle.tidy_kept.proofs.PlacedInColumns.{PlacingAll, placing-none, beats-stand, placing-falls, placing-more, placing-ends}
 use Rattle.tidy_scrolls.proofs.Turns.{at as entry-at, many, here}
 use Rattle.tidy_rows.specs.RowTidying.{rowKeyAt}
-use Rattle.keeping.specs.Near.{nearTo}
+use Rattle.tidy_kept.specs.Near.{nearTo}
 use Rattle.order.specs.Entries.{entries}
 use lib.Ieee.{nan}
 use lib.ListN.{length}

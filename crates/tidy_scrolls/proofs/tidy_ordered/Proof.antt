@@ -1,8 +1,8 @@
 -- `tidy_scrolls::tidy_ordered` refuses for want of room, or lays. Assumes nothing.
 use Rattle.tidy_scrolls.proofs.Outcomes.{even-columns, ordered-refused, ordered-laid}
 use Rattle.tidy_scrolls.specs.Ways.{unheld}
-use Rattle.keeping.specs.Passing.{written}
-use Rattle.keeping.specs.Near.{nearTo}
+use Rattle.tidy_kept.specs.Passing.{written}
+use Rattle.tidy_kept.specs.Near.{nearTo}
 use Rattle.tidy_rows.specs.RowTidying.{rowKeyAt}
 use Rattle.order.specs.Entries.{entries}
 use borrow.Author.Tests.{not-true, not-false, leb-true, leb-false}

@@ -12,9 +12,9 @@ use Rattle.order.proofs.Columns.{length-entries}
 use Rattle.columns.proofs.EachOverFront.{copied-over-front}
 use Rattle.tidy_rows.specs.RowTidying.{rowKeyAt, onItsRow}
 use Rattle.tidy_rows.proofs.BothWays.{each-beat, each-value}
-use Rattle.keeping.specs.Near.{nearTo}
-use Rattle.keeping.specs.Passing.{written}
-use Rattle.by_rows.proofs.ByMarks.{marked-over-front, rising-never-falls}
+use Rattle.tidy_kept.specs.Near.{nearTo}
+use Rattle.tidy_kept.specs.Passing.{written}
+use Rattle.tidy_by_rows.proofs.ByMarks.{marked-over-front, rising-never-falls}
 use Rattle.tidy_scrolls.specs.Ways.{unheld}
 use Rattle.tidy_scrolls.proofs.AllKept.{every-kept}
 use Rattle.tidy_scrolls.proofs.Outcomes.{even-columns, ordered-laid}

@@ -1,5 +1,5 @@
 -- `tidy_scrolls::tidy_scroll_segments` meets its contract. Assumes nothing.
-use Rattle.by_rows.proofs.ByMarks.{allowed-and-rising}
+use Rattle.tidy_by_rows.proofs.ByMarks.{allowed-and-rising}
 use Rattle.tidy_scrolls.proofs.Outcomes.{list-refused}
 use native.Mathlib.Omega.{arith}
 use mathlib.Core.Path.{sym, _∙_}

@@ -7,8 +7,8 @@ use lib.ListN.{length}
 use lib.Ieee.{Float}
 use Rattle.order.specs.Order.{laid}
 use Rattle.columns.proofs.EachOverFront.{copied-over-front}
-use Rattle.by_rows.proofs.ByMarks.{marked-over-front}
-use Rattle.speed_order.proofs.ColumnsLaid.{apart-columns}
+use Rattle.tidy_by_rows.proofs.ByMarks.{marked-over-front}
+use Rattle.tidy_speeds_ordered.proofs.ColumnsLaid.{apart-columns}
 use borrow.Author.Needs.{needs}
 use Rattle.tidy_speeds.proofs.lay_columns.Statement.{statement}
 use Rattle.tidy_speeds.proofs.lay_columns.Tie as tie

@@ -3,7 +3,7 @@ use Prim.Native.Nat.{_≤_}
 use mathlib.Core.Path.{sym, _∙_}
 use native.Mathlib.Omega.{arith}
 use lib.ListN.{length}
-use Rattle.speeds.specs.LaidSpeeds.{leastOf}
+use Rattle.tidy_speeds_entries.specs.LaidSpeeds.{leastOf}
 use Rattle.tidy_speeds.proofs.Rising.{as-ordered, columns-apart, columns-tidied}
 use borrow.Author.Needs.{needs}
 use Rattle.tidy_speeds.proofs.tidy_rising.Statement.{statement}

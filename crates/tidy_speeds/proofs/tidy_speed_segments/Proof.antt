@@ -1,7 +1,7 @@
 -- `tidy_speeds::tidy_speed_segments` meets its contract. Assumes nothing.
 use native.Mathlib.Omega.{arith}
 use mathlib.Core.Path.{sym, _∙_}
-use Rattle.by_rows.proofs.ByMarks.{allowed-and-rising}
+use Rattle.tidy_by_rows.proofs.ByMarks.{allowed-and-rising}
 use Rattle.tidy_speeds.proofs.Outcomes.{list-refused, ordered-number, ordered-list, placed-number, placed-list}
 use borrow.Author.Needs.{needs}
 use Rattle.tidy_speeds.proofs.tidy_speed_segments.Statement.{statement}

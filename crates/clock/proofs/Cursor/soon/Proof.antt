@@ -1,11 +1,11 @@
 -- `clock::Cursor::soon` is the walk of a cursor that is not refused where it says that it is whole. Assumes nothing.
 use mathlib.Core.Path.{_≡_, sym, ap, _∙_}
-use Rattle.walk.specs.Events.{Timing, timing}
-use Rattle.walk.specs.Soon.{walkedSoon}
-use Rattle.walk.specs.declared.Soon.{Soon}
-use Rattle.walk.proofs.BackFromBits.{back}
-use Rattle.walk.proofs.OneTempo.{soon, soon-few, soon-walk}
-use Rattle.walk.proofs.RowOrder.{no}
+use Rattle.clock_walk.specs.Events.{Timing, timing}
+use Rattle.clock_walk.specs.Soon.{walkedSoon}
+use Rattle.clock_walk.specs.declared.Soon.{Soon}
+use Rattle.clock_walk.proofs.BackFromBits.{back}
+use Rattle.clock_walk.proofs.OneTempo.{soon, soon-few, soon-walk}
+use Rattle.clock_walk.proofs.RowOrder.{no}
 use borrow.Author.Needs.{needs}
 use Rattle.clock.proofs.Cursor.soon.Statement.{statement}
 use Rattle.clock.proofs.Cursor.soon.Tie as tie

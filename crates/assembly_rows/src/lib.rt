@@ -1,0 +1,504 @@
+// Assembly of a list of beats and values: beats quantised, values too where they are lengths, tidied by row, and written as f32.
+use columns::Outcome;
+use limits::Kind;
+ghost use mathlib.Core.Path.{_≡_};
+ghost use Prim.Native.Nat.{_≤_, _<_};
+ghost use lib.ListN.{length, take};
+ghost use lib.Ieee.{Float, lt};
+ghost use Rattle.ieee.specs.Narrowing.{narrow};
+ghost use Rattle.rows.specs.Rows.{quantized, quantized32};
+ghost use Rattle.limits.specs.Numbers.{miss};
+ghost use Rattle.columns.specs.Each.{laidEach};
+ghost use Rattle.columns.specs.Laying.{LaidPair};
+ghost use Rattle.assembly_rows.specs.AssembledRows.{changeBy, narrowedFront, EachLaid, RowsAssembled, RowsUntested, rowsFit};
+ghost use Rattle.limits.specs.Neighbours.{everyTwo, notAbove};
+
+// ---- numbers
+
+// A beat moved to its row, as an f32, in which it loses nothing.
+fn quantized_f32(beat: f64) -> f32
+    ensures { λ r. ⌜ r ≡ quantized beat ⌝ }
+{
+    rows::quantize_beat_f32(ieee::narrow_f64(beat))
+}
+
+// The same as an f64. It is never a NaN, so the cast is plain, and a loop of it has no branch.
+fn quantized_f64(beat: f64) -> f64
+    ensures { λ r. ⌜ r ≡ quantized beat ⌝ }
+{
+    quantized_f32(beat) as f64
+}
+
+// ---- columns: each writes what becomes of entry i of the first column into entry i of the second, for every i that both have
+
+// Each number as an f32.
+pub fn narrow_column(from: &[f64], to: &mut [f32])
+    ensures { λ _. ⌜ now (to .exit) ≡ laidEach narrow (now (from .entry)) (now (to .entry)) ⌝ }
+{
+    let n = columns::room_of(from.len(), to.len());
+    let mut i = 0;
+    while i < n {
+        to[i] = ieee::narrow_f64(from[i]);
+        i += 1;
+    }
+}
+
+// ---- quantising: narrowed in one loop and moved to rows in the next, since one loop of both waits on the chain from one to the other
+
+// Each beat moved to its row, in a column of any length.
+fn quantize_each(from: &[f64], to: &mut [f64])
+    ensures { λ _. ⌜ now (to .exit) ≡ laidEach quantized (now (from .entry)) (now (to .entry)) ⌝ }
+{
+    let n = columns::room_of(from.len(), to.len());
+    let mut i = 0;
+    while i < n {
+        to[i] = quantized_f64(from[i]);
+        i += 1;
+    }
+}
+
+// Each f32 moved to its row.
+fn move_narrowed(from: &[f32], to: &mut [f64])
+    ensures { λ _. ⌜ now (to .exit) ≡ laidEach (λ (beat : Float). quantized32 beat) (now (from .entry)) (now (to .entry)) ⌝ }
+{
+    let n = columns::room_of(from.len(), to.len());
+    let mut i = 0;
+    while i < n {
+        to[i] = std::num::f32_to_f64_with_nan(rows::quantize_beat_f32(from[i]));
+        i += 1;
+    }
+}
+
+// By way of a column as long as the first.
+fn quantize_by(from: &[f64], narrowed: &mut [f32], to: &mut [f64])
+    requires { ⌜ length (now from) ≡ length (now narrowed) ⌝ }
+    ensures { λ _. ⌜ now (to .exit) ≡ laidEach quantized (now (from .entry)) (now (to .entry)) ⌝ }
+{
+    narrow_column(from, narrowed);
+    move_narrowed(narrowed, to);
+}
+
+fn quantize_few(from: &[f64], to: &mut [f64])
+    requires { ⌜ length (now from) ≤ 64 ⌝ }
+    ensures { λ _. ⌜ now (to .exit) ≡ laidEach quantized (now (from .entry)) (now (to .entry)) ⌝ }
+{
+    let n = from.len();
+    let mut narrowed = [0.0f32; 64];
+    quantize_by(from, &mut narrowed[..n], to);
+}
+
+fn quantize_many(from: &[f64], to: &mut [f64])
+    requires { ⌜ length (now from) ≤ 1024 ⌝ }
+    ensures { λ _. ⌜ now (to .exit) ≡ laidEach quantized (now (from .entry)) (now (to .entry)) ⌝ }
+{
+    let n = from.len();
+    let mut narrowed = [0.0f32; 1024];
+    quantize_by(from, &mut narrowed[..n], to);
+}
+
+// Each beat moved to its row.
+pub fn quantize_column(from: &[f64], to: &mut [f64])
+    ensures { λ _. ⌜ now (to .exit) ≡ laidEach quantized (now (from .entry)) (now (to .entry)) ⌝ }
+{
+    if from.len() <= 64 {
+        quantize_few(from, to);
+        return;
+    }
+    if from.len() <= limits::MOST_ENTRIES {
+        quantize_many(from, to);
+        return;
+    }
+    quantize_each(from, to);
+}
+
+// The first n, each an f32 already, moved to their rows.
+fn quantize_front(column: &mut [f32], n: usize)
+    requires { ⌜ n ≤ length (now column) ⌝ }
+    ensures { λ _. ⌜ now (column .exit) ≡ laidEach (λ (beat : Float). quantized32 beat) (take n (now (column .entry))) (now (column .entry)) ⌝ }
+{
+    let mut i = 0;
+    while i < n {
+        column[i] = rows::quantize_beat_f32(column[i]);
+        i += 1;
+    }
+}
+
+// The same into a column of f32.
+pub fn quantize_column_f32(from: &[f64], to: &mut [f32])
+    ensures { λ _. ⌜ now (to .exit) ≡ laidEach quantized (now (from .entry)) (now (to .entry)) ⌝ }
+{
+    let n = columns::room_of(from.len(), to.len());
+    narrow_column(from, to);
+    quantize_front(to, n);
+}
+
+// Each number as it is.
+pub fn copy_column_f32(from: &[f32], to: &mut [f32])
+    ensures { λ _. ⌜ now (to .exit) ≡ laidEach (λ (x : Float). x) (now (from .entry)) (now (to .entry)) ⌝ }
+{
+    let n = columns::room_of(from.len(), to.len());
+    let mut i = 0;
+    while i < n {
+        to[i] = from[i];
+        i += 1;
+    }
+}
+
+fn change_column(whole: bool, from: &[f64], to: &mut [f64])
+    ensures { λ _. ⌜ now (to .exit) ≡ laidEach (changeBy whole) (now (from .entry)) (now (to .entry)) ⌝ }
+{
+    if whole {
+        quantize_column(from, to);
+        return;
+    }
+    columns::copy(from, to);
+}
+
+fn change_column_f32(whole: bool, from: &[f64], to: &mut [f32])
+    ensures { λ _. ⌜ now (to .exit) ≡ laidEach (λ (x : Float). narrow (changeBy whole x)) (now (from .entry)) (now (to .entry)) ⌝ }
+{
+    if whole {
+        quantize_column_f32(from, to);
+        return;
+    }
+    narrow_column(from, to);
+}
+
+// A result of two columns as f32: its first entries over the fronts of the rooms, or the number it was refused by, or 7 where the rooms are too short.
+pub fn lay_narrowed(
+    number: u32,
+    count: usize,
+    firsts: &[f64],
+    seconds: &[f64],
+    out_firsts: &mut [f32],
+    out_seconds: &mut [f32],
+) -> Outcome
+    ensures { λ r. ⌜ LaidPair number (narrowedFront count (now (firsts .entry)) (now (seconds .entry))) r (now («out_firsts» .entry)) (now («out_firsts» .exit)) (now («out_seconds» .entry)) (now («out_seconds» .exit)) ⌝ }
+{
+    if number != limits::TAKEN {
+        return columns::refused(number);
+    }
+    let given = columns::room_of(firsts.len(), seconds.len());
+    let n = columns::room_of(count, given);
+    if n > columns::room_of(out_firsts.len(), out_seconds.len()) {
+        return columns::refused(limits::NO_ROOM);
+    }
+    narrow_column(&firsts[..n], out_firsts);
+    narrow_column(&seconds[..n], out_seconds);
+    Outcome {
+        number: limits::TAKEN,
+        count: n,
+    }
+}
+
+// ---- the order of beats: a loop that counts what fails has no branch
+
+fn not_below(beat: f32, next: f32) -> usize
+    ensures { λ r. ⌜ r ≡ miss (λ (e : Float × Float). lt (e .0) (e .1)) (beat, next) ⌝ }
+{
+    if beat < next { 0 } else { 1 }
+}
+
+// Whether each beat is below the next.
+pub fn rise(beats: &[f32]) -> bool
+    ensures { λ r. ⌜ r ≡ everyTwo lt (now (beats .entry)) ⌝ }
+{
+    let mut fail: usize = 0;
+    let mut i = 0;
+    while i + 1 < beats.len() {
+        fail += not_below(beats[i], beats[i + 1]);
+        i += 1;
+    }
+    fail == 0
+}
+
+fn above(beat: f64, next: f64) -> usize
+    ensures { λ r. ⌜ r ≡ miss (λ (e : Float × Float). notAbove (e .0) (e .1)) (beat, next) ⌝ }
+{
+    if next < beat { 1 } else { 0 }
+}
+
+// Whether no beat is above the next. Quantising keeps that.
+pub fn never_fall(beats: &[f64]) -> bool
+    ensures { λ r. ⌜ r ≡ everyTwo notAbove (now (beats .entry)) ⌝ }
+{
+    let mut fail: usize = 0;
+    let mut i = 0;
+    while i + 1 < beats.len() {
+        fail += above(beats[i], beats[i + 1]);
+        i += 1;
+    }
+    fail == 0
+}
+
+// ---- any other list: by way of columns that are as long as it is
+
+fn assemble_in(
+    beats: &[f64],
+    values: &[f64],
+    whole: bool,
+    work_beats: &mut [f64],
+    work_values: &mut [f64],
+    tidy_beats: &mut [f64],
+    tidy_values: &mut [f64],
+    out_beats: &mut [f32],
+    out_values: &mut [f32],
+) -> Outcome
+    requires { ⌜ (length (now values) ≡ length (now beats)) × (length (now «work_beats») ≡ length (now beats)) × (length (now «work_values») ≡ length (now beats)) ⌝ }
+    requires { ⌜ (length (now «tidy_beats») ≡ length (now beats)) × (length (now «tidy_values») ≡ length (now beats)) ⌝ }
+    ensures { λ r. ⌜ RowsAssembled whole (now (beats .entry)) (now (values .entry)) r (now («out_beats» .entry)) (now («out_beats» .exit)) (now («out_values» .entry)) (now («out_values» .exit)) ⌝ }
+{
+    quantize_column(beats, work_beats);
+    change_column(whole, values, work_values);
+    let tidied = tidy_rows::tidy_row_segments(work_beats, work_values, tidy_beats, tidy_values);
+    lay_narrowed(
+        tidied.number,
+        tidied.count,
+        tidy_beats,
+        tidy_values,
+        out_beats,
+        out_values,
+    )
+}
+
+// Columns for as many entries as a chart has.
+fn assemble_few(
+    beats: &[f64],
+    values: &[f64],
+    whole: bool,
+    out_beats: &mut [f32],
+    out_values: &mut [f32],
+) -> Outcome
+    requires { ⌜ (length (now values) ≡ length (now beats)) × (length (now beats) ≤ 64) ⌝ }
+    ensures { λ r. ⌜ RowsAssembled whole (now (beats .entry)) (now (values .entry)) r (now («out_beats» .entry)) (now («out_beats» .exit)) (now («out_values» .entry)) (now («out_values» .exit)) ⌝ }
+{
+    let n = beats.len();
+    let mut work_beats = [0.0; 64];
+    let mut work_values = [0.0; 64];
+    let mut tidy_beats = [0.0; 64];
+    let mut tidy_values = [0.0; 64];
+    assemble_in(
+        beats,
+        values,
+        whole,
+        &mut work_beats[..n],
+        &mut work_values[..n],
+        &mut tidy_beats[..n],
+        &mut tidy_values[..n],
+        out_beats,
+        out_values,
+    )
+}
+
+// Columns for as many as are taken.
+fn assemble_many(
+    beats: &[f64],
+    values: &[f64],
+    whole: bool,
+    out_beats: &mut [f32],
+    out_values: &mut [f32],
+) -> Outcome
+    requires { ⌜ (length (now values) ≡ length (now beats)) × (length (now beats) ≤ 1024) ⌝ }
+    ensures { λ r. ⌜ RowsAssembled whole (now (beats .entry)) (now (values .entry)) r (now («out_beats» .entry)) (now («out_beats» .exit)) (now («out_values» .entry)) (now («out_values» .exit)) ⌝ }
+{
+    let n = beats.len();
+    let mut work_beats = [0.0; 1024];
+    let mut work_values = [0.0; 1024];
+    let mut tidy_beats = [0.0; 1024];
+    let mut tidy_values = [0.0; 1024];
+    assemble_in(
+        beats,
+        values,
+        whole,
+        &mut work_beats[..n],
+        &mut work_values[..n],
+        &mut tidy_beats[..n],
+        &mut tidy_values[..n],
+        out_beats,
+        out_values,
+    )
+}
+
+fn assemble_any(
+    beats: &[f64],
+    values: &[f64],
+    whole: bool,
+    out_beats: &mut [f32],
+    out_values: &mut [f32],
+) -> Outcome
+    requires { ⌜ (length (now values) ≡ length (now beats)) × (length (now beats) ≤ 1024) ⌝ }
+    ensures { λ r. ⌜ RowsAssembled whole (now (beats .entry)) (now (values .entry)) r (now («out_beats» .entry)) (now («out_beats» .exit)) (now («out_values» .entry)) (now («out_values» .exit)) ⌝ }
+{
+    if beats.len() <= 64 {
+        return assemble_few(beats, values, whole, out_beats, out_values);
+    }
+    assemble_many(beats, values, whole, out_beats, out_values)
+}
+
+// ---- lists of one length: where quantised beats rise they are written as they are, and so is each value. No number is tested
+
+// Quantised beats over the front of one room, and each value by itself, as f32, over the front of the other: 2 where they are not as many, 7 where they do not fit.
+pub fn lay_each(
+    quantised: &[f32],
+    values: &[f64],
+    whole: bool,
+    out_beats: &mut [f32],
+    out_values: &mut [f32],
+) -> Outcome
+    ensures { λ r. ⌜ EachLaid whole (now (quantised .entry)) (now (values .entry)) r (now («out_beats» .entry)) (now («out_beats» .exit)) (now («out_values» .entry)) (now («out_values» .exit)) ⌝ }
+{
+    let count = quantised.len();
+    if count != values.len() {
+        return columns::refused(limits::UNEVEN);
+    }
+    if count > columns::room_of(out_beats.len(), out_values.len()) {
+        return columns::refused(limits::NO_ROOM);
+    }
+    copy_column_f32(quantised, out_beats);
+    change_column_f32(whole, values, out_values);
+    Outcome {
+        number: limits::TAKEN,
+        count: count,
+    }
+}
+
+fn assemble_even(
+    beats: &[f64],
+    values: &[f64],
+    whole: bool,
+    quantised: &mut [f32],
+    out_beats: &mut [f32],
+    out_values: &mut [f32],
+) -> Outcome
+    requires { ⌜ (length (now values) ≡ length (now beats)) × (length (now beats) ≤ 1024) × (length (now quantised) ≡ length (now beats)) ⌝ }
+    ensures { λ r. ⌜ RowsUntested whole (now (beats .entry)) (now (values .entry)) r (now («out_beats» .entry)) (now («out_beats» .exit)) (now («out_values» .entry)) (now («out_values» .exit)) ⌝ }
+{
+    quantize_column_f32(beats, quantised);
+    if rise(quantised) {
+        return lay_each(quantised, values, whole, out_beats, out_values);
+    }
+    assemble_any(beats, values, whole, out_beats, out_values)
+}
+
+fn assemble_even_few(
+    beats: &[f64],
+    values: &[f64],
+    whole: bool,
+    out_beats: &mut [f32],
+    out_values: &mut [f32],
+) -> Outcome
+    requires { ⌜ (length (now values) ≡ length (now beats)) × (length (now beats) ≤ 64) ⌝ }
+    ensures { λ r. ⌜ RowsUntested whole (now (beats .entry)) (now (values .entry)) r (now («out_beats» .entry)) (now («out_beats» .exit)) (now («out_values» .entry)) (now («out_values» .exit)) ⌝ }
+{
+    let n = beats.len();
+    let mut quantised = [0.0f32; 64];
+    assemble_even(
+        beats,
+        values,
+        whole,
+        &mut quantised[..n],
+        out_beats,
+        out_values,
+    )
+}
+
+fn assemble_even_many(
+    beats: &[f64],
+    values: &[f64],
+    whole: bool,
+    out_beats: &mut [f32],
+    out_values: &mut [f32],
+) -> Outcome
+    requires { ⌜ (length (now values) ≡ length (now beats)) × (length (now beats) ≤ 1024) ⌝ }
+    ensures { λ r. ⌜ RowsUntested whole (now (beats .entry)) (now (values .entry)) r (now («out_beats» .entry)) (now («out_beats» .exit)) (now («out_values» .entry)) (now («out_values» .exit)) ⌝ }
+{
+    let n = beats.len();
+    let mut quantised = [0.0f32; 1024];
+    assemble_even(
+        beats,
+        values,
+        whole,
+        &mut quantised[..n],
+        out_beats,
+        out_values,
+    )
+}
+
+// ---- the calls
+
+// A list as it is where its quantised beats rise, and as `assemble_rows` has it where they do not.
+// For a list that is known to be taken both are the same.
+pub fn assemble_untested(
+    beats: &[f64],
+    values: &[f64],
+    whole: bool,
+    out_beats: &mut [f32],
+    out_values: &mut [f32],
+) -> Outcome
+    ensures { λ r. ⌜ RowsUntested whole (now (beats .entry)) (now (values .entry)) r (now («out_beats» .entry)) (now («out_beats» .exit)) (now («out_values» .entry)) (now («out_values» .exit)) ⌝ }
+{
+    if beats.len() != values.len() {
+        return columns::refused(limits::list_number(Kind::Beat, Kind::Value, beats, values));
+    }
+    if beats.len() <= 64 {
+        return assemble_even_few(beats, values, whole, out_beats, out_values);
+    }
+    if beats.len() <= limits::MOST_ENTRIES {
+        return assemble_even_many(beats, values, whole, out_beats, out_values);
+    }
+    columns::refused(limits::TOO_LONG)
+}
+
+// The assembled list over the fronts of both rooms, and its length. `whole`: the values are lengths, which are quantised too.
+// Refused with 1, 2, 3 or 4 for what tidying is given, and with 7 where the list does not fit.
+pub fn assemble_rows(
+    beats: &[f64],
+    values: &[f64],
+    whole: bool,
+    out_beats: &mut [f32],
+    out_values: &mut [f32],
+) -> Outcome
+    ensures { λ r. ⌜ RowsAssembled whole (now (beats .entry)) (now (values .entry)) r (now («out_beats» .entry)) (now («out_beats» .exit)) (now («out_values» .entry)) (now («out_values» .exit)) ⌝ }
+{
+    let number = limits::list_number(Kind::Beat, Kind::Value, beats, values);
+    if number == limits::TAKEN {
+        return assemble_untested(beats, values, whole, out_beats, out_values);
+    }
+    if number == limits::TOO_LONG {
+        return columns::refused(limits::TOO_LONG);
+    }
+    if number == limits::UNEVEN {
+        return columns::refused(limits::UNEVEN);
+    }
+    assemble_any(beats, values, whole, out_beats, out_values)
+}
+
+fn fits_below(beats: &[f64], values: &[f64], whole: bool, room: usize) -> bool
+    requires { ⌜ (room < length (now beats)) × (length (now beats) ≤ 1024) ⌝ }
+    ensures { λ r. ⌜ r ≡ rowsFit whole (now (beats .entry)) (now (values .entry)) room ⌝ }
+{
+    let mut beat_room = [0.0f32; 1024];
+    let mut value_room = [0.0f32; 1024];
+    let outcome = assemble_rows(
+        beats,
+        values,
+        whole,
+        &mut beat_room[..room],
+        &mut value_room[..room],
+    );
+    outcome.number == limits::TAKEN
+}
+
+// Whether a list fits into rooms of a length: yes at once where they hold all that is given, and otherwise where `assemble_rows` would take it.
+// Nothing is tested in the first case, so it is asked of lists that are known to be taken.
+pub fn rows_fit(beats: &[f64], values: &[f64], whole: bool, room: usize) -> bool
+    ensures { λ r. ⌜ r ≡ rowsFit whole (now (beats .entry)) (now (values .entry)) room ⌝ }
+{
+    if beats.len() <= room {
+        return true;
+    }
+    if beats.len() > limits::MOST_ENTRIES {
+        return false;
+    }
+    fits_below(beats, values, whole, room)
+}

@@ -1,0 +1,483 @@
+// Assembly of speeds: beats quantised, tidied, and written as f32, with the units.
+use columns::Outcome;
+ghost use mathlib.Core.Path.{_≡_};
+ghost use Prim.Native.Nat.{_≤_};
+ghost use lib.ListN.{length};
+ghost use Rattle.tidy_speeds_entries.specs.LaidSpeeds.{LaidSpeeds};
+ghost use Rattle.assembly_speeds.specs.AssembledSpeeds.{SpeedsAssembled, speedsRoomNumber, speedsLater, narrowedSpeeds, sameLengths, eachSpeed, SpeedsUntested};
+
+// A result of four columns as f32: its first entries over the fronts of the rooms, or the number it was refused by, or 7 where the rooms are too short.
+fn lay_narrowed(
+    number: u32,
+    count: usize,
+    beats: &[f64],
+    ratios: &[f64],
+    delays: &[f64],
+    units: &[u8],
+    out_beats: &mut [f32],
+    out_ratios: &mut [f32],
+    out_delays: &mut [f32],
+    out_units: &mut [u8],
+) -> Outcome
+    ensures { λ r. ⌜ LaidSpeeds number (narrowedSpeeds count (now (beats .entry)) (now (ratios .entry)) (now (delays .entry)) (now (units .entry))) r (now («out_beats» .entry)) (now («out_beats» .exit)) (now («out_ratios» .entry)) (now («out_ratios» .exit)) (now («out_delays» .entry)) (now («out_delays» .exit)) (now («out_units» .entry)) (now («out_units» .exit)) ⌝ }
+{
+    if number != limits::TAKEN {
+        return columns::refused(number);
+    }
+    let given = tidy_speeds_entries::least_of(beats.len(), ratios.len(), delays.len(), units.len());
+    let n = columns::room_of(count, given);
+    let room = tidy_speeds_entries::least_of(
+        out_beats.len(),
+        out_ratios.len(),
+        out_delays.len(),
+        out_units.len(),
+    );
+    if n > room {
+        return columns::refused(limits::NO_ROOM);
+    }
+    assembly_rows::narrow_column(&beats[..n], out_beats);
+    assembly_rows::narrow_column(&ratios[..n], out_ratios);
+    assembly_rows::narrow_column(&delays[..n], out_delays);
+    tidy_speeds_entries::copy_units(&units[..n], out_units);
+    Outcome {
+        number: limits::TAKEN,
+        count: n,
+    }
+}
+
+// By way of columns as long as the beats.
+fn assemble_in(
+    beats: &[f64],
+    ratios: &[f64],
+    delays: &[f64],
+    units: &[u8],
+    work_beats: &mut [f64],
+    tidy_beats: &mut [f64],
+    tidy_ratios: &mut [f64],
+    tidy_delays: &mut [f64],
+    tidy_units: &mut [u8],
+    out_beats: &mut [f32],
+    out_ratios: &mut [f32],
+    out_delays: &mut [f32],
+    out_units: &mut [u8],
+) -> Outcome
+    requires { ⌜ (length (now «work_beats») ≡ length (now beats)) × (length (now «tidy_beats») ≡ length (now beats)) × (length (now «tidy_ratios») ≡ length (now beats)) × (length (now «tidy_delays») ≡ length (now beats)) × (length (now «tidy_units») ≡ length (now beats)) ⌝ }
+    ensures { λ r. ⌜ SpeedsAssembled (now (beats .entry)) (now (ratios .entry)) (now (delays .entry)) (now (units .entry)) r (now («out_beats» .entry)) (now («out_beats» .exit)) (now («out_ratios» .entry)) (now («out_ratios» .exit)) (now («out_delays» .entry)) (now («out_delays» .exit)) (now («out_units» .entry)) (now («out_units» .exit)) ⌝ }
+{
+    assembly_rows::quantize_column(beats, work_beats);
+    let tidied = tidy_speeds::tidy_speed_segments(
+        work_beats,
+        ratios,
+        delays,
+        units,
+        tidy_beats,
+        tidy_ratios,
+        tidy_delays,
+        tidy_units,
+    );
+    lay_narrowed(
+        tidied.number,
+        tidied.count,
+        tidy_beats,
+        tidy_ratios,
+        tidy_delays,
+        tidy_units,
+        out_beats,
+        out_ratios,
+        out_delays,
+        out_units,
+    )
+}
+
+// Columns for as many entries as a chart has.
+fn assemble_few(
+    beats: &[f64],
+    ratios: &[f64],
+    delays: &[f64],
+    units: &[u8],
+    out_beats: &mut [f32],
+    out_ratios: &mut [f32],
+    out_delays: &mut [f32],
+    out_units: &mut [u8],
+) -> Outcome
+    requires { ⌜ length (now beats) ≤ 64 ⌝ }
+    ensures { λ r. ⌜ SpeedsAssembled (now (beats .entry)) (now (ratios .entry)) (now (delays .entry)) (now (units .entry)) r (now («out_beats» .entry)) (now («out_beats» .exit)) (now («out_ratios» .entry)) (now («out_ratios» .exit)) (now («out_delays» .entry)) (now («out_delays» .exit)) (now («out_units» .entry)) (now («out_units» .exit)) ⌝ }
+{
+    let n = beats.len();
+    let mut work_beats = [0.0; 64];
+    let mut tidy_beats = [0.0; 64];
+    let mut tidy_ratios = [0.0; 64];
+    let mut tidy_delays = [0.0; 64];
+    let mut tidy_units = [0u8; 64];
+    assemble_in(
+        beats,
+        ratios,
+        delays,
+        units,
+        &mut work_beats[..n],
+        &mut tidy_beats[..n],
+        &mut tidy_ratios[..n],
+        &mut tidy_delays[..n],
+        &mut tidy_units[..n],
+        out_beats,
+        out_ratios,
+        out_delays,
+        out_units,
+    )
+}
+
+// Columns for as many as are taken.
+fn assemble_many(
+    beats: &[f64],
+    ratios: &[f64],
+    delays: &[f64],
+    units: &[u8],
+    out_beats: &mut [f32],
+    out_ratios: &mut [f32],
+    out_delays: &mut [f32],
+    out_units: &mut [u8],
+) -> Outcome
+    requires { ⌜ length (now beats) ≤ 1024 ⌝ }
+    ensures { λ r. ⌜ SpeedsAssembled (now (beats .entry)) (now (ratios .entry)) (now (delays .entry)) (now (units .entry)) r (now («out_beats» .entry)) (now («out_beats» .exit)) (now («out_ratios» .entry)) (now («out_ratios» .exit)) (now («out_delays» .entry)) (now («out_delays» .exit)) (now («out_units» .entry)) (now («out_units» .exit)) ⌝ }
+{
+    let n = beats.len();
+    let mut work_beats = [0.0; 1024];
+    let mut tidy_beats = [0.0; 1024];
+    let mut tidy_ratios = [0.0; 1024];
+    let mut tidy_delays = [0.0; 1024];
+    let mut tidy_units = [0u8; 1024];
+    assemble_in(
+        beats,
+        ratios,
+        delays,
+        units,
+        &mut work_beats[..n],
+        &mut tidy_beats[..n],
+        &mut tidy_ratios[..n],
+        &mut tidy_delays[..n],
+        &mut tidy_units[..n],
+        out_beats,
+        out_ratios,
+        out_delays,
+        out_units,
+    )
+}
+
+fn assemble_any(
+    beats: &[f64],
+    ratios: &[f64],
+    delays: &[f64],
+    units: &[u8],
+    out_beats: &mut [f32],
+    out_ratios: &mut [f32],
+    out_delays: &mut [f32],
+    out_units: &mut [u8],
+) -> Outcome
+    requires { ⌜ length (now beats) ≤ 1024 ⌝ }
+    ensures { λ r. ⌜ SpeedsAssembled (now (beats .entry)) (now (ratios .entry)) (now (delays .entry)) (now (units .entry)) r (now («out_beats» .entry)) (now («out_beats» .exit)) (now («out_ratios» .entry)) (now («out_ratios» .exit)) (now («out_delays» .entry)) (now («out_delays» .exit)) (now («out_units» .entry)) (now («out_units» .exit)) ⌝ }
+{
+    if beats.len() <= 64 {
+        return assemble_few(
+            beats,
+            ratios,
+            delays,
+            units,
+            out_beats,
+            out_ratios,
+            out_delays,
+            out_units,
+        );
+    }
+    assemble_many(
+        beats,
+        ratios,
+        delays,
+        units,
+        out_beats,
+        out_ratios,
+        out_delays,
+        out_units,
+    )
+}
+
+// ---- where quantised beats rise and no ratio is near the one before it, each number is written by itself. No number is tested
+
+fn same_lengths(beats: usize, ratios: usize, delays: usize, units: usize) -> bool
+    ensures { λ r. ⌜ r ≡ sameLengths beats ratios delays units ⌝ }
+{
+    if beats != ratios {
+        return false;
+    }
+    if beats != delays {
+        return false;
+    }
+    beats == units
+}
+
+fn lay_each(
+    quantised: &[f32],
+    ratios: &[f64],
+    delays: &[f64],
+    units: &[u8],
+    out_beats: &mut [f32],
+    out_ratios: &mut [f32],
+    out_delays: &mut [f32],
+    out_units: &mut [u8],
+) -> Outcome
+    requires { ⌜ (length (now quantised) ≡ length (now ratios)) × (length (now quantised) ≡ length (now delays)) × (length (now quantised) ≡ length (now units)) ⌝ }
+    ensures { λ r. ⌜ LaidSpeeds 0 (eachSpeed (now (quantised .entry)) (now (ratios .entry)) (now (delays .entry)) (now (units .entry))) r (now («out_beats» .entry)) (now («out_beats» .exit)) (now («out_ratios» .entry)) (now («out_ratios» .exit)) (now («out_delays» .entry)) (now («out_delays» .exit)) (now («out_units» .entry)) (now («out_units» .exit)) ⌝ }
+{
+    let count = quantised.len();
+    let room = tidy_speeds_entries::least_of(
+        out_beats.len(),
+        out_ratios.len(),
+        out_delays.len(),
+        out_units.len(),
+    );
+    if count > room {
+        return columns::refused(limits::NO_ROOM);
+    }
+    assembly_rows::copy_column_f32(quantised, out_beats);
+    assembly_rows::narrow_column(ratios, out_ratios);
+    assembly_rows::narrow_column(delays, out_delays);
+    tidy_speeds_entries::copy_units(units, out_units);
+    Outcome {
+        number: limits::TAKEN,
+        count: count,
+    }
+}
+
+fn assemble_by(
+    beats: &[f64],
+    ratios: &[f64],
+    delays: &[f64],
+    units: &[u8],
+    quantised: &mut [f32],
+    out_beats: &mut [f32],
+    out_ratios: &mut [f32],
+    out_delays: &mut [f32],
+    out_units: &mut [u8],
+) -> Outcome
+    requires { ⌜ (length (now beats) ≡ length (now ratios)) × (length (now beats) ≡ length (now delays)) × (length (now beats) ≡ length (now units)) ⌝ }
+    requires { ⌜ (length (now beats) ≤ 1024) × (length (now quantised) ≡ length (now beats)) ⌝ }
+    ensures { λ r. ⌜ SpeedsUntested (now (beats .entry)) (now (ratios .entry)) (now (delays .entry)) (now (units .entry)) r (now («out_beats» .entry)) (now («out_beats» .exit)) (now («out_ratios» .entry)) (now («out_ratios» .exit)) (now («out_delays» .entry)) (now («out_delays» .exit)) (now («out_units» .entry)) (now («out_units» .exit)) ⌝ }
+{
+    assembly_rows::quantize_column_f32(beats, quantised);
+    if assembly_scrolls::rise_apart(quantised, ratios) {
+        return lay_each(
+            quantised,
+            ratios,
+            delays,
+            units,
+            out_beats,
+            out_ratios,
+            out_delays,
+            out_units,
+        );
+    }
+    assemble_any(
+        beats,
+        ratios,
+        delays,
+        units,
+        out_beats,
+        out_ratios,
+        out_delays,
+        out_units,
+    )
+}
+
+fn assemble_by_few(
+    beats: &[f64],
+    ratios: &[f64],
+    delays: &[f64],
+    units: &[u8],
+    out_beats: &mut [f32],
+    out_ratios: &mut [f32],
+    out_delays: &mut [f32],
+    out_units: &mut [u8],
+) -> Outcome
+    requires { ⌜ (length (now beats) ≡ length (now ratios)) × (length (now beats) ≡ length (now delays)) × (length (now beats) ≡ length (now units)) ⌝ }
+    requires { ⌜ length (now beats) ≤ 64 ⌝ }
+    ensures { λ r. ⌜ SpeedsUntested (now (beats .entry)) (now (ratios .entry)) (now (delays .entry)) (now (units .entry)) r (now («out_beats» .entry)) (now («out_beats» .exit)) (now («out_ratios» .entry)) (now («out_ratios» .exit)) (now («out_delays» .entry)) (now («out_delays» .exit)) (now («out_units» .entry)) (now («out_units» .exit)) ⌝ }
+{
+    let n = beats.len();
+    let mut quantised = [0.0f32; 64];
+    assemble_by(
+        beats,
+        ratios,
+        delays,
+        units,
+        &mut quantised[..n],
+        out_beats,
+        out_ratios,
+        out_delays,
+        out_units,
+    )
+}
+
+fn assemble_by_many(
+    beats: &[f64],
+    ratios: &[f64],
+    delays: &[f64],
+    units: &[u8],
+    out_beats: &mut [f32],
+    out_ratios: &mut [f32],
+    out_delays: &mut [f32],
+    out_units: &mut [u8],
+) -> Outcome
+    requires { ⌜ (length (now beats) ≡ length (now ratios)) × (length (now beats) ≡ length (now delays)) × (length (now beats) ≡ length (now units)) ⌝ }
+    requires { ⌜ length (now beats) ≤ 1024 ⌝ }
+    ensures { λ r. ⌜ SpeedsUntested (now (beats .entry)) (now (ratios .entry)) (now (delays .entry)) (now (units .entry)) r (now («out_beats» .entry)) (now («out_beats» .exit)) (now («out_ratios» .entry)) (now («out_ratios» .exit)) (now («out_delays» .entry)) (now («out_delays» .exit)) (now («out_units» .entry)) (now («out_units» .exit)) ⌝ }
+{
+    let n = beats.len();
+    let mut quantised = [0.0f32; 1024];
+    assemble_by(
+        beats,
+        ratios,
+        delays,
+        units,
+        &mut quantised[..n],
+        out_beats,
+        out_ratios,
+        out_delays,
+        out_units,
+    )
+}
+
+// ---- the calls
+
+// The assembled speeds over the fronts of the four rooms, and how many.
+// Refused with 1, 2, 3, 4 or 6 for what tidying is given, and with 7 where they do not fit.
+pub fn assemble_speeds(
+    beats: &[f64],
+    ratios: &[f64],
+    delays: &[f64],
+    units: &[u8],
+    out_beats: &mut [f32],
+    out_ratios: &mut [f32],
+    out_delays: &mut [f32],
+    out_units: &mut [u8],
+) -> Outcome
+    ensures { λ r. ⌜ SpeedsAssembled (now (beats .entry)) (now (ratios .entry)) (now (delays .entry)) (now (units .entry)) r (now («out_beats» .entry)) (now («out_beats» .exit)) (now («out_ratios» .entry)) (now («out_ratios» .exit)) (now («out_delays» .entry)) (now («out_delays» .exit)) (now («out_units» .entry)) (now («out_units» .exit)) ⌝ }
+{
+    if beats.len() <= limits::MOST_ENTRIES {
+        return assemble_any(
+            beats,
+            ratios,
+            delays,
+            units,
+            out_beats,
+            out_ratios,
+            out_delays,
+            out_units,
+        );
+    }
+    columns::refused(limits::TOO_LONG)
+}
+
+// Speeds as they are where quantised beats rise and no ratio is near the one before it, and as `assemble_speeds` has them where that is not so.
+// For a list that is known to be taken both are the same.
+pub fn assemble_untested(
+    beats: &[f64],
+    ratios: &[f64],
+    delays: &[f64],
+    units: &[u8],
+    out_beats: &mut [f32],
+    out_ratios: &mut [f32],
+    out_delays: &mut [f32],
+    out_units: &mut [u8],
+) -> Outcome
+    ensures { λ r. ⌜ SpeedsUntested (now (beats .entry)) (now (ratios .entry)) (now (delays .entry)) (now (units .entry)) r (now («out_beats» .entry)) (now («out_beats» .exit)) (now («out_ratios» .entry)) (now («out_ratios» .exit)) (now («out_delays» .entry)) (now («out_delays» .exit)) (now («out_units» .entry)) (now («out_units» .exit)) ⌝ }
+{
+    if !same_lengths(beats.len(), ratios.len(), delays.len(), units.len()) {
+        return assemble_speeds(
+            beats,
+            ratios,
+            delays,
+            units,
+            out_beats,
+            out_ratios,
+            out_delays,
+            out_units,
+        );
+    }
+    if beats.len() <= 64 {
+        return assemble_by_few(
+            beats,
+            ratios,
+            delays,
+            units,
+            out_beats,
+            out_ratios,
+            out_delays,
+            out_units,
+        );
+    }
+    if beats.len() <= limits::MOST_ENTRIES {
+        return assemble_by_many(
+            beats,
+            ratios,
+            delays,
+            units,
+            out_beats,
+            out_ratios,
+            out_delays,
+            out_units,
+        );
+    }
+    assemble_speeds(
+        beats,
+        ratios,
+        delays,
+        units,
+        out_beats,
+        out_ratios,
+        out_delays,
+        out_units,
+    )
+}
+
+fn number_in(beats: &[f64], ratios: &[f64], delays: &[f64], units: &[u8], room: usize) -> u32
+    ensures { λ r. ⌜ r ≡ speedsRoomNumber (now (beats .entry)) (now (ratios .entry)) (now (delays .entry)) (now (units .entry)) room ⌝ }
+{
+    if beats.len() > limits::MOST_ENTRIES {
+        return limits::TOO_LONG;
+    }
+    let n = columns::room_of(room, limits::MOST_ENTRIES);
+    let mut beat_room = [0.0f32; 1024];
+    let mut ratio_room = [0.0f32; 1024];
+    let mut delay_room = [0.0f32; 1024];
+    let mut unit_room = [0u8; 1024];
+    let outcome = assemble_speeds(
+        beats,
+        ratios,
+        delays,
+        units,
+        &mut beat_room[..n],
+        &mut ratio_room[..n],
+        &mut delay_room[..n],
+        &mut unit_room[..n],
+    );
+    outcome.number
+}
+
+// What `assemble_speeds` answers where the shortest room has a length. Where that is no less than the list's and no beat is above the next it is 0 at once,
+// as it is of every such list that is taken: no number is tested.
+pub fn speeds_number(
+    beats: &[f64],
+    ratios: &[f64],
+    delays: &[f64],
+    units: &[u8],
+    room: usize,
+) -> u32
+    ensures { λ r. ⌜ r ≡ speedsLater (now (beats .entry)) (now (ratios .entry)) (now (delays .entry)) (now (units .entry)) room ⌝ }
+{
+    if beats.len() > room {
+        return number_in(beats, ratios, delays, units, room);
+    }
+    if assembly_rows::never_fall(beats) {
+        return limits::TAKEN;
+    }
+    number_in(beats, ratios, delays, units, room)
+}

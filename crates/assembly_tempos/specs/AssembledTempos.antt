@@ -1,0 +1,63 @@
+-- Assembly of tempos, stops and warps, which are processed first, under the one number of all seven lists. Definitions only.
+use Prim.Native.Nat.{ℕ, min}
+use mathlib.Core.Bool.{true}
+use mathlib.Core.List.{List, map}
+use mathlib.Core.Path.{_≡_}
+use lib.Dec.{leb, eqb}
+use lib.ListN.{length}
+use lib.Ieee.{Float}
+use Rattle.picks.specs.Pick.{pick}
+use Rattle.ieee.specs.Narrowing.{narrow}
+use Rattle.limits.specs.Refusals.{lower}
+use Rattle.order.specs.Entries.{first, second}
+use Rattle.columns.specs.Laying.{roomNumber, LaidList}
+use Rattle.tidy_rows.specs.RowTidying.{tidyRows}
+use Rattle.process_raw.specs.RawLists.{roomFor}
+use Rattle.process.specs.ByFormat.{Lists, unmoved}
+use Rattle.assembly_rows.specs.AssembledRows.{narrowedEntry, changeBy, assembledRows}
+use Rattle.assembly_tempos.specs.declared.AssembledTempos.{AssembledTempos}
+
+-- ---- the lists, of what processing leaves
+
+-- tempos are tidied already
+abbrev pub assembledTempos : Lists → List (Float × Float)
+assembledTempos lists = map narrowedEntry (lists .tempos)
+
+-- beats of stops are on rows already
+abbrev pub assembledStops : Lists → List (Float × Float)
+assembledStops lists = map narrowedEntry (tidyRows (map first (lists .stops)) (map second (lists .stops)))
+
+-- warps, given and made, as any list of lengths
+abbrev pub assembledWarps : Lists → List (Float × Float)
+assembledWarps lists = assembledRows (changeBy true) (map first (lists .warps)) (map second (lists .warps))
+
+-- ---- the number
+
+-- 7 where a result is longer than its room
+abbrev pub fitNumber : List (Float × Float) → ℕ → ℕ
+fitNumber result room = roomNumber 0 (length result) room
+
+-- The call's number: the lowest of the raw lists; then 1 where merged warps are more than asked for, or than a list may have; then what comes later.
+unfoldable pub verdict : (raw warps most later : ℕ) → ℕ
+verdict raw warps most later = pick (eqb raw 0) (pick (leb warps (min most 1024)) later 1) raw
+
+-- what comes later of the three lists
+abbrev pub threeRooms : Lists → (tempoRoom stopRoom warpRoom : ℕ) → ℕ
+threeRooms lists tempoRoom stopRoom warpRoom =
+    lower (lower (fitNumber (assembledTempos lists) tempoRoom) (fitNumber (assembledStops lists) stopRoom)) (fitNumber (assembledWarps lists) warpRoom)
+
+-- ---- the one outcome: the number of all lists, of which `raw` and `later` are known; under it the three lists, and the offset, which is 0 after a refusal
+pub record ThreeLaid (raw later most : ℕ) (lists : Lists) (outcome : AssembledTempos)
+    (tempoBeatsOld tempoBeatsNew tempoValuesOld tempoValuesNew stopBeatsOld stopBeatsNew stopValuesOld stopValuesNew warpBeatsOld warpBeatsNew warpLengthsOld warpLengthsNew : List Float) : Type 0 where
+  pub number :
+      outcome .number
+      ≡ verdict raw (length (lists .warps)) most
+      (lower later (threeRooms lists (roomFor tempoBeatsOld tempoValuesOld) (roomFor stopBeatsOld stopValuesOld) (roomFor warpBeatsOld warpLengthsOld)))
+  pub temposLaid : LaidList (outcome .number) (assembledTempos lists) (outcome .tempos) tempoBeatsOld tempoBeatsNew tempoValuesOld tempoValuesNew
+  pub stopsLaid : LaidList (outcome .number) (assembledStops lists) (outcome .stops) stopBeatsOld stopBeatsNew stopValuesOld stopValuesNew
+  pub warpsLaid : LaidList (outcome .number) (assembledWarps lists) (outcome .warps) warpBeatsOld warpBeatsNew warpLengthsOld warpLengthsNew
+  pub offsetIs : outcome .offset ≡ pick (eqb (outcome .number) 0) (narrow (lists .offset)) unmoved
+
+-- the outcome of a refusal
+abbrev pub nothingAssembled : ℕ → AssembledTempos
+nothingAssembled number = record { number = number; tempos = 0; stops = 0; warps = 0; offset = unmoved }

@@ -1,0 +1,457 @@
+// Assembly of tempos, stops and warps: processed by format, the made warps behind the given ones, tidied, and written as f32.
+use process::TimingFormat;
+use columns::Outcome;
+ghost use mathlib.Core.Path.{_≡_};
+ghost use mathlib.Core.Bool.{true, false};
+ghost use mathlib.Core.List.{map};
+ghost use Prim.Native.Nat.{_≤_, min};
+ghost use lib.ListN.{length};
+ghost use lib.Ieee.{Float, lt};
+ghost use Rattle.rows.specs.Rows.{quantized};
+ghost use Rattle.ieee.specs.Narrowing.{narrow};
+ghost use Rattle.limits.specs.Numbers.{miss, every};
+ghost use Rattle.limits.specs.Neighbours.{everyTwo};
+ghost use Rattle.columns.specs.Each.{laidEach};
+ghost use Rattle.tidy_rows.specs.RowTidying.{rowsNumber};
+ghost use Rattle.assembly_rows.specs.AssembledRows.{RowsUntested};
+ghost use Rattle.limits.specs.Refusals.{lower};
+ghost use Rattle.assembly_warps.specs.MergedWarps.{threeNumber, mergedLists};
+ghost use Rattle.assembly_tempos.specs.AssembledTempos.{threeRooms, ThreeLaid, nothingAssembled};
+ghost use Rattle.assembly_tempos.specs.Inside.{heldF32, Held, Processed, listsOf, WorkRooms};
+
+// The refusal number of all lists, 0 where they are taken, how many entries of each list were written, and the seconds that beat 0 is moved by.
+#[repr(C)]
+pub struct AssembledTempos {
+    pub number: u32,
+    pub tempos: usize,
+    pub stops: usize,
+    pub warps: usize,
+    pub offset: f32,
+}
+
+fn refused(number: u32) -> AssembledTempos
+    ensures { λ r. ⌜ r ≡ nothingAssembled number ⌝ }
+{
+    AssembledTempos {
+        number: number,
+        tempos: 0,
+        stops: 0,
+        warps: 0,
+        offset: 0.0,
+    }
+}
+
+// ---- processed lists into their rooms
+
+fn rooms_number(
+    tempo_beats: &[f64],
+    tempo_values: &[f64],
+    stop_beats: &[f64],
+    stop_values: &[f64],
+    warp_beats: &[f64],
+    warp_lengths: &[f64],
+    tempo_room: usize,
+    stop_room: usize,
+    warp_room: usize,
+) -> u32
+    requires { ⌜ Processed (now «tempo_beats») (now «tempo_values») (now «stop_beats») (now «stop_values») (now «warp_beats») (now «warp_lengths») × (length (now «warp_beats») ≤ 1024) ⌝ }
+    ensures { λ r. ⌜ ((offset : Float) → r ≡ threeRooms (listsOf (now («tempo_beats» .entry)) (now («tempo_values» .entry)) (now («stop_beats» .entry)) (now («stop_values» .entry)) (now («warp_beats» .entry)) (now («warp_lengths» .entry)) offset) «tempo_room» «stop_room» «warp_room») ⌝ }
+{
+    let tempos = limits::no_room(tempo_beats.len() <= tempo_room);
+    let stops = limits::no_room(assembly_rows::rows_fit(
+        stop_beats,
+        stop_values,
+        false,
+        stop_room,
+    ));
+    let warps = limits::no_room(assembly_rows::rows_fit(
+        warp_beats,
+        warp_lengths,
+        true,
+        warp_room,
+    ));
+    limits::lower_of(limits::lower_of(tempos, stops), warps)
+}
+
+// ---- tempos and stops: beats are on rows, each an f32 already, and so are SM's values
+
+fn not_below(beat: f64, next: f64) -> usize
+    ensures { λ r. ⌜ r ≡ miss (λ (e : Float × Float). lt (e .0) (e .1)) (beat, next) ⌝ }
+{
+    if beat < next { 0 } else { 1 }
+}
+
+// Whether each beat is below the next: a loop that counts those that are not has no branch.
+fn rise(beats: &[f64]) -> bool
+    ensures { λ r. ⌜ r ≡ everyTwo lt (now (beats .entry)) ⌝ }
+{
+    let mut fail: usize = 0;
+    let mut i = 0;
+    while i + 1 < beats.len() {
+        fail += not_below(beats[i], beats[i + 1]);
+        i += 1;
+    }
+    fail == 0
+}
+
+// Each number as an f32, in which it loses nothing.
+fn cast_column(from: &[f64], to: &mut [f32])
+    requires { ⌜ every heldF32 (now from) ≡ true ⌝ }
+    ensures { λ _. ⌜ now (to .exit) ≡ laidEach (λ (x : Float). x) (now (from .entry)) (now (to .entry)) ⌝ }
+{
+    let n = columns::room_of(from.len(), to.len());
+    let mut i = 0;
+    while i < n {
+        to[i] = from[i] as f32;
+        i += 1;
+    }
+}
+
+// Each value as an f32.
+fn narrow_values(format: TimingFormat, from: &[f64], to: &mut [f32])
+    requires { ⌜ Held format (now from) ⌝ }
+    ensures { λ _. ⌜ now (to .exit) ≡ laidEach narrow (now (from .entry)) (now (to .entry)) ⌝ }
+{
+    match format {
+        TimingFormat::Sm => cast_column(from, to),
+        TimingFormat::Ssc => assembly_rows::narrow_column(from, to),
+    }
+}
+
+// As `assembly_rows::assemble_untested`, which quantises.
+fn assemble_stops(
+    format: TimingFormat,
+    beats: &[f64],
+    values: &[f64],
+    out_beats: &mut [f32],
+    out_values: &mut [f32],
+) -> Outcome
+    requires { ⌜ (rowsNumber (now beats) (now values) ≡ 0) × (map quantized (now beats) ≡ now beats) × Held format (now values) ⌝ }
+    ensures { λ r. ⌜ RowsUntested false (now (beats .entry)) (now (values .entry)) r (now («out_beats» .entry)) (now («out_beats» .exit)) (now («out_values» .entry)) (now («out_values» .exit)) ⌝ }
+{
+    if beats.len() > columns::room_of(out_beats.len(), out_values.len()) {
+        return assembly_rows::assemble_untested(beats, values, false, out_beats, out_values);
+    }
+    if rise(beats) {
+        cast_column(beats, out_beats);
+        narrow_values(format, values, out_values);
+        return Outcome {
+            number: limits::TAKEN,
+            count: beats.len(),
+        };
+    }
+    assembly_rows::assemble_untested(beats, values, false, out_beats, out_values)
+}
+
+// ---- the three lists
+
+// Every test before anything is written.
+fn lay_lists(
+    format: TimingFormat,
+    later: u32,
+    most_warps: usize,
+    offset: f64,
+    tempo_beats: &[f64],
+    tempo_values: &[f64],
+    stop_beats: &[f64],
+    stop_values: &[f64],
+    warp_beats: &[f64],
+    warp_lengths: &[f64],
+    out_tempo_beats: &mut [f32],
+    out_tempo_values: &mut [f32],
+    out_stop_beats: &mut [f32],
+    out_stop_values: &mut [f32],
+    out_warp_beats: &mut [f32],
+    out_warp_lengths: &mut [f32],
+) -> AssembledTempos
+    requires { ⌜ Processed (now «tempo_beats») (now «tempo_values») (now «stop_beats») (now «stop_values») (now «warp_beats») (now «warp_lengths») × Held format (now «tempo_values») × Held format (now «stop_values») ⌝ }
+    ensures { λ r. ⌜ ThreeLaid 0 later «most_warps» (listsOf (now («tempo_beats» .entry)) (now («tempo_values» .entry)) (now («stop_beats» .entry)) (now («stop_values» .entry)) (now («warp_beats» .entry)) (now («warp_lengths» .entry)) offset) r (now («out_tempo_beats» .entry)) (now («out_tempo_beats» .exit)) (now («out_tempo_values» .entry)) (now («out_tempo_values» .exit)) (now («out_stop_beats» .entry)) (now («out_stop_beats» .exit)) (now («out_stop_values» .entry)) (now («out_stop_values» .exit)) (now («out_warp_beats» .entry)) (now («out_warp_beats» .exit)) (now («out_warp_lengths» .entry)) (now («out_warp_lengths» .exit)) ⌝ }
+{
+    if warp_beats.len() > columns::room_of(most_warps, limits::MOST_ENTRIES) {
+        return refused(limits::TOO_LONG);
+    }
+    let rooms = rooms_number(
+        tempo_beats,
+        tempo_values,
+        stop_beats,
+        stop_values,
+        warp_beats,
+        warp_lengths,
+        columns::room_of(out_tempo_beats.len(), out_tempo_values.len()),
+        columns::room_of(out_stop_beats.len(), out_stop_values.len()),
+        columns::room_of(out_warp_beats.len(), out_warp_lengths.len()),
+    );
+    let number = limits::lower_of(later, rooms);
+    if number != limits::TAKEN {
+        return refused(number);
+    }
+    cast_column(tempo_beats, out_tempo_beats);
+    narrow_values(format, tempo_values, out_tempo_values);
+    let stops = assemble_stops(
+        format,
+        stop_beats,
+        stop_values,
+        out_stop_beats,
+        out_stop_values,
+    );
+    let warps = assembly_rows::assemble_untested(
+        warp_beats,
+        warp_lengths,
+        true,
+        out_warp_beats,
+        out_warp_lengths,
+    );
+    AssembledTempos {
+        number: limits::TAKEN,
+        tempos: tempo_beats.len(),
+        stops: stops.count,
+        warps: warps.count,
+        offset: ieee::narrow_f64(offset),
+    }
+}
+
+// ---- by way of work columns
+
+fn assemble_in(
+    format: TimingFormat,
+    most_warps: usize,
+    other: u32,
+    later: u32,
+    tempo_beats: &[f64],
+    tempo_values: &[f64],
+    stop_beats: &[f64],
+    stop_values: &[f64],
+    warp_beats: &[f64],
+    warp_lengths: &[f64],
+    work_tempo_beats: &mut [f64],
+    work_tempo_values: &mut [f64],
+    work_stop_beats: &mut [f64],
+    work_stop_values: &mut [f64],
+    work_warp_beats: &mut [f64],
+    work_warp_lengths: &mut [f64],
+    out_tempo_beats: &mut [f32],
+    out_tempo_values: &mut [f32],
+    out_stop_beats: &mut [f32],
+    out_stop_values: &mut [f32],
+    out_warp_beats: &mut [f32],
+    out_warp_lengths: &mut [f32],
+) -> AssembledTempos
+    requires { ⌜ WorkRooms (threeNumber (now «tempo_beats») (now «tempo_values») (now «stop_beats») (now «stop_values») (now «warp_beats») (now «warp_lengths»)) (mergedLists format (now «tempo_beats») (now «tempo_values») (now «stop_beats») (now «stop_values») (now «warp_beats») (now «warp_lengths»)) (now «work_tempo_beats») (now «work_tempo_values») (now «work_stop_beats») (now «work_stop_values») (now «work_warp_beats») (now «work_warp_lengths») ⌝ }
+    ensures { λ r. ⌜ ThreeLaid (lower (threeNumber (now («tempo_beats» .entry)) (now («tempo_values» .entry)) (now («stop_beats» .entry)) (now («stop_values» .entry)) (now («warp_beats» .entry)) (now («warp_lengths» .entry))) other) later «most_warps» (mergedLists format (now («tempo_beats» .entry)) (now («tempo_values» .entry)) (now («stop_beats» .entry)) (now («stop_values» .entry)) (now («warp_beats» .entry)) (now («warp_lengths» .entry))) r (now («out_tempo_beats» .entry)) (now («out_tempo_beats» .exit)) (now («out_tempo_values» .entry)) (now («out_tempo_values» .exit)) (now («out_stop_beats» .entry)) (now («out_stop_beats» .exit)) (now («out_stop_values» .entry)) (now («out_stop_values» .exit)) (now («out_warp_beats» .entry)) (now («out_warp_beats» .exit)) (now («out_warp_lengths» .entry)) (now («out_warp_lengths» .exit)) ⌝ }
+{
+    let processed = assembly_warps::process_with_warps(
+        format,
+        tempo_beats,
+        tempo_values,
+        stop_beats,
+        stop_values,
+        warp_beats,
+        warp_lengths,
+        work_tempo_beats,
+        work_tempo_values,
+        work_stop_beats,
+        work_stop_values,
+        work_warp_beats,
+        work_warp_lengths,
+    );
+    let number = limits::lower_of(processed.number, other);
+    if number != limits::TAKEN {
+        return refused(number);
+    }
+    let tempos = processed.tempos;
+    let stops = processed.stops;
+    let warps = processed.warps;
+    lay_lists(
+        format,
+        later,
+        most_warps,
+        processed.offset,
+        &work_tempo_beats[..tempos],
+        &work_tempo_values[..tempos],
+        &work_stop_beats[..stops],
+        &work_stop_values[..stops],
+        &work_warp_beats[..warps],
+        &work_warp_lengths[..warps],
+        out_tempo_beats,
+        out_tempo_values,
+        out_stop_beats,
+        out_stop_values,
+        out_warp_beats,
+        out_warp_lengths,
+    )
+}
+
+// Columns for as many entries as a chart has.
+fn assemble_few(
+    format: TimingFormat,
+    most_warps: usize,
+    other: u32,
+    later: u32,
+    tempo_beats: &[f64],
+    tempo_values: &[f64],
+    stop_beats: &[f64],
+    stop_values: &[f64],
+    warp_beats: &[f64],
+    warp_lengths: &[f64],
+    out_tempo_beats: &mut [f32],
+    out_tempo_values: &mut [f32],
+    out_stop_beats: &mut [f32],
+    out_stop_values: &mut [f32],
+    out_warp_beats: &mut [f32],
+    out_warp_lengths: &mut [f32],
+) -> AssembledTempos
+    requires { ⌜ (length (now «tempo_beats») ≤ 64) × (length (now «stop_beats») ≤ 64) × (length (now «warp_beats») ≤ 64) ⌝ }
+    ensures { λ r. ⌜ ThreeLaid (lower (threeNumber (now («tempo_beats» .entry)) (now («tempo_values» .entry)) (now («stop_beats» .entry)) (now («stop_values» .entry)) (now («warp_beats» .entry)) (now («warp_lengths» .entry))) other) later «most_warps» (mergedLists format (now («tempo_beats» .entry)) (now («tempo_values» .entry)) (now («stop_beats» .entry)) (now («stop_values» .entry)) (now («warp_beats» .entry)) (now («warp_lengths» .entry))) r (now («out_tempo_beats» .entry)) (now («out_tempo_beats» .exit)) (now («out_tempo_values» .entry)) (now («out_tempo_values» .exit)) (now («out_stop_beats» .entry)) (now («out_stop_beats» .exit)) (now («out_stop_values» .entry)) (now («out_stop_values» .exit)) (now («out_warp_beats» .entry)) (now («out_warp_beats» .exit)) (now («out_warp_lengths» .entry)) (now («out_warp_lengths» .exit)) ⌝ }
+{
+    let mut work_tempo_beats = [0.0; 64];
+    let mut work_tempo_values = [0.0; 64];
+    let mut work_stop_beats = [0.0; 64];
+    let mut work_stop_values = [0.0; 64];
+    let mut work_warp_beats = [0.0; 192];
+    let mut work_warp_lengths = [0.0; 192];
+    assemble_in(
+        format,
+        most_warps,
+        other,
+        later,
+        tempo_beats,
+        tempo_values,
+        stop_beats,
+        stop_values,
+        warp_beats,
+        warp_lengths,
+        &mut work_tempo_beats,
+        &mut work_tempo_values,
+        &mut work_stop_beats,
+        &mut work_stop_values,
+        &mut work_warp_beats,
+        &mut work_warp_lengths,
+        out_tempo_beats,
+        out_tempo_values,
+        out_stop_beats,
+        out_stop_values,
+        out_warp_beats,
+        out_warp_lengths,
+    )
+}
+
+// Columns for as many as are taken, and for every warp that they can make.
+fn assemble_many(
+    format: TimingFormat,
+    most_warps: usize,
+    other: u32,
+    later: u32,
+    tempo_beats: &[f64],
+    tempo_values: &[f64],
+    stop_beats: &[f64],
+    stop_values: &[f64],
+    warp_beats: &[f64],
+    warp_lengths: &[f64],
+    out_tempo_beats: &mut [f32],
+    out_tempo_values: &mut [f32],
+    out_stop_beats: &mut [f32],
+    out_stop_values: &mut [f32],
+    out_warp_beats: &mut [f32],
+    out_warp_lengths: &mut [f32],
+) -> AssembledTempos
+    ensures { λ r. ⌜ ThreeLaid (lower (threeNumber (now («tempo_beats» .entry)) (now («tempo_values» .entry)) (now («stop_beats» .entry)) (now («stop_values» .entry)) (now («warp_beats» .entry)) (now («warp_lengths» .entry))) other) later «most_warps» (mergedLists format (now («tempo_beats» .entry)) (now («tempo_values» .entry)) (now («stop_beats» .entry)) (now («stop_values» .entry)) (now («warp_beats» .entry)) (now («warp_lengths» .entry))) r (now («out_tempo_beats» .entry)) (now («out_tempo_beats» .exit)) (now («out_tempo_values» .entry)) (now («out_tempo_values» .exit)) (now («out_stop_beats» .entry)) (now («out_stop_beats» .exit)) (now («out_stop_values» .entry)) (now («out_stop_values» .exit)) (now («out_warp_beats» .entry)) (now («out_warp_beats» .exit)) (now («out_warp_lengths» .entry)) (now («out_warp_lengths» .exit)) ⌝ }
+{
+    let mut work_tempo_beats = [0.0; 1024];
+    let mut work_tempo_values = [0.0; 1024];
+    let mut work_stop_beats = [0.0; 1024];
+    let mut work_stop_values = [0.0; 1024];
+    let mut work_warp_beats = [0.0; 3072];
+    let mut work_warp_lengths = [0.0; 3072];
+    assemble_in(
+        format,
+        most_warps,
+        other,
+        later,
+        tempo_beats,
+        tempo_values,
+        stop_beats,
+        stop_values,
+        warp_beats,
+        warp_lengths,
+        &mut work_tempo_beats,
+        &mut work_tempo_values,
+        &mut work_stop_beats,
+        &mut work_stop_values,
+        &mut work_warp_beats,
+        &mut work_warp_lengths,
+        out_tempo_beats,
+        out_tempo_values,
+        out_stop_beats,
+        out_stop_values,
+        out_warp_beats,
+        out_warp_lengths,
+    )
+}
+
+// ---- the call
+
+// Tempos, stops and warps, given and made, over the fronts of their rooms. `other` is the lowest raw number of the other lists, and `later` the lowest
+// that they answer where all lists are taken: the number is that of all seven. More warps than `most_warps`, given and made, answer 1.
+pub fn assemble_tempos(
+    format: TimingFormat,
+    most_warps: usize,
+    other: u32,
+    later: u32,
+    tempo_beats: &[f64],
+    tempo_values: &[f64],
+    stop_beats: &[f64],
+    stop_values: &[f64],
+    warp_beats: &[f64],
+    warp_lengths: &[f64],
+    out_tempo_beats: &mut [f32],
+    out_tempo_values: &mut [f32],
+    out_stop_beats: &mut [f32],
+    out_stop_values: &mut [f32],
+    out_warp_beats: &mut [f32],
+    out_warp_lengths: &mut [f32],
+) -> AssembledTempos
+    ensures { λ r. ⌜ ThreeLaid (lower (threeNumber (now («tempo_beats» .entry)) (now («tempo_values» .entry)) (now («stop_beats» .entry)) (now («stop_values» .entry)) (now («warp_beats» .entry)) (now («warp_lengths» .entry))) other) later «most_warps» (mergedLists format (now («tempo_beats» .entry)) (now («tempo_values» .entry)) (now («stop_beats» .entry)) (now («stop_values» .entry)) (now («warp_beats» .entry)) (now («warp_lengths» .entry))) r (now («out_tempo_beats» .entry)) (now («out_tempo_beats» .exit)) (now («out_tempo_values» .entry)) (now («out_tempo_values» .exit)) (now («out_stop_beats» .entry)) (now («out_stop_beats» .exit)) (now («out_stop_values» .entry)) (now («out_stop_values» .exit)) (now («out_warp_beats» .entry)) (now («out_warp_beats» .exit)) (now («out_warp_lengths» .entry)) (now («out_warp_lengths» .exit)) ⌝ }
+{
+    if tempo_beats.len() <= 64 {
+        if stop_beats.len() <= 64 {
+            if warp_beats.len() <= 64 {
+                return assemble_few(
+                    format,
+                    most_warps,
+                    other,
+                    later,
+                    tempo_beats,
+                    tempo_values,
+                    stop_beats,
+                    stop_values,
+                    warp_beats,
+                    warp_lengths,
+                    out_tempo_beats,
+                    out_tempo_values,
+                    out_stop_beats,
+                    out_stop_values,
+                    out_warp_beats,
+                    out_warp_lengths,
+                );
+            }
+        }
+    }
+    assemble_many(
+        format,
+        most_warps,
+        other,
+        later,
+        tempo_beats,
+        tempo_values,
+        stop_beats,
+        stop_values,
+        warp_beats,
+        warp_lengths,
+        out_tempo_beats,
+        out_tempo_values,
+        out_stop_beats,
+        out_stop_values,
+        out_warp_beats,
+        out_warp_lengths,
+    )
+}

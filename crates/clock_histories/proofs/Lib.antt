@@ -1,0 +1,17 @@
+pub mod FirstTempoInForce
+pub mod WithATempo
+pub mod WhereAFreshOneEnds
+pub mod WalksAreSound
+pub mod AnyQuestion
+pub mod CostOfAll
+pub mod DemandThree
+pub mod ByTheCursor
+pub mod RunsAreQuestions
+pub mod TimesAndRows
+pub mod EventsOfAWalk
+pub mod FreshNumber
+pub mod TempoInForce
+pub mod TimeBetweenRows
+pub mod WarpEnds
+pub mod EachEventKeeps
+pub mod CursorTestPasses

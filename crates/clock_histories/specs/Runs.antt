@@ -1,0 +1,17 @@
+-- What is asked of a run from a cursor that a history left: it is its beats asked one by one, by whichever question. Definitions only.
+use Prim.Native.Nat.{ℕ}
+use mathlib.Core.List.{List, map, _++_}
+use mathlib.Core.Path.{_≡_}
+use lib.Ieee.{Float}
+use Rattle.order.specs.Order.{laid}
+use Rattle.clock_walk.specs.Events.{Timing}
+use Rattle.clock.specs.History.{History, answers, numberOf, timeOf, countOf}
+use Rattle.clock_run.specs.declared.Ran.{Ran}
+use Rattle.clock_histories.specs.Demand.{used}
+
+-- the columns hold the answers of a history that is asked after another, and the cursor is the one after both
+pub record RunAsked (t : Timing) (offset global : Float) (before history : History) (ran : Ran) (numbersOld numbersNew : List ℕ) (timesOld timesNew : List Float) (countsOld countsNew : List ℕ) : Type 0 where
+  pub cursor : ran .cursor ≡ used t offset global (before ++ history)
+  pub numbersAre : numbersNew ≡ laid (map numberOf (answers t offset global (used t offset global before) history)) numbersOld
+  pub timesAre : timesNew ≡ laid (map timeOf (answers t offset global (used t offset global before) history)) timesOld
+  pub countsAre : countsNew ≡ laid (map countOf (answers t offset global (used t offset global before) history)) countsOld

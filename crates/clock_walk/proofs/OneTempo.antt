@@ -1,0 +1,155 @@
+-- Where nothing but tempos is due by a row, a walk to it passes the next tempo, and ends there if the tempo after it is later. Assumes nothing.
+use Prim.Native.Nat.{ℕ, _+_, _≤_}
+use mathlib.Core.Bool.{Bool, true, false}
+use mathlib.Core.Path.{_≡_, refl, sym, ap, _∙_}
+use native.Mathlib.Omega.{arith}
+use borrow.Author.Tests.{lt-ltb, ltb-false}
+use mathlib.Core.List.{List}
+use lib.Dec.{ltb, eqb}
+use lib.IntN.{ℤ, pos, negsuc}
+use lib.Signed.{ltZ}
+use lib.ListN.{length, getD}
+use lib.Ieee.{Float, nan, binary64, add}
+use Rattle.picks.specs.Pick.{pick}
+use Rattle.rows.specs.Rows.{row}
+use Rattle.clock_walk.specs.Events.{Timing, next}
+use Rattle.clock_walk.specs.Passing.{noTime, earlyTempo, timeTo, passed, step, afterTempo}
+use Rattle.clock_walk.specs.Quiet.{farthest, rowAt, endRow, isLater, isNextLater, onlyTempos}
+use Rattle.clock_walk.specs.Heads.{headsOf}
+use Rattle.clock_walk.specs.Soon.{tempoPassed, soonOf, walkedSoon}
+use Rattle.clock_walk.specs.Walk.{timeAt, due, isEvent, walkOn, walk}
+use Rattle.clock_walk.specs.declared.State.{State}
+use Rattle.clock_walk.specs.declared.Next.{Next}
+use Rattle.clock_walk.specs.declared.Soon.{Soon}
+use Rattle.clock_walk.specs.declared.Event.the-variants.{Tempo, Asked}
+use Rattle.clock_walk.proofs.EventByEvent.{walk-on, walk-end}
+use Rattle.clock_walk.proofs.HeadsAhead.{next-by-heads, tempo-next}
+use Rattle.clock_walk.proofs.QuietRows.{none-before, quiet-end}
+use Rattle.clock_walk.proofs.LaterBeats.{later-entry, later-row}
+use Rattle.clock_walk.proofs.PlacesWithin.{each-test}
+use Rattle.clock_walk.proofs.RowOrder.{no, le-lt, lt-not-self}
+
+-- a row that is not the greatest i32 is that of an entry
+listed : (beats : List Float) (place : ℕ) → ltZ (rowAt beats place) farthest ≡ true → ltb place (length beats) ≡ true
+unfolding rowAt
+listed beats place h = go (ltb place (length beats)) h
+  where
+    go : (b : Bool) → ltZ (pick b (row binary64 (getD beats place nan)) farthest) farthest ≡ true → b ≡ true
+    go true h = refl
+    go false h = no (sym (lt-not-self farthest) ∙ h)
+
+abbrev pub past : Timing → State → ℤ → State
+past t s at = tempoPassed (t .tempoBeats) (t .tempoValues) (t .stopValues) (t .delayValues) (t .warpBeats) (t .warpLengths) s at
+
+-- the row is before all that is ahead but the tempos
+pub record Others (t : Timing) (r : ℤ) (s : State) : Type 0 where
+  pub ofAll : ltZ r farthest ≡ true
+  pub ofEnd : ltZ r (endRow (s .warping) (s .end)) ≡ true
+  pub ofDelay : ltZ r (rowAt (t .delayBeats) (s .delays)) ≡ true
+  pub ofStop : ltZ r (rowAt (t .stopBeats) (s .stops)) ≡ true
+  pub ofWarp : ltZ r (rowAt (t .warpBeats) (s .warps)) ≡ true
+
+module _ (t : Timing) (r : ℤ) (s : State) where
+  no-early : eqb (s .tempos) 0 ≡ false → earlyTempo (t .tempoBeats) (t .tempoValues) s ≡ noTime
+  unfolding earlyTempo
+  no-early e = rw e
+
+  -- nothing is due
+  pub none-soon : eqb (s .tempos) 0 ≡ false → Others t r s → ltZ r (rowAt (t .tempoBeats) (s .tempos)) ≡ true
+      → walk t r s ≡ record { state = s; passed = 0; time = add binary64 (s .time) (timeTo noTime (t .tempoValues) s r) }
+  none-soon e o tempo =
+      quiet-end t r s (none-before r (t .tempoBeats) (t .stopBeats) (t .delayBeats) (t .warpBeats) s (o .ofAll) (o .ofEnd) tempo (o .ofDelay) (o .ofStop) (o .ofWarp))
+      ∙ rw (no-early e)
+
+  module _ (o : Others t r s) (due-by : ltZ r (rowAt (t .tempoBeats) (s .tempos)) ≡ false) where
+    first-next : next t r s ≡ record { row = rowAt (t .tempoBeats) (s .tempos); kind = Tempo }
+    unfolding headsOf
+    first-next =
+        sym (next-by-heads (t .tempoBeats) (t .stopBeats) (t .delayBeats) (t .warpBeats) s r)
+        ∙ tempo-next (headsOf (t .tempoBeats) (t .stopBeats) (t .delayBeats) (t .warpBeats) s) r
+        (le-lt (rowAt (t .tempoBeats) (s .tempos)) r farthest due-by (o .ofAll)) due-by
+        (le-lt (rowAt (t .tempoBeats) (s .tempos)) r (rowAt (t .stopBeats) (s .stops)) due-by (o .ofStop))
+        (le-lt (rowAt (t .tempoBeats) (s .tempos)) r (rowAt (t .delayBeats) (s .delays)) due-by (o .ofDelay))
+        (le-lt (rowAt (t .tempoBeats) (s .tempos)) r (rowAt (t .warpBeats) (s .warps)) due-by (o .ofWarp))
+        (le-lt (rowAt (t .tempoBeats) (s .tempos)) r (endRow (s .warping) (s .end)) due-by (o .ofEnd))
+
+    there : ltb (s .tempos) (length (t .tempoBeats)) ≡ true
+    there = listed (t .tempoBeats) (s .tempos) (le-lt (rowAt (t .tempoBeats) (s .tempos)) r farthest due-by (o .ofAll))
+
+    first-step : step noTime t r s ≡ past t s (rowAt (t .tempoBeats) (s .tempos))
+    unfolding tempoPassed
+    first-step = rw (first-next, there)
+
+    others-stay : Others t r (past t s (rowAt (t .tempoBeats) (s .tempos)))
+    unfolding tempoPassed passed afterTempo
+    others-stay = rw there (record { ofAll = o .ofAll; ofEnd = o .ofEnd; ofDelay = o .ofDelay; ofStop = o .ofStop; ofWarp = o .ofWarp })
+
+    -- the tempo after the next is later, once one is passed
+    before-next : isNextLater (t .tempoBeats) (s .tempos) r ≡ true → ltZ r (rowAt (t .tempoBeats) (past t s (rowAt (t .tempoBeats) (s .tempos)) .tempos)) ≡ true
+    unfolding tempoPassed passed afterTempo isNextLater
+    before-next h = rw there (later-row r (t .tempoBeats) (s .tempos + 1) (rw there at h) .1)
+
+    -- one is due, and no other
+    pub one-soon : eqb (s .tempos) 0 ≡ false → ltZ r (rowAt (t .tempoBeats) (past t s (rowAt (t .tempoBeats) (s .tempos)) .tempos)) ≡ true
+        → let s′ = past t s (rowAt (t .tempoBeats) (s .tempos)) in
+        walk t r s ≡ record { state = s′; passed = 1; time = add binary64 (s′ .time) (timeTo noTime (t .tempoValues) s′ r) }
+    unfolding walk timeAt
+    one-soon e later =
+        let s′ = past t s (rowAt (t .tempoBeats) (s .tempos)) in
+        let o′ = others-stay in
+        let asked : next t r s′ ≡ record { row = r; kind = Asked } =
+        none-before r (t .tempoBeats) (t .stopBeats) (t .delayBeats) (t .warpBeats) s′ (o′ .ofAll) (o′ .ofEnd) later (o′ .ofDelay) (o′ .ofStop) (o′ .ofWarp) in
+        let due-now : due t r s ≡ true = ap (λ (n : Next). isEvent (n .kind)) first-next in
+        ap (λ (x : Float). walkOn x t r s 0) (no-early e)
+        ∙ walk-on noTime t r s 0 due-now
+        ∙ ap (λ (x : State). walkOn noTime t r x 1) first-step
+        ∙ walk-end noTime t r s′ 1 (ap (λ (n : Next). isEvent (n .kind)) asked)
+        ∙ rw asked
+
+pub only-tempos : (t : Timing) (r : ℤ) (s : State) → onlyTempos (t .stopBeats) (t .delayBeats) (t .warpBeats) s r ≡ true → Others t r s
+only-tempos t (negsuc n) s only = no (sym (each-test (t .stopBeats) (t .delayBeats) (t .warpBeats) s (negsuc n) only .notBelow))
+only-tempos t (pos n) s only =
+    let are = each-test (t .stopBeats) (t .delayBeats) (t .warpBeats) s (pos n) only in
+    let small : n ≤ 3145727 = ltb-false 3145727 n (are .notAbove) in
+    record {
+      ofAll = lt-ltb n 2147483647 (omega arith);
+      ofEnd = are .beforeEnd;
+      ofDelay = later-entry n small (t .delayBeats) (s .delays) (are .delay);
+      ofStop = later-entry n small (t .stopBeats) (s .stops) (are .stop);
+      ofWarp = later-entry n small (t .warpBeats) (s .warps) (are .warp);
+    }
+
+module _ (t : Timing) (r : ℤ) (s : State) where
+  abbrev pub soon : Soon
+  soon = soonOf (t .tempoBeats) (t .tempoValues) (t .stopValues) (t .delayValues) (t .warpBeats) (t .warpLengths) s r
+
+  abbrev picked : Bool → Bool → Bool → Soon
+  picked a b d =
+      pick a (record { state = s; passed = 0; whole = true })
+      (pick b (record { state = s; passed = 0; whole = true }) (pick d (record { state = past t s (rowAt (t .tempoBeats) (s .tempos)); passed = 1; whole = true }) (record { state = s; passed = 0; whole = false })))
+
+  pub soon-few : soon .passed ≤ 1
+  unfolding soonOf
+  soon-few = go (isLater (t .tempoBeats) (s .tempos) r) (ltZ r (rowAt (t .tempoBeats) (s .tempos))) (isNextLater (t .tempoBeats) (s .tempos) r)
+    where
+      go : (a b d : Bool) → picked a b d .passed ≤ 1
+      go true b d = omega arith
+      go false true d = omega arith
+      go false false true = omega arith
+      go false false false = omega arith
+
+  -- a walk that is soon at its end is that walk
+  pub soon-walk : eqb (s .tempos) 0 ≡ false → onlyTempos (t .stopBeats) (t .delayBeats) (t .warpBeats) s r ≡ true → soon .whole ≡ true
+      → walk t r s ≡ walkedSoon (t .tempoValues) r soon
+  unfolding soonOf
+  soon-walk e only whole = go (isLater (t .tempoBeats) (s .tempos) r) (ltZ r (rowAt (t .tempoBeats) (s .tempos))) (isNextLater (t .tempoBeats) (s .tempos) r) refl refl refl whole
+    where
+      o : Others t r s
+      o = only-tempos t r s only
+
+      go : (a b d : Bool) → isLater (t .tempoBeats) (s .tempos) r ≡ a → ltZ r (rowAt (t .tempoBeats) (s .tempos)) ≡ b → isNextLater (t .tempoBeats) (s .tempos) r ≡ d → picked a b d .whole ≡ true
+          → walk t r s ≡ walkedSoon (t .tempoValues) r (picked a b d)
+      go true b d l f g w = none-soon t r s e o (later-row r (t .tempoBeats) (s .tempos) l .1)
+      go false true d l f g w = none-soon t r s e o f
+      go false false true l f g w = one-soon t r s o f e (before-next t r s o f g)
+      go false false false l f g w = no w

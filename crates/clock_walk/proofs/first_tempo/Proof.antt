@@ -1,0 +1,28 @@
+-- `clock_walk::first_tempo` meets its contract. Assumes nothing.
+use Rattle.clock_walk.specs.Passing.{sixty}
+use mathlib.Core.Path.{_∙_}
+use lib.Ieee.{ofBits}
+use Rattle.clock_walk.proofs.LastUpTo.{first-none, first-some}
+use borrow.Author.Needs.{needs}
+use Rattle.clock_walk.proofs.first_tempo.Statement.{statement}
+use Rattle.clock_walk.proofs.first_tempo.Tie as tie
+
+returns : tie.Need-returns
+unfolding ofBits
+returns c =
+    first-none sixty (c .before .before .args .tempo-values .now) (c .if1 .taken)
+
+shared-slice-read-f32-to-f64-with-nan : tie.Need-shared-slice-read-f32-to-f64-with-nan
+shared-slice-read-f32-to-f64-with-nan c = search needs
+
+f32-to-f64-with-nan-requires : tie.Need-f32-to-f64-with-nan-requires
+f32-to-f64-with-nan-requires c κs = search needs
+
+returns-2 : tie.Need-returns-2
+returns-2 c =
+    c .f32-to-f64-with-nan .ensures ∙ first-some sixty (c .before .before .before .before .args .tempo-values .now) (c .before .before .if1 .left)
+
+pub first-tempo-spec : {M : Type 1} → statement M
+first-tempo-spec =
+    tie.close
+    (tie.spec returns shared-slice-read-f32-to-f64-with-nan f32-to-f64-with-nan-requires returns-2)

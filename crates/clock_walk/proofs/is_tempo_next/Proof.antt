@@ -1,0 +1,42 @@
+-- `clock_walk::is_tempo_next` says yes only where the tempo's row is before all others. Assumes nothing.
+use mathlib.Core.Bool.{true}
+use mathlib.Core.Path.{_≡_}
+use lib.Signed.{ltZ}
+use mir.Syntax.{w32}
+use mir.Val.{SFits}
+use Rattle.clock_walk.proofs.BackFromBits.{tested}
+use Rattle.clock_walk.specs.Quiet.{farthest}
+use Rattle.clock_walk.proofs.RowOrder.{no, lt-le, lt-not}
+use Rattle.clock_walk.proofs.HeadsAhead.{not-behind, tempo-next}
+use Rattle.clock_walk.proofs.is_tempo_next.Statement.{statement}
+use Rattle.clock_walk.proofs.is_tempo_next.Tie as tie
+
+returns : tie.Need-returns
+returns c =
+    let s = c .before .before .before .before .before .before .before .before .before .before .before .before .before .before in
+    let h = s .args .heads in
+    let asked = s .args .asked in
+    let g = c .struct-told5 .given in
+    let f : SFits w32 (h .tempo) = record { sfits = g .1 .0 .1 } in
+    let before : ltZ (h .tempo) asked ≡ true = tested (h .tempo) asked f (s .fits .asked) true (c .before .before .before .before .before .before .before .before .before .before .before .if1 .taken) in
+    λ e.
+    tempo-next h asked (lt-le (h .tempo) asked farthest before (not-behind asked (s .fits .asked))) (lt-not (h .tempo) asked before)
+    (tested (h .tempo) (h .stop) f (record { sfits = g .1 .1 .1 .0 .1 }) true (c .before .before .before .before .before .before .before .before .if2 .taken))
+    (tested (h .tempo) (h .delay) f (record { sfits = g .1 .1 .0 .1 }) true (c .before .before .before .before .before .if3 .taken))
+    (tested (h .tempo) (h .warp) f (record { sfits = g .1 .1 .1 .1 .0 .1 }) true (c .before .before .if4 .taken))
+    (tested (h .tempo) (h .end) f (record { sfits = g .0 .1 }) true e)
+
+returns-2 : tie.Need-returns-2
+returns-2 c = λ e. no e
+
+returns-3 : tie.Need-returns-3
+returns-3 c = λ e. no e
+
+returns-4 : tie.Need-returns-4
+returns-4 c = λ e. no e
+
+returns-5 : tie.Need-returns-5
+returns-5 c = λ e. no e
+
+pub is-tempo-next-spec : {M : Type 1} → statement M
+is-tempo-next-spec = tie.close (tie.spec returns returns-2 returns-3 returns-4 returns-5)

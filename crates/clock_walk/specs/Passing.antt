@@ -1,0 +1,147 @@
+-- Passing one event: how time moves up to it, and the state that it leaves. Definitions only.
+use Prim.Native.Nat.{ℕ, _+_, _-_, _^_, _<_}
+use mathlib.Core.List.{List, [], _∷_}
+use mathlib.Core.Bool.{Bool, true, false}
+use lib.ListN.{getD}
+use lib.Dec.{eqb}
+use lib.IntN.{ℤ, pos, _-ℤ_}
+use lib.Ieee.{Float, fin, nan, binary64, add, div, lt, le}
+use Rattle.picks.specs.Pick.{pick}
+use Rattle.rows.specs.Rows.{beatOf}
+use Rattle.clock_walk.specs.Events.{Timing, next}
+use Rattle.clock_walk.specs.declared.State.{State}
+use Rattle.clock_walk.specs.declared.Next.{Next}
+use Rattle.clock_walk.specs.declared.Event.{Event}
+use Rattle.clock_walk.specs.declared.Event.the-variants.{WarpEnd, Tempo, Delay, Asked, Stop, Warp, NotFound}
+
+abbrev pub noTime : Float
+noTime = fin false 0 (pos 0)
+
+abbrev pub sixty : Float
+sixty = fin false 15 (pos 2)
+
+-- ---- the tempo in force
+
+-- the value of the last of the leading entries that are at or before a beat, else another
+unfoldable pub lastUpTo : Float → Float → List Float → List Float → Float
+lastUpTo beat other [] values = other
+lastUpTo beat other (b ∷ beats) [] = other
+lastUpTo beat other (b ∷ beats) (v ∷ values) = pick (le b beat) (lastUpTo beat v beats values) other
+
+abbrev pub firstOr : Float → List Float → Float
+firstOr other [] = other
+firstOr other (v ∷ values) = v
+
+-- where no tempo is passed yet: the one at the beat of the last row, else the first; worked out once, where a walk begins
+unfoldable pub tempoAt : List Float → List Float → ℤ → Float
+tempoAt beats values at = lastUpTo (beatOf binary64 at) (firstOr sixty values) beats values
+
+-- the tempo that a walk from this state begins with, if none is passed
+unfoldable pub earlyTempo : List Float → List Float → State → Float
+earlyTempo beats values s = pick (eqb (s .tempos) 0) (tempoAt beats values (s .row)) noTime
+
+-- the last one passed, before any the one that the walk began with
+unfoldable pub inForce : Float → List Float → ℕ → Float
+inForce early values place = pick (eqb place 0) early (getD values (place - 1) nan)
+
+-- ---- time
+
+-- from the last row to another: beats over beats a second, and none while warping
+unfoldable pub timeTo : Float → List Float → State → ℤ → Float
+timeTo early tempoValues s at =
+    pick (s .warping) noTime (div binary64 (beatOf binary64 (at -ℤ s .row)) (div binary64 (inForce early tempoValues (s .tempos)) sixty))
+
+-- ---- the state after an event on a row, at a time
+
+unfoldable pub afterWarpEnd : State → ℤ → Float → State
+afterWarpEnd s at time = record {
+  tempos = s .tempos;
+  stops = s .stops;
+  delays = s .delays;
+  warps = s .warps;
+  row = at;
+  time = time;
+  end = s .end;
+  warping = false;
+}
+
+unfoldable pub afterTempo : State → ℤ → Float → State
+afterTempo s at time = record {
+  tempos = s .tempos + 1;
+  stops = s .stops;
+  delays = s .delays;
+  warps = s .warps;
+  row = at;
+  time = time;
+  end = s .end;
+  warping = s .warping;
+}
+
+-- a delay and a stop let time pass, warping or not
+unfoldable pub afterDelay : State → ℤ → Float → List Float → State
+afterDelay s at time delayValues = record {
+  tempos = s .tempos;
+  stops = s .stops;
+  delays = s .delays + 1;
+  warps = s .warps;
+  row = at;
+  time = add binary64 time (getD delayValues (s .delays) nan);
+  end = s .end;
+  warping = s .warping;
+}
+
+unfoldable pub afterStop : State → ℤ → Float → List Float → State
+afterStop s at time stopValues = record {
+  tempos = s .tempos;
+  stops = s .stops + 1;
+  delays = s .delays;
+  warps = s .warps;
+  row = at;
+  time = add binary64 time (getD stopValues (s .stops) nan);
+  end = s .end;
+  warping = s .warping;
+}
+
+unfoldable pub larger : Float → Float → Float
+larger old new = pick (lt old new) new old
+
+-- A warp's end is the larger of the old one and its own, which may lie before its beat: then the last row goes back at the end.
+unfoldable pub afterWarp : State → ℤ → Float → List Float → List Float → State
+afterWarp s at time warpBeats warpLengths = record {
+  tempos = s .tempos;
+  stops = s .stops;
+  delays = s .delays;
+  warps = s .warps + 1;
+  row = at;
+  time = time;
+  end = larger (s .end) (add binary64 (getD warpBeats (s .warps) nan) (getD warpLengths (s .warps) nan));
+  warping = true;
+}
+
+-- the asked beat is no event, and leaves the state as it is
+abbrev pub arrived : (stopValues delayValues warpBeats warpLengths : List Float) → State → ℤ → Float → Event → State
+arrived stopValues delayValues warpBeats warpLengths s at time WarpEnd = afterWarpEnd s at time
+arrived stopValues delayValues warpBeats warpLengths s at time Tempo = afterTempo s at time
+arrived stopValues delayValues warpBeats warpLengths s at time Delay = afterDelay s at time delayValues
+arrived stopValues delayValues warpBeats warpLengths s at time Stop = afterStop s at time stopValues
+arrived stopValues delayValues warpBeats warpLengths s at time Warp = afterWarp s at time warpBeats warpLengths
+arrived stopValues delayValues warpBeats warpLengths s at time Asked = s
+arrived stopValues delayValues warpBeats warpLengths s at time NotFound = s
+
+unfoldable pub passed : Float → (tempoValues stopValues delayValues warpBeats warpLengths : List Float) → State → Next → State
+passed early tempoValues stopValues delayValues warpBeats warpLengths s n =
+    arrived stopValues delayValues warpBeats warpLengths s (n .row) (add binary64 (s .time) (timeTo early tempoValues s (n .row))) (n .kind)
+
+-- the state after the next event
+abbrev pub step : Float → Timing → ℤ → State → State
+step early t asked s = passed early (t .tempoValues) (t .stopValues) (t .delayValues) (t .warpBeats) (t .warpLengths) s (next t asked s)
+
+-- a place that an event moves on can be moved
+abbrev pub CanMove : State → Event → Type 0
+CanMove s WarpEnd = Unit {0}
+CanMove s Tempo = s .tempos < 2 ^ 63
+CanMove s Delay = s .delays < 2 ^ 63
+CanMove s Stop = s .stops < 2 ^ 63
+CanMove s Warp = s .warps < 2 ^ 63
+CanMove s Asked = Unit {0}
+CanMove s NotFound = Unit {0}

@@ -1,0 +1,697 @@
+// The walk through the events of a timing, up to an asked row.
+ghost use mathlib.Core.Path.{_≡_};
+ghost use mathlib.Core.Bool.{true};
+ghost use Prim.Native.Nat.{_<_, _^_};
+ghost use lib.IntN.{_-ℤ_};
+ghost use lib.ListN.{length, getD};
+ghost use lib.Ieee.{nan, binary64, add};
+ghost use Rattle.rows.specs.Rows.{beatOf};
+ghost use Rattle.clock_walk.specs.Events.{timing, sooner};
+ghost use Rattle.clock_walk.specs.Heads.{headsOf, headsAfter, nextOf};
+ghost use Rattle.clock_walk.specs.Passing.{noTime, tempoAt, earlyTempo, inForce, timeTo, larger, afterWarpEnd, afterTempo, afterDelay, afterStop, afterWarp, CanMove, passed as Passing·passed, firstOr, lastUpTo, sixty};
+ghost use Rattle.clock_walk.specs.Quiet.{rowAt, endRow, notBefore, isLater, isNextLater, onlyTempos};
+ghost use Rattle.clock_walk.specs.Soon.{tempoPassed, rowAfter, soonOf};
+ghost use Rattle.clock_walk.specs.declared.Event.the-variants.{Tempo};
+ghost use Rattle.clock_walk.specs.Walk.{isEvent, isNothing, timeAt, walk};
+
+// How far a walk has come: a place in each list, the row and the time of the last event passed, the warp's end and whether it is warping.
+#[repr(C)]
+pub struct State {
+    pub tempos: usize,
+    pub stops: usize,
+    pub delays: usize,
+    pub warps: usize,
+    pub row: i32,
+    pub warping: bool,
+    pub time: f64,
+    pub end: f64,
+}
+
+// What can be next, in the order in which events of one row come.
+pub enum Event {
+    WarpEnd,
+    Tempo,
+    Delay,
+    // The asked beat, which ends the walk.
+    Asked,
+    Stop,
+    Warp,
+    NotFound,
+}
+
+pub struct Next {
+    pub row: i32,
+    pub kind: Event,
+}
+
+// ---- what is ahead
+
+// The row of an entry, and the greatest i32 behind the end of the list.
+pub fn row_at(beats: &[f32], place: usize) -> i32
+    ensures { λ r. ⌜ r ≡ rowAt (now (beats .entry)) place ⌝ }
+{
+    if place < beats.len() {
+        return rows::beat_to_note_row(std::num::f32_to_f64_with_nan(beats[place]));
+    }
+    2147483647
+}
+
+pub fn end_row(warping: bool, end: f64) -> i32
+    ensures { λ r. ⌜ r ≡ endRow warping end ⌝ }
+{
+    if warping {
+        return rows::beat_to_note_row(end);
+    }
+    2147483647
+}
+
+// The rows of what is ahead of a state: kept between the events of a walk, of which each moves one or two.
+struct Heads {
+    end: i32,
+    tempo: i32,
+    delay: i32,
+    stop: i32,
+    warp: i32,
+}
+
+fn heads_of(
+    state: State,
+    tempo_beats: &[f32],
+    stop_beats: &[f32],
+    delay_beats: &[f32],
+    warp_beats: &[f32],
+) -> Heads
+    ensures { λ r. ⌜ r ≡ headsOf (now («tempo_beats» .entry)) (now («stop_beats» .entry)) (now («delay_beats» .entry)) (now («warp_beats» .entry)) state ⌝ }
+{
+    let end = end_row(state.warping, state.end);
+    let tempo = row_at(tempo_beats, state.tempos);
+    let delay = row_at(delay_beats, state.delays);
+    let stop = row_at(stop_beats, state.stops);
+    let warp = row_at(warp_beats, state.warps);
+    Heads {
+        end,
+        tempo,
+        delay,
+        stop,
+        warp,
+    }
+}
+
+// The heads after an event of a kind, which left the state.
+fn heads_after(
+    heads: Heads,
+    next: Next,
+    state: State,
+    tempo_beats: &[f32],
+    stop_beats: &[f32],
+    delay_beats: &[f32],
+    warp_beats: &[f32],
+) -> Heads
+    ensures { λ r. ⌜ r ≡ headsAfter (now («tempo_beats» .entry)) (now («stop_beats» .entry)) (now («delay_beats» .entry)) (now («warp_beats» .entry)) heads state (next .kind) ⌝ }
+{
+    let kind = next.kind;
+    match kind {
+        Event::WarpEnd => Heads {
+            end: 2147483647,
+            tempo: heads.tempo,
+            delay: heads.delay,
+            stop: heads.stop,
+            warp: heads.warp,
+        },
+        Event::Tempo => {
+            let tempo = row_at(tempo_beats, state.tempos);
+            Heads {
+                end: heads.end,
+                tempo,
+                delay: heads.delay,
+                stop: heads.stop,
+                warp: heads.warp,
+            }
+        }
+        Event::Delay => {
+            let delay = row_at(delay_beats, state.delays);
+            Heads {
+                end: heads.end,
+                tempo: heads.tempo,
+                delay,
+                stop: heads.stop,
+                warp: heads.warp,
+            }
+        }
+        Event::Stop => {
+            let stop = row_at(stop_beats, state.stops);
+            Heads {
+                end: heads.end,
+                tempo: heads.tempo,
+                delay: heads.delay,
+                stop,
+                warp: heads.warp,
+            }
+        }
+        Event::Warp => {
+            let end = rows::beat_to_note_row(state.end);
+            let warp = row_at(warp_beats, state.warps);
+            Heads {
+                end,
+                tempo: heads.tempo,
+                delay: heads.delay,
+                stop: heads.stop,
+                warp,
+            }
+        }
+        Event::Asked => heads,
+        Event::NotFound => heads,
+    }
+}
+
+// ---- the next event
+
+// Only an earlier row takes the place of what was found so far.
+fn earlier(best: Next, row: i32, kind: Event) -> Next
+    ensures { λ r. ⌜ r ≡ sooner best row kind ⌝ }
+{
+    let found = best.row;
+    if row < found {
+        return Next { row, kind };
+    }
+    best
+}
+
+// True only where a tempo is next, which most events of many charts are: no other head is looked at twice.
+fn is_tempo_next(heads: Heads, asked: i32) -> bool
+    ensures { λ r. ⌜ (r ≡ true → nextOf heads asked ≡ record { row = heads .tempo; kind = Tempo }) ⌝ }
+{
+    if heads.tempo < asked {
+        if heads.tempo < heads.stop {
+            if heads.tempo < heads.delay {
+                if heads.tempo < heads.warp {
+                    return heads.tempo < heads.end;
+                }
+                return false;
+            }
+            return false;
+        }
+        return false;
+    }
+    false
+}
+
+// What is next: the least row, and on one row what comes first.
+fn find_next_event(heads: Heads, asked: i32) -> Next
+    ensures { λ r. ⌜ r ≡ nextOf heads asked ⌝ }
+{
+    if is_tempo_next(heads, asked) {
+        return Next {
+            row: heads.tempo,
+            kind: Event::Tempo,
+        };
+    }
+    let nothing = Next {
+        row: 2147483647,
+        kind: Event::NotFound,
+    };
+    let end = earlier(nothing, heads.end, Event::WarpEnd);
+    let tempo = earlier(end, heads.tempo, Event::Tempo);
+    let delay = earlier(tempo, heads.delay, Event::Delay);
+    let marker = earlier(delay, asked, Event::Asked);
+    let stop = earlier(marker, heads.stop, Event::Stop);
+    earlier(stop, heads.warp, Event::Warp)
+}
+
+// ---- time
+
+// A number of a list, and a NaN beyond its end.
+fn read_at(values: &[f32], place: usize) -> f64
+    ensures { λ r. ⌜ r ≡ getD (now (values .entry)) place nan ⌝ }
+{
+    if place < values.len() {
+        return std::num::f32_to_f64_with_nan(values[place]);
+    }
+    0.0 / 0.0
+}
+
+// The beats from one row to another. Two i32 may be further apart than an i32.
+pub fn beats_between(from: i32, to: i32) -> f64
+    ensures { λ r. ⌜ r ≡ beatOf binary64 (to -ℤ from) ⌝ }
+{
+    let rows = (to as i64) - (from as i64);
+    rows::forty_eighth(rows as f64)
+}
+
+// The first tempo, 60 where there is none.
+fn first_tempo(tempo_values: &[f32]) -> f64
+    ensures { λ r. ⌜ r ≡ firstOr sixty (now («tempo_values» .entry)) ⌝ }
+{
+    if tempo_values.len() == 0 {
+        return 60.0;
+    }
+    std::num::f32_to_f64_with_nan(tempo_values[0])
+}
+
+// The tempo at a beat: of the leading entries at or before it the last, else another.
+fn last_up_to(beat: f64, other: f64, tempo_beats: &[f32], tempo_values: &[f32]) -> f64
+    ensures { λ r. ⌜ r ≡ lastUpTo beat other (now («tempo_beats» .entry)) (now («tempo_values» .entry)) ⌝ }
+{
+    let mut tempo = other;
+    let mut i = 0;
+    while i < tempo_beats.len() {
+        if i >= tempo_values.len() {
+            return tempo;
+        }
+        let at = std::num::f32_to_f64_with_nan(tempo_beats[i]);
+        if at <= beat {
+            tempo = std::num::f32_to_f64_with_nan(tempo_values[i]);
+            i += 1;
+            continue;
+        }
+        return tempo;
+    }
+    tempo
+}
+
+fn get_bpm_for_row(row: i32, tempo_beats: &[f32], tempo_values: &[f32]) -> f64
+    ensures { λ r. ⌜ r ≡ tempoAt (now («tempo_beats» .entry)) (now («tempo_values» .entry)) row ⌝ }
+{
+    let beat = rows::note_row_to_beat(row);
+    let first = first_tempo(tempo_values);
+    last_up_to(beat, first, tempo_beats, tempo_values)
+}
+
+// The tempo that a walk begins with where none is passed yet.
+fn early_tempo(state: State, tempo_beats: &[f32], tempo_values: &[f32]) -> f64
+    ensures { λ r. ⌜ r ≡ earlyTempo (now («tempo_beats» .entry)) (now («tempo_values» .entry)) state ⌝ }
+{
+    let place = state.tempos;
+    if place == 0 {
+        return get_bpm_for_row(state.row, tempo_beats, tempo_values);
+    }
+    0.0
+}
+
+// The last tempo passed, before any the early one.
+fn tempo_in_force(early: f64, tempo_values: &[f32], place: usize) -> f64
+    ensures { λ r. ⌜ r ≡ inForce early (now («tempo_values» .entry)) place ⌝ }
+{
+    if place == 0 {
+        return early;
+    }
+    read_at(tempo_values, place - 1)
+}
+
+fn time_to(state: State, early: f64, tempo_values: &[f32], row: i32) -> f64
+    ensures { λ r. ⌜ r ≡ timeTo early (now («tempo_values» .entry)) state row ⌝ }
+{
+    let warping = state.warping;
+    if warping {
+        return 0.0;
+    }
+    let beats = beats_between(state.row, row);
+    let tempo = tempo_in_force(early, tempo_values, state.tempos);
+    beats / (tempo / 60.0)
+}
+
+// ---- passing an event
+
+fn larger_of(old: f64, new: f64) -> f64
+    ensures { λ r. ⌜ r ≡ larger old new ⌝ }
+{
+    if old < new {
+        return new;
+    }
+    old
+}
+
+fn pass_warp_end(mut state: State, row: i32, time: f64) -> State
+    ensures { λ r. ⌜ r ≡ afterWarpEnd state row time ⌝ }
+{
+    state.row = row;
+    state.time = time;
+    state.warping = false;
+    state
+}
+
+fn pass_tempo(mut state: State, row: i32, time: f64) -> State
+    requires { ⌜ state .tempos < 2 ^ 63 ⌝ }
+    ensures { λ r. ⌜ r ≡ afterTempo state row time ⌝ }
+{
+    state.row = row;
+    state.time = time;
+    state.tempos = state.tempos + 1;
+    state
+}
+
+fn pass_delay(mut state: State, row: i32, time: f64, delay_values: &[f32]) -> State
+    requires { ⌜ state .delays < 2 ^ 63 ⌝ }
+    ensures { λ r. ⌜ r ≡ afterDelay state row time (now («delay_values» .entry)) ⌝ }
+{
+    let later = time + read_at(delay_values, state.delays);
+    state.row = row;
+    state.time = later;
+    state.delays = state.delays + 1;
+    state
+}
+
+fn pass_stop(mut state: State, row: i32, time: f64, stop_values: &[f32]) -> State
+    requires { ⌜ state .stops < 2 ^ 63 ⌝ }
+    ensures { λ r. ⌜ r ≡ afterStop state row time (now («stop_values» .entry)) ⌝ }
+{
+    let later = time + read_at(stop_values, state.stops);
+    state.row = row;
+    state.time = later;
+    state.stops = state.stops + 1;
+    state
+}
+
+// The end is the larger of the old one and the warp's own; it is not held at the warp's start.
+fn pass_warp(
+    mut state: State,
+    row: i32,
+    time: f64,
+    warp_beats: &[f32],
+    warp_lengths: &[f32],
+) -> State
+    requires { ⌜ state .warps < 2 ^ 63 ⌝ }
+    ensures { λ r. ⌜ r ≡ afterWarp state row time (now («warp_beats» .entry)) (now («warp_lengths» .entry)) ⌝ }
+{
+    let end = larger_of(
+        state.end,
+        read_at(warp_beats, state.warps) + read_at(warp_lengths, state.warps),
+    );
+    state.row = row;
+    state.time = time;
+    state.end = end;
+    state.warps = state.warps + 1;
+    state.warping = true;
+    state
+}
+
+// Passes one event. Nothing else does.
+fn pass_event(
+    state: State,
+    next: Next,
+    early: f64,
+    tempo_values: &[f32],
+    stop_values: &[f32],
+    delay_values: &[f32],
+    warp_beats: &[f32],
+    warp_lengths: &[f32],
+) -> State
+    requires { ⌜ CanMove state (next .kind) ⌝ }
+    ensures { λ r. ⌜ r ≡ Passing·passed early (now («tempo_values» .entry)) (now («stop_values» .entry)) (now («delay_values» .entry)) (now («warp_beats» .entry)) (now («warp_lengths» .entry)) state next ⌝ }
+{
+    let row = next.row;
+    let time = state.time + time_to(state, early, tempo_values, row);
+    let kind = next.kind;
+    match kind {
+        Event::WarpEnd => pass_warp_end(state, row, time),
+        Event::Tempo => pass_tempo(state, row, time),
+        Event::Delay => pass_delay(state, row, time, delay_values),
+        Event::Stop => pass_stop(state, row, time, stop_values),
+        Event::Warp => pass_warp(state, row, time, warp_beats, warp_lengths),
+        Event::Asked => state,
+        Event::NotFound => state,
+    }
+}
+
+// The state after the tempo that is next, on its row, where one was passed before it; the state as it is where none is left.
+pub fn pass_next_tempo(
+    state: State,
+    row: i32,
+    tempo_beats: &[f32],
+    tempo_values: &[f32],
+    stop_values: &[f32],
+    delay_values: &[f32],
+    warp_beats: &[f32],
+    warp_lengths: &[f32],
+) -> State
+    ensures { λ r. ⌜ r ≡ tempoPassed (now («tempo_beats» .entry)) (now («tempo_values» .entry)) (now («stop_values» .entry)) (now («delay_values» .entry)) (now («warp_beats» .entry)) (now («warp_lengths» .entry)) state row ⌝ }
+{
+    if state.tempos < tempo_beats.len() {
+        let next = Next {
+            row,
+            kind: Event::Tempo,
+        };
+        return pass_event(
+            state,
+            next,
+            0.0,
+            tempo_values,
+            stop_values,
+            delay_values,
+            warp_beats,
+            warp_lengths,
+        );
+    }
+    state
+}
+
+// ---- the walk
+
+// The state after the last event passed, how many were passed, and the time of the asked beat.
+pub struct Walked {
+    pub state: State,
+    pub passed: usize,
+    pub time: f64,
+}
+
+fn is_event(next: Next) -> bool
+    ensures { λ r. ⌜ r ≡ isEvent (next .kind) ⌝ }
+{
+    let kind = next.kind;
+    match kind {
+        Event::WarpEnd => true,
+        Event::Tempo => true,
+        Event::Delay => true,
+        Event::Stop => true,
+        Event::Warp => true,
+        Event::Asked => false,
+        Event::NotFound => false,
+    }
+}
+
+fn is_nothing(next: Next) -> bool
+    ensures { λ r. ⌜ r ≡ isNothing (next .kind) ⌝ }
+{
+    let kind = next.kind;
+    match kind {
+        Event::WarpEnd => false,
+        Event::Tempo => false,
+        Event::Delay => false,
+        Event::Stop => false,
+        Event::Warp => false,
+        Event::Asked => false,
+        Event::NotFound => true,
+    }
+}
+
+// The time of what ends the walk.
+fn time_at(state: State, next: Next, early: f64, tempo_values: &[f32]) -> f64
+    ensures { λ r. ⌜ r ≡ timeAt early (now («tempo_values» .entry)) state next ⌝ }
+{
+    if is_nothing(next) {
+        return state.time;
+    }
+    state.time + time_to(state, early, tempo_values, next.row)
+}
+
+// ---- walks that pass nothing, or one tempo
+
+// True only where the entry at a place is on a later row, or the list ends there. Of rows that are allowed and from 0 on: the entry is held against the beat of
+// the row after it, which is quicker than the entry's row, and may say no of that row itself.
+fn is_later(beats: &[f32], place: usize, asked: i32) -> bool
+    ensures { λ r. ⌜ r ≡ isLater (now (beats .entry)) place asked ⌝ }
+{
+    if asked < 0 {
+        return false;
+    }
+    if 3145727 < asked {
+        return false;
+    }
+    let beat = rows::note_row_to_beat(asked + 1);
+    not_before(beats, place, beat)
+}
+
+// True where the entry at the place is not before the beat and not above the limit, so that it is allowed where the beat is, and at the end of the list. So a
+// yes also says that the place is within the list.
+fn not_before(beats: &[f32], place: usize, beat: f64) -> bool
+    ensures { λ r. ⌜ r ≡ notBefore (now (beats .entry)) place beat ⌝ }
+{
+    if place < beats.len() {
+        let head = beats[place];
+        if head <= 65536.0 {
+            return beat <= (head as f64);
+        }
+        return false;
+    }
+    place == beats.len()
+}
+
+// Whether an entry is at a place, and the one after it is later.
+fn is_next_later(beats: &[f32], place: usize, asked: i32) -> bool
+    ensures { λ r. ⌜ r ≡ isNextLater (now (beats .entry)) place asked ⌝ }
+{
+    if place < beats.len() {
+        return is_later(beats, place + 1, asked);
+    }
+    false
+}
+
+// Whether by the row no event but a tempo is due, each list held against it in the same way, the row tested once for all; a yes says too that the places in
+// these lists are within them.
+pub fn is_only_tempos(
+    state: State,
+    asked: i32,
+    stop_beats: &[f32],
+    delay_beats: &[f32],
+    warp_beats: &[f32],
+) -> bool
+    ensures { λ r. ⌜ r ≡ onlyTempos (now («stop_beats» .entry)) (now («delay_beats» .entry)) (now («warp_beats» .entry)) state asked ⌝ }
+{
+    if asked < 0 {
+        return false;
+    }
+    if 3145727 < asked {
+        return false;
+    }
+    let beat = rows::note_row_to_beat(asked + 1);
+    if asked < end_row(state.warping, state.end) {
+        if not_before(stop_beats, state.stops, beat) {
+            if not_before(delay_beats, state.delays, beat) {
+                return not_before(warp_beats, state.warps, beat);
+            }
+            return false;
+        }
+        return false;
+    }
+    false
+}
+
+// The row of the entry after the one at a place, and the greatest i32 where there is none.
+pub fn row_after(beats: &[f32], place: usize) -> i32
+    ensures { λ r. ⌜ r ≡ rowAfter (now (beats .entry)) place ⌝ }
+{
+    if place < beats.len() {
+        return row_at(beats, place + 1);
+    }
+    2147483647
+}
+
+// A walk that passes nothing or its first tempo: the state, how many were passed, and whether that is the whole walk; where it is not, nothing is passed.
+pub struct Soon {
+    pub state: State,
+    pub passed: usize,
+    pub whole: bool,
+}
+
+pub fn walk_soon(
+    state: State,
+    asked: i32,
+    tempo_beats: &[f32],
+    tempo_values: &[f32],
+    stop_values: &[f32],
+    delay_values: &[f32],
+    warp_beats: &[f32],
+    warp_lengths: &[f32],
+) -> Soon
+    ensures { λ r. ⌜ r ≡ soonOf (now («tempo_beats» .entry)) (now («tempo_values» .entry)) (now («stop_values» .entry)) (now («delay_values» .entry)) (now («warp_beats» .entry)) (now («warp_lengths» .entry)) state asked ⌝ }
+{
+    if is_later(tempo_beats, state.tempos, asked) {
+        return Soon {
+            state,
+            passed: 0,
+            whole: true,
+        };
+    }
+    let first = row_at(tempo_beats, state.tempos);
+    if asked < first {
+        return Soon {
+            state,
+            passed: 0,
+            whole: true,
+        };
+    }
+    if is_next_later(tempo_beats, state.tempos, asked) {
+        let moved = pass_next_tempo(
+            state,
+            first,
+            tempo_beats,
+            tempo_values,
+            stop_values,
+            delay_values,
+            warp_beats,
+            warp_lengths,
+        );
+        return Soon {
+            state: moved,
+            passed: 1,
+            whole: true,
+        };
+    }
+    Soon {
+        state,
+        passed: 0,
+        whole: false,
+    }
+}
+
+// The time of a row by which no event is due, where a tempo was passed.
+pub fn quiet_time(state: State, asked: i32, tempo_values: &[f32]) -> f64
+    ensures { λ r. ⌜ r ≡ add binary64 (state .time) (timeTo noTime (now («tempo_values» .entry)) state asked) ⌝ }
+{
+    state.time + time_to(state, 0.0, tempo_values, asked)
+}
+
+// ---- the whole walk
+
+// From a state on, every event before the asked beat.
+pub fn walk_to(
+    start: State,
+    asked: i32,
+    tempo_beats: &[f32],
+    tempo_values: &[f32],
+    stop_beats: &[f32],
+    stop_values: &[f32],
+    delay_beats: &[f32],
+    delay_values: &[f32],
+    warp_beats: &[f32],
+    warp_lengths: &[f32],
+) -> Walked
+    ensures { λ r. ⌜ r ≡ walk (timing (now («tempo_beats» .entry)) (now («tempo_values» .entry)) (now («stop_beats» .entry)) (now («stop_values» .entry)) (now («delay_beats» .entry)) (now («delay_values» .entry)) (now («warp_beats» .entry)) (now («warp_lengths» .entry))) asked start ⌝ }
+{
+    let early = early_tempo(start, tempo_beats, tempo_values);
+    let mut state = start;
+    let mut heads = heads_of(start, tempo_beats, stop_beats, delay_beats, warp_beats);
+    let mut passed: usize = 0;
+    loop {
+        let next = find_next_event(heads, asked);
+        let more = is_event(next);
+        if !more {
+            let time = time_at(state, next, early, tempo_values);
+            return Walked {
+                state,
+                passed,
+                time,
+            };
+        }
+        state = pass_event(
+            state,
+            next,
+            early,
+            tempo_values,
+            stop_values,
+            delay_values,
+            warp_beats,
+            warp_lengths,
+        );
+        heads = heads_after(
+            heads,
+            next,
+            state,
+            tempo_beats,
+            stop_beats,
+            delay_beats,
+            warp_beats,
+        );
+        passed = passed + 1;
+    }
+}

@@ -1,0 +1,688 @@
+// The calls that take lists and the clock under C names, for native programs to link.
+use clock::Answer;
+use clock::Cursor;
+use clock::Made;
+use clock_run::Ran;
+use columns::Outcome;
+use limits::Kind;
+use lookup::Looked;
+use process_raw::Processed;
+use lookup_row_store::Stored;
+use stops_for_sm::Filled;
+ghost use mathlib.Core.Path.{_≡_};
+ghost use Rattle.columns.specs.Laying.{LaidPair};
+ghost use Rattle.limits.specs.Numbers.{rangeOf, inRange, every, rowIn};
+ghost use Rattle.lookup_row_store.specs.RowStore.{RowsStored};
+ghost use mathlib.Core.Bool.{true};
+ghost use Rattle.lookup.specs.Lookups.{isWarped, isFake, isJudgable, askedRow, askedNumber, warpNumber, fakeNumber, judgableNumber, looked, Judged};
+ghost use Rattle.lookup_checked.specs.Checked.{warpedBy, fakeBy, judgableBy, atRow};
+ghost use Rattle.limits.specs.Refusals.{listNumber};
+ghost use Rattle.tidy_rows.specs.RowTidying.{RowsTidied};
+ghost use Rattle.tidy_tempos.specs.TempoTidying.{tidyTempos};
+ghost use Rattle.stops_for_sm.specs.Merging.{sources};
+ghost use Rattle.stops_for_sm.specs.Filling.{StopsFilled};
+ghost use Rattle.process_ssc.specs.Ssc.{SscProcessed};
+ghost use Rattle.process_sm.specs.Sm.{SmProcessed};
+ghost use Rattle.clock_walk.specs.Events.{timing};
+ghost use Rattle.clock_tests.specs.TimingNumbers.{timingNumber};
+ghost use Rattle.clock.specs.Question.{freshCursor, made, playerQuestion, question};
+ghost use Rattle.clock_run.specs.Run.{RunLaid};
+ghost use Rattle.tidy_scrolls.specs.ScrollTidying.{ScrollsTidied};
+ghost use Rattle.tidy_speeds.specs.SpeedTidying.{SpeedsTidied};
+
+#[no_mangle]
+pub extern "C" fn marrighentu_tidy_row_segments(
+    beats: &[f64],
+    values: &[f64],
+    out_beats: &mut [f64],
+    out_values: &mut [f64],
+) -> Outcome
+    ensures { λ r. ⌜ RowsTidied (now (beats .entry)) (now (values .entry)) r (now («out_beats» .entry)) (now («out_beats» .exit)) (now («out_values» .entry)) (now («out_values» .exit)) ⌝ }
+{
+    tidy_rows::tidy_row_segments(beats, values, out_beats, out_values)
+}
+
+#[no_mangle]
+pub extern "C" fn marrighentu_tidy_bpms(
+    beats: &[f64],
+    tempos: &[f64],
+    out_beats: &mut [f64],
+    out_tempos: &mut [f64],
+) -> Outcome
+    ensures { λ r. ⌜ LaidPair (listNumber (rangeOf Kind.Beat) (rangeOf Kind.TidyTempo) (now (beats .entry)) (now (tempos .entry))) (tidyTempos (now (beats .entry)) (now (tempos .entry))) r (now («out_beats» .entry)) (now («out_beats» .exit)) (now («out_tempos» .entry)) (now («out_tempos» .exit)) ⌝ }
+{
+    tidy_tempos::tidy_bpms(beats, tempos, out_beats, out_tempos)
+}
+
+// ---- the row store and the lookups
+
+#[no_mangle]
+pub extern "C" fn marrighentu_build_segment_row_storage(
+    stop_beats: &[f32],
+    stop_values: &[f32],
+    delay_beats: &[f32],
+    delay_values: &[f32],
+    warp_beats: &[f32],
+    warp_lengths: &[f32],
+    fake_beats: &[f32],
+    fake_lengths: &[f32],
+    rows: &mut [i32],
+) -> Stored
+    ensures { λ r. ⌜ RowsStored (now («stop_beats» .entry)) (now («stop_values» .entry)) (now («delay_beats» .entry)) (now («delay_values» .entry)) (now («warp_beats» .entry)) (now («warp_lengths» .entry)) (now («fake_beats» .entry)) (now («fake_lengths» .entry)) r (now (rows .entry)) (now (rows .exit)) ⌝ }
+{
+    lookup_row_store::build_segment_row_storage(
+        stop_beats,
+        stop_values,
+        delay_beats,
+        delay_values,
+        warp_beats,
+        warp_lengths,
+        fake_beats,
+        fake_lengths,
+        rows,
+    )
+}
+
+#[no_mangle]
+pub extern "C" fn marrighentu_is_warp_at_row(
+    stop_beats: &[f32],
+    stop_values: &[f32],
+    delay_beats: &[f32],
+    delay_values: &[f32],
+    warp_beats: &[f32],
+    warp_lengths: &[f32],
+    row: i32,
+) -> Looked
+    ensures { λ r. ⌜ r ≡ looked (warpNumber (now («stop_beats» .entry)) (now («stop_values» .entry)) (now («delay_beats» .entry)) (now («delay_values» .entry)) (now («warp_beats» .entry)) (now («warp_lengths» .entry)) (rowIn row)) (isWarped (now («stop_beats» .entry)) (now («stop_values» .entry)) (now («delay_beats» .entry)) (now («delay_values» .entry)) (now («warp_beats» .entry)) (now («warp_lengths» .entry)) row) ⌝ }
+{
+    lookup::is_warp_at_row(
+        stop_beats,
+        stop_values,
+        delay_beats,
+        delay_values,
+        warp_beats,
+        warp_lengths,
+        row,
+    )
+}
+
+#[no_mangle]
+pub extern "C" fn marrighentu_is_warp_at_beat(
+    stop_beats: &[f32],
+    stop_values: &[f32],
+    delay_beats: &[f32],
+    delay_values: &[f32],
+    warp_beats: &[f32],
+    warp_lengths: &[f32],
+    beat: f64,
+) -> Looked
+    ensures { λ r. ⌜ r ≡ looked (warpNumber (now («stop_beats» .entry)) (now («stop_values» .entry)) (now («delay_beats» .entry)) (now («delay_values» .entry)) (now («warp_beats» .entry)) (now («warp_lengths» .entry)) (inRange (rangeOf Kind.Beat) beat)) (isWarped (now («stop_beats» .entry)) (now («stop_values» .entry)) (now («delay_beats» .entry)) (now («delay_values» .entry)) (now («warp_beats» .entry)) (now («warp_lengths» .entry)) (askedRow beat)) ⌝ }
+{
+    lookup::is_warp_at_beat(
+        stop_beats,
+        stop_values,
+        delay_beats,
+        delay_values,
+        warp_beats,
+        warp_lengths,
+        beat,
+    )
+}
+
+#[no_mangle]
+pub extern "C" fn marrighentu_is_fake_at_row(
+    fake_beats: &[f32],
+    fake_lengths: &[f32],
+    row: i32,
+) -> Looked
+    ensures { λ r. ⌜ r ≡ looked (fakeNumber (now («fake_beats» .entry)) (now («fake_lengths» .entry)) (rowIn row)) (isFake (now («fake_beats» .entry)) (now («fake_lengths» .entry)) row) ⌝ }
+{
+    lookup::is_fake_at_row(fake_beats, fake_lengths, row)
+}
+
+#[no_mangle]
+pub extern "C" fn marrighentu_is_fake_at_beat(
+    fake_beats: &[f32],
+    fake_lengths: &[f32],
+    beat: f64,
+) -> Looked
+    ensures { λ r. ⌜ r ≡ looked (fakeNumber (now («fake_beats» .entry)) (now («fake_lengths» .entry)) (inRange (rangeOf Kind.Beat) beat)) (isFake (now («fake_beats» .entry)) (now («fake_lengths» .entry)) (askedRow beat)) ⌝ }
+{
+    lookup::is_fake_at_beat(fake_beats, fake_lengths, beat)
+}
+
+#[no_mangle]
+pub extern "C" fn marrighentu_is_judgable_at_row(
+    stop_beats: &[f32],
+    stop_values: &[f32],
+    delay_beats: &[f32],
+    delay_values: &[f32],
+    warp_beats: &[f32],
+    warp_lengths: &[f32],
+    fake_beats: &[f32],
+    fake_lengths: &[f32],
+    row: i32,
+) -> Looked
+    ensures { λ r. ⌜ r ≡ looked (judgableNumber (now («stop_beats» .entry)) (now («stop_values» .entry)) (now («delay_beats» .entry)) (now («delay_values» .entry)) (now («warp_beats» .entry)) (now («warp_lengths» .entry)) (now («fake_beats» .entry)) (now («fake_lengths» .entry)) (rowIn row)) (isJudgable (now («stop_beats» .entry)) (now («stop_values» .entry)) (now («delay_beats» .entry)) (now («delay_values» .entry)) (now («warp_beats» .entry)) (now («warp_lengths» .entry)) (now («fake_beats» .entry)) (now («fake_lengths» .entry)) row) ⌝ }
+{
+    lookup::is_judgable_at_row(
+        stop_beats,
+        stop_values,
+        delay_beats,
+        delay_values,
+        warp_beats,
+        warp_lengths,
+        fake_beats,
+        fake_lengths,
+        row,
+    )
+}
+
+#[no_mangle]
+pub extern "C" fn marrighentu_is_judgable_at_beat(
+    stop_beats: &[f32],
+    stop_values: &[f32],
+    delay_beats: &[f32],
+    delay_values: &[f32],
+    warp_beats: &[f32],
+    warp_lengths: &[f32],
+    fake_beats: &[f32],
+    fake_lengths: &[f32],
+    beat: f64,
+) -> Looked
+    ensures { λ r. ⌜ r ≡ looked (judgableNumber (now («stop_beats» .entry)) (now («stop_values» .entry)) (now («delay_beats» .entry)) (now («delay_values» .entry)) (now («warp_beats» .entry)) (now («warp_lengths» .entry)) (now («fake_beats» .entry)) (now («fake_lengths» .entry)) (inRange (rangeOf Kind.Beat) beat)) (isJudgable (now («stop_beats» .entry)) (now («stop_values» .entry)) (now («delay_beats» .entry)) (now («delay_values» .entry)) (now («warp_beats» .entry)) (now («warp_lengths» .entry)) (now («fake_beats» .entry)) (now («fake_lengths» .entry)) (askedRow beat)) ⌝ }
+{
+    lookup::is_judgable_at_beat(
+        stop_beats,
+        stop_values,
+        delay_beats,
+        delay_values,
+        warp_beats,
+        warp_lengths,
+        fake_beats,
+        fake_lengths,
+        beat,
+    )
+}
+
+#[no_mangle]
+pub extern "C" fn marrighentu_judgable_rows(
+    stop_beats: &[f32],
+    stop_values: &[f32],
+    delay_beats: &[f32],
+    delay_values: &[f32],
+    warp_beats: &[f32],
+    warp_lengths: &[f32],
+    fake_beats: &[f32],
+    fake_lengths: &[f32],
+    rows: &[i32],
+    out: &mut [u8],
+) -> Outcome
+    ensures { λ r. ⌜ Judged (judgableNumber (now («stop_beats» .entry)) (now («stop_values» .entry)) (now («delay_beats» .entry)) (now («delay_values» .entry)) (now («warp_beats» .entry)) (now («warp_lengths» .entry)) (now («fake_beats» .entry)) (now («fake_lengths» .entry)) (every rowIn (now (rows .entry)))) (isJudgable (now («stop_beats» .entry)) (now («stop_values» .entry)) (now («delay_beats» .entry)) (now («delay_values» .entry)) (now («warp_beats» .entry)) (now («warp_lengths» .entry)) (now («fake_beats» .entry)) (now («fake_lengths» .entry))) (now (rows .entry)) r (now (out .entry)) (now (out .exit)) ⌝ }
+{
+    lookup::judgable_rows(
+        stop_beats,
+        stop_values,
+        delay_beats,
+        delay_values,
+        warp_beats,
+        warp_lengths,
+        fake_beats,
+        fake_lengths,
+        rows,
+        out,
+    )
+}
+
+// ---- the lookups for lists that were tested once
+
+#[no_mangle]
+pub extern "C" fn marrighentu_check_lookups(
+    stop_beats: &[f32],
+    stop_values: &[f32],
+    delay_beats: &[f32],
+    delay_values: &[f32],
+    warp_beats: &[f32],
+    warp_lengths: &[f32],
+    fake_beats: &[f32],
+    fake_lengths: &[f32],
+) -> u32
+    ensures { λ r. ⌜ r ≡ judgableNumber
+        (now («stop_beats» .entry)) (now («stop_values» .entry))
+        (now («delay_beats» .entry)) (now («delay_values» .entry))
+        (now («warp_beats» .entry)) (now («warp_lengths» .entry))
+        (now («fake_beats» .entry)) (now («fake_lengths» .entry)) true ⌝ }
+{
+    lookup_checked::check_lookups(
+        stop_beats,
+        stop_values,
+        delay_beats,
+        delay_values,
+        warp_beats,
+        warp_lengths,
+        fake_beats,
+        fake_lengths,
+    )
+}
+
+#[no_mangle]
+pub extern "C" fn marrighentu_is_warp_at_row_checked(
+    stop_beats: &[f32],
+    stop_values: &[f32],
+    delay_beats: &[f32],
+    delay_values: &[f32],
+    warp_beats: &[f32],
+    warp_lengths: &[f32],
+    row: i32,
+) -> Looked
+    ensures { λ r. ⌜ r ≡ looked (askedNumber (rowIn row)) (atRow (warpedBy
+        (now («stop_beats» .entry)) (now («stop_values» .entry))
+        (now («delay_beats» .entry)) (now («delay_values» .entry))
+        (now («warp_beats» .entry)) (now («warp_lengths» .entry))) row) ⌝ }
+{
+    lookup_checked::is_warp_at_row_checked(
+        stop_beats,
+        stop_values,
+        delay_beats,
+        delay_values,
+        warp_beats,
+        warp_lengths,
+        row,
+    )
+}
+
+#[no_mangle]
+pub extern "C" fn marrighentu_is_warp_at_beat_checked(
+    stop_beats: &[f32],
+    stop_values: &[f32],
+    delay_beats: &[f32],
+    delay_values: &[f32],
+    warp_beats: &[f32],
+    warp_lengths: &[f32],
+    beat: f64,
+) -> Looked
+    ensures { λ r. ⌜ r ≡ looked (askedNumber (inRange (rangeOf Kind.Beat) beat)) (atRow (warpedBy
+        (now («stop_beats» .entry)) (now («stop_values» .entry))
+        (now («delay_beats» .entry)) (now («delay_values» .entry))
+        (now («warp_beats» .entry)) (now («warp_lengths» .entry))) (askedRow beat)) ⌝ }
+{
+    lookup_checked::is_warp_at_beat_checked(
+        stop_beats,
+        stop_values,
+        delay_beats,
+        delay_values,
+        warp_beats,
+        warp_lengths,
+        beat,
+    )
+}
+
+#[no_mangle]
+pub extern "C" fn marrighentu_is_fake_at_row_checked(
+    fake_beats: &[f32],
+    fake_lengths: &[f32],
+    row: i32,
+) -> Looked
+    ensures { λ r. ⌜ r ≡ looked (askedNumber (rowIn row)) (atRow (fakeBy (now («fake_beats» .entry)) (now («fake_lengths» .entry))) row) ⌝ }
+{
+    lookup_checked::is_fake_at_row_checked(fake_beats, fake_lengths, row)
+}
+
+#[no_mangle]
+pub extern "C" fn marrighentu_is_fake_at_beat_checked(
+    fake_beats: &[f32],
+    fake_lengths: &[f32],
+    beat: f64,
+) -> Looked
+    ensures { λ r. ⌜ r ≡ looked (askedNumber (inRange (rangeOf Kind.Beat) beat)) (atRow (fakeBy (now («fake_beats» .entry)) (now («fake_lengths» .entry))) (askedRow beat)) ⌝ }
+{
+    lookup_checked::is_fake_at_beat_checked(fake_beats, fake_lengths, beat)
+}
+
+#[no_mangle]
+pub extern "C" fn marrighentu_is_judgable_at_row_checked(
+    stop_beats: &[f32],
+    stop_values: &[f32],
+    delay_beats: &[f32],
+    delay_values: &[f32],
+    warp_beats: &[f32],
+    warp_lengths: &[f32],
+    fake_beats: &[f32],
+    fake_lengths: &[f32],
+    row: i32,
+) -> Looked
+    ensures { λ r. ⌜ r ≡ looked (askedNumber (rowIn row)) (atRow (judgableBy
+        (now («stop_beats» .entry)) (now («stop_values» .entry))
+        (now («delay_beats» .entry)) (now («delay_values» .entry))
+        (now («warp_beats» .entry)) (now («warp_lengths» .entry))
+        (now («fake_beats» .entry)) (now («fake_lengths» .entry))) row) ⌝ }
+{
+    lookup_checked::is_judgable_at_row_checked(
+        stop_beats,
+        stop_values,
+        delay_beats,
+        delay_values,
+        warp_beats,
+        warp_lengths,
+        fake_beats,
+        fake_lengths,
+        row,
+    )
+}
+
+#[no_mangle]
+pub extern "C" fn marrighentu_is_judgable_at_beat_checked(
+    stop_beats: &[f32],
+    stop_values: &[f32],
+    delay_beats: &[f32],
+    delay_values: &[f32],
+    warp_beats: &[f32],
+    warp_lengths: &[f32],
+    fake_beats: &[f32],
+    fake_lengths: &[f32],
+    beat: f64,
+) -> Looked
+    ensures { λ r. ⌜ r ≡ looked (askedNumber (inRange (rangeOf Kind.Beat) beat)) (atRow (judgableBy
+        (now («stop_beats» .entry)) (now («stop_values» .entry))
+        (now («delay_beats» .entry)) (now («delay_values» .entry))
+        (now («warp_beats» .entry)) (now («warp_lengths» .entry))
+        (now («fake_beats» .entry)) (now («fake_lengths» .entry))) (askedRow beat)) ⌝ }
+{
+    lookup_checked::is_judgable_at_beat_checked(
+        stop_beats,
+        stop_values,
+        delay_beats,
+        delay_values,
+        warp_beats,
+        warp_lengths,
+        fake_beats,
+        fake_lengths,
+        beat,
+    )
+}
+
+#[no_mangle]
+pub extern "C" fn marrighentu_process_bpms_and_stops_ssc(
+    tempo_beats: &[f64],
+    tempo_values: &[f64],
+    stop_beats: &[f64],
+    stop_values: &[f64],
+    out_tempo_beats: &mut [f64],
+    out_tempo_values: &mut [f64],
+    out_stop_beats: &mut [f64],
+    out_stop_values: &mut [f64],
+) -> Processed
+    ensures { λ r. ⌜ SscProcessed (now («tempo_beats» .entry)) (now («tempo_values» .entry)) (now («stop_beats» .entry)) (now («stop_values» .entry)) r (now («out_tempo_beats» .entry)) (now («out_tempo_beats» .exit)) (now («out_tempo_values» .entry)) (now («out_tempo_values» .exit)) (now («out_stop_beats» .entry)) (now («out_stop_beats» .exit)) (now («out_stop_values» .entry)) (now («out_stop_values» .exit)) ⌝ }
+{
+    process_ssc::process_bpms_and_stops_ssc(
+        tempo_beats,
+        tempo_values,
+        stop_beats,
+        stop_values,
+        out_tempo_beats,
+        out_tempo_values,
+        out_stop_beats,
+        out_stop_values,
+    )
+}
+
+#[no_mangle]
+pub extern "C" fn marrighentu_process_bpms_and_stops_sm(
+    tempo_beats: &[f64],
+    tempo_values: &[f64],
+    stop_beats: &[f64],
+    stop_values: &[f64],
+    out_tempo_beats: &mut [f64],
+    out_tempo_values: &mut [f64],
+    out_stop_beats: &mut [f64],
+    out_stop_values: &mut [f64],
+    out_warp_beats: &mut [f64],
+    out_warp_lengths: &mut [f64],
+) -> Processed
+    ensures { λ r. ⌜ SmProcessed (now («tempo_beats» .entry)) (now («tempo_values» .entry)) (now («stop_beats» .entry)) (now («stop_values» .entry)) r (now («out_tempo_beats» .entry)) (now («out_tempo_beats» .exit)) (now («out_tempo_values» .entry)) (now («out_tempo_values» .exit)) (now («out_stop_beats» .entry)) (now («out_stop_beats» .exit)) (now («out_stop_values» .entry)) (now («out_stop_values» .exit)) (now («out_warp_beats» .entry)) (now («out_warp_beats» .exit)) (now («out_warp_lengths» .entry)) (now («out_warp_lengths» .exit)) ⌝ }
+{
+    process_sm::process_bpms_and_stops_sm(
+        tempo_beats,
+        tempo_values,
+        stop_beats,
+        stop_values,
+        out_tempo_beats,
+        out_tempo_values,
+        out_stop_beats,
+        out_stop_values,
+        out_warp_beats,
+        out_warp_lengths,
+    )
+}
+
+#[no_mangle]
+pub extern "C" fn marrighentu_convert_warps_and_delays_to_sm_stops(
+    tempo_beats: &[f32],
+    tempo_values: &[f32],
+    stops: &[f32],
+    delay_beats: &[f32],
+    delay_values: &[f32],
+    warp_beats: &[f32],
+    warp_lengths: &[f32],
+    work: &mut [f32],
+) -> Filled
+    ensures { λ r. ⌜ StopsFilled (sources (now («tempo_beats» .entry)) (now («tempo_values» .entry)) (now (stops .entry)) (now («delay_beats» .entry)) (now («delay_values» .entry)) (now («warp_beats» .entry)) (now («warp_lengths» .entry))) r (now (work .entry)) (now (work .exit)) ⌝ }
+{
+    stops_for_sm::convert_warps_and_delays_to_sm_stops(
+        tempo_beats,
+        tempo_values,
+        stops,
+        delay_beats,
+        delay_values,
+        warp_beats,
+        warp_lengths,
+        work,
+    )
+}
+
+#[no_mangle]
+pub extern "C" fn marrighentu_cursor_new(offset: f64, global: f64) -> Made
+    ensures { λ r. ⌜ r ≡ made offset global ⌝ }
+{
+    Cursor::new(offset, global)
+}
+
+#[no_mangle]
+pub extern "C" fn marrighentu_check_timing(
+    tempo_beats: &[f32],
+    tempo_values: &[f32],
+    stop_beats: &[f32],
+    stop_values: &[f32],
+    delay_beats: &[f32],
+    delay_values: &[f32],
+    warp_beats: &[f32],
+    warp_lengths: &[f32],
+    offset: f64,
+    global: f64,
+) -> u32
+    ensures { λ r. ⌜ r ≡ timingNumber (timing (now («tempo_beats» .entry)) (now («tempo_values» .entry)) (now («stop_beats» .entry)) (now («stop_values» .entry)) (now («delay_beats» .entry)) (now («delay_values» .entry)) (now («warp_beats» .entry)) (now («warp_lengths» .entry))) offset global ⌝ }
+{
+    clock_tests::check_timing(
+        tempo_beats,
+        tempo_values,
+        stop_beats,
+        stop_values,
+        delay_beats,
+        delay_values,
+        warp_beats,
+        warp_lengths,
+        offset,
+        global,
+    )
+}
+
+#[no_mangle]
+pub extern "C" fn marrighentu_time_for_beat(
+    cursor: Cursor,
+    tempo_beats: &[f32],
+    tempo_values: &[f32],
+    stop_beats: &[f32],
+    stop_values: &[f32],
+    delay_beats: &[f32],
+    delay_values: &[f32],
+    warp_beats: &[f32],
+    warp_lengths: &[f32],
+    offset: f64,
+    global: f64,
+    beat: f64,
+) -> Answer
+    ensures { λ r. ⌜ r ≡ question (timing (now («tempo_beats» .entry)) (now («tempo_values» .entry)) (now («stop_beats» .entry)) (now («stop_values» .entry)) (now («delay_beats» .entry)) (now («delay_values» .entry)) (now («warp_beats» .entry)) (now («warp_lengths» .entry))) cursor offset global beat ⌝ }
+{
+    cursor.time_for_beat(
+        tempo_beats,
+        tempo_values,
+        stop_beats,
+        stop_values,
+        delay_beats,
+        delay_values,
+        warp_beats,
+        warp_lengths,
+        offset,
+        global,
+        beat,
+    )
+}
+
+#[no_mangle]
+pub extern "C" fn marrighentu_time_for_beat_checked(
+    cursor: Cursor,
+    tempo_beats: &[f32],
+    tempo_values: &[f32],
+    stop_beats: &[f32],
+    stop_values: &[f32],
+    delay_beats: &[f32],
+    delay_values: &[f32],
+    warp_beats: &[f32],
+    warp_lengths: &[f32],
+    offset: f64,
+    global: f64,
+    beat: f64,
+) -> Answer
+    ensures { λ r. ⌜ r ≡ playerQuestion (timing (now («tempo_beats» .entry)) (now («tempo_values» .entry)) (now («stop_beats» .entry)) (now («stop_values» .entry)) (now («delay_beats» .entry)) (now («delay_values» .entry)) (now («warp_beats» .entry)) (now («warp_lengths» .entry))) cursor offset global beat ⌝ }
+{
+    cursor.time_for_beat_checked(
+        tempo_beats,
+        tempo_values,
+        stop_beats,
+        stop_values,
+        delay_beats,
+        delay_values,
+        warp_beats,
+        warp_lengths,
+        offset,
+        global,
+        beat,
+    )
+}
+
+#[no_mangle]
+pub extern "C" fn marrighentu_get_time_for_beat(
+    tempo_beats: &[f32],
+    tempo_values: &[f32],
+    stop_beats: &[f32],
+    stop_values: &[f32],
+    delay_beats: &[f32],
+    delay_values: &[f32],
+    warp_beats: &[f32],
+    warp_lengths: &[f32],
+    offset: f64,
+    global: f64,
+    beat: f64,
+) -> Answer
+    ensures { λ r. ⌜ r ≡ question (timing (now («tempo_beats» .entry)) (now («tempo_values» .entry)) (now («stop_beats» .entry)) (now («stop_values» .entry)) (now («delay_beats» .entry)) (now («delay_values» .entry)) (now («warp_beats» .entry)) (now («warp_lengths» .entry))) (freshCursor offset global) offset global beat ⌝ }
+{
+    clock::get_time_for_beat(
+        tempo_beats,
+        tempo_values,
+        stop_beats,
+        stop_values,
+        delay_beats,
+        delay_values,
+        warp_beats,
+        warp_lengths,
+        offset,
+        global,
+        beat,
+    )
+}
+
+#[no_mangle]
+pub extern "C" fn marrighentu_run(
+    cursor: Cursor,
+    tempo_beats: &[f32],
+    tempo_values: &[f32],
+    stop_beats: &[f32],
+    stop_values: &[f32],
+    delay_beats: &[f32],
+    delay_values: &[f32],
+    warp_beats: &[f32],
+    warp_lengths: &[f32],
+    offset: f64,
+    global: f64,
+    beats: &[f64],
+    numbers: &mut [u32],
+    times: &mut [f64],
+    counts: &mut [usize],
+) -> Ran
+    ensures { λ r. ⌜ RunLaid (timing (now («tempo_beats» .entry)) (now («tempo_values» .entry)) (now («stop_beats» .entry)) (now («stop_values» .entry)) (now («delay_beats» .entry)) (now («delay_values» .entry)) (now («warp_beats» .entry)) (now («warp_lengths» .entry))) offset global cursor (now (beats .entry)) r (now (numbers .entry)) (now (numbers .exit)) (now (times .entry)) (now (times .exit)) (now (counts .entry)) (now (counts .exit)) ⌝ }
+{
+    clock_run::run(
+        cursor,
+        tempo_beats,
+        tempo_values,
+        stop_beats,
+        stop_values,
+        delay_beats,
+        delay_values,
+        warp_beats,
+        warp_lengths,
+        offset,
+        global,
+        beats,
+        numbers,
+        times,
+        counts,
+    )
+}
+
+#[no_mangle]
+pub extern "C" fn marrighentu_tidy_scroll_segments(
+    beats: &[f64],
+    values: &[f64],
+    out_beats: &mut [f64],
+    out_values: &mut [f64],
+) -> Outcome
+    ensures { λ r. ⌜ ScrollsTidied (now (beats .entry)) (now (values .entry)) r (now («out_beats» .entry)) (now («out_beats» .exit)) (now («out_values» .entry)) (now («out_values» .exit)) ⌝ }
+{
+    tidy_scrolls::tidy_scroll_segments(beats, values, out_beats, out_values)
+}
+
+#[no_mangle]
+pub extern "C" fn marrighentu_tidy_speed_segments(
+    beats: &[f64],
+    ratios: &[f64],
+    delays: &[f64],
+    units: &[u8],
+    out_beats: &mut [f64],
+    out_ratios: &mut [f64],
+    out_delays: &mut [f64],
+    out_units: &mut [u8],
+) -> Outcome
+    ensures { λ r. ⌜ SpeedsTidied (now (beats .entry)) (now (ratios .entry)) (now (delays .entry)) (now (units .entry)) r (now («out_beats» .entry)) (now («out_beats» .exit)) (now («out_ratios» .entry)) (now («out_ratios» .exit)) (now («out_delays» .entry)) (now («out_delays» .exit)) (now («out_units» .entry)) (now («out_units» .exit)) ⌝ }
+{
+    tidy_speeds::tidy_speed_segments(
+        beats,
+        ratios,
+        delays,
+        units,
+        out_beats,
+        out_ratios,
+        out_delays,
+        out_units,
+    )
+}

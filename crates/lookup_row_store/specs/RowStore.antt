@@ -1,0 +1,70 @@
+-- The row store: the rows of stops, delays, warps and fakes, one part behind another. Definitions only.
+use Prim.Native.Nat.{ℕ, _+_}
+use mathlib.Core.Bool.{Bool, true, false}
+use mathlib.Core.List.{List, [], _∷_, _++_}
+use mathlib.Core.Path.{_≡_}
+use lib.IntN.{ℤ}
+use lib.ListN.{length}
+use lib.Ieee.{Float, binary32, lt}
+use Rattle.picks.specs.Pick.{pick}
+use Rattle.rows.specs.Rows.{row}
+use Rattle.limits.specs.declared.Kind.{Kind}
+use Rattle.limits.specs.declared.Kind.the-variants.{Beat, Pause, Value}
+use Rattle.limits.specs.Numbers.{rangeOf, nothing}
+use Rattle.limits.specs.Refusals.{lower, listNumber}
+use Rattle.order.specs.Order.{ordered, tidied, laid}
+use Rattle.order.specs.RowKey.{rowKey}
+use Rattle.columns.specs.Laying.{roomNumber, given}
+use Rattle.lookup_row_store.specs.declared.Stored.{Stored}
+
+-- whether an entry has a row in the store: of stops and delays, the pauses, those above 0
+abbrev pub isStored : Bool → Float → Bool
+isStored pauses value = pick pauses (lt nothing value) true
+
+-- the f32 rows of a list's stored entries, as they come
+unfoldable pub givenRows : Bool → List Float → List Float → List ℤ
+givenRows pauses [] values = []
+givenRows pauses (beat ∷ beats) [] = []
+givenRows pauses (beat ∷ beats) (value ∷ values) =
+    pick (isStored pauses value) (row binary32 beat ∷ givenRows pauses beats values) (givenRows pauses beats values)
+
+-- a list's part of the store: its rows in rising order, those of pauses without repeats
+unfoldable pub partOf : Bool → List Float → List Float → List ℤ
+partOf pauses beats values = pick pauses (tidied rowKey (givenRows pauses beats values)) (ordered rowKey (givenRows pauses beats values))
+
+abbrev pub refusedBy : ℕ → Stored
+refusedBy number = record { number = number; stops = 0; delays = 0; warps = 0; fakes = 0 }
+
+-- ---- the call: the columns of the four lists, and the room for all rows
+module _ (stopBeats stopValues delayBeats delayValues warpBeats warpLengths fakeBeats fakeLengths : List Float) where
+  abbrev pub stopsPart : List ℤ
+  stopsPart = partOf true stopBeats stopValues
+
+  abbrev pub delaysPart : List ℤ
+  delaysPart = partOf true delayBeats delayValues
+
+  abbrev pub warpsPart : List ℤ
+  warpsPart = partOf false warpBeats warpLengths
+
+  abbrev pub fakesPart : List ℤ
+  fakesPart = partOf false fakeBeats fakeLengths
+
+  -- the parts, one behind another
+  abbrev pub packed : List ℤ
+  packed = stopsPart ++ delaysPart ++ warpsPart ++ fakesPart
+
+  -- the lowest number of the four lists
+  abbrev pub listsNumber : ℕ
+  listsNumber =
+      lower
+      (lower (listNumber (rangeOf Beat) (rangeOf Pause) stopBeats stopValues) (listNumber (rangeOf Beat) (rangeOf Pause) delayBeats delayValues))
+      (lower (listNumber (rangeOf Beat) (rangeOf Value) warpBeats warpLengths) (listNumber (rangeOf Beat) (rangeOf Value) fakeBeats fakeLengths))
+
+  -- the one outcome: the number, the length of each part, and the room to its last place
+  pub record RowsStored (outcome : Stored) (old new : List ℤ) : Type 0 where
+    pub number : outcome .number ≡ roomNumber listsNumber (length packed) (length old)
+    pub stops : outcome .stops ≡ length (given (outcome .number) stopsPart)
+    pub delays : outcome .delays ≡ length (given (outcome .number) delaysPart)
+    pub warps : outcome .warps ≡ length (given (outcome .number) warpsPart)
+    pub fakes : outcome .fakes ≡ length (given (outcome .number) fakesPart)
+    pub rows : new ≡ laid (given (outcome .number) packed) old

@@ -1,0 +1,91 @@
+-- What each format's processing leaves is the outcome by format: SSC's has no warps and leaves their rooms alone, and tempos that are not given count as one. Assumes nothing.
+use Prim.Native.Nat.{ℕ, zero, suc, _≤_}
+use mathlib.Core.Path.{_≡_, refl, sym, ap, _∙_}
+use mathlib.Core.Bool.{Bool, true, false}
+use mathlib.Core.List.{List, [], _∷_}
+use native.Mathlib.Omega.{arith}
+use lib.Dec.{eqb}
+use lib.ListN.{length}
+use lib.Ieee.{Float, le, lt, eq, neg}
+use borrow.Author.Tests.{eq-eqb, ne-eqb, eqb-true}
+use Rattle.picks.specs.Pick.{pick}
+use Rattle.limits.specs.Refusals.{listNumber}
+use Rattle.limits.specs.Numbers.{inRange, every}
+use Rattle.order.specs.Order.{laid}
+use Rattle.columns.specs.Laying.{roomNumber, LaidList}
+use Rattle.columns.proofs.Rooms.{number-of-tests, number-taken, list-refused, list-laid}
+use Rattle.tidy_tempos.specs.TempoTidying.{beatZero, sixty}
+use Rattle.process_raw.specs.declared.Processed.{Processed}
+use Rattle.process_raw.specs.RawLists.{rawNumber, rawNumbers}
+use Rattle.process_ssc.specs.Ssc.{SscProcessed}
+use Rattle.process.specs.declared.TimingFormat.{TimingFormat}
+use Rattle.process.specs.declared.TimingFormat.the-variants.{Sm, Ssc}
+use Rattle.process.specs.ByFormat.{unmoved, noneGiven, tempoBeatsOf, tempoValuesOf, listsBy, processedLists, ListsLaid, ProcessedBy}
+
+-- ---- no warps: no number of their own, and nothing written
+
+none-fits : (number room : ℕ) → roomNumber number 0 room ≡ number
+none-fits zero room = sym (number-taken 0 0 room refl (omega arith))
+none-fits (suc n) room = sym (number-of-tests (suc n) 0 room (λ e. omega arith))
+
+none-laid : (number count : ℕ) → count ≡ 0 → (beats lengths : List Float) → LaidList number [] count beats beats lengths lengths
+unfolding laid
+none-laid zero count e beats lengths = list-laid e refl refl
+none-laid (suc n) count e beats lengths = rw e (list-refused (λ z. omega arith))
+
+no-offset : (t : Bool) → unmoved ≡ pick t unmoved unmoved
+no-offset true = refl
+no-offset false = refl
+
+module _ {tempoBeats tempoValues stopBeats stopValues : List Float} {outcome : Processed} {tempoBeatsOld tempoBeatsNew tempoValuesOld tempoValuesNew stopBeatsOld stopBeatsNew stopValuesOld stopValuesNew : List Float} (warpBeats warpLengths : List Float) where
+  pub ssc-laid : SscProcessed tempoBeats tempoValues stopBeats stopValues outcome tempoBeatsOld tempoBeatsNew tempoValuesOld tempoValuesNew stopBeatsOld stopBeatsNew stopValuesOld stopValuesNew
+      → ListsLaid (rawNumbers tempoBeats tempoValues stopBeats stopValues) (listsBy Ssc tempoBeats tempoValues stopBeats stopValues) outcome tempoBeatsOld tempoBeatsNew tempoValuesOld tempoValuesNew stopBeatsOld stopBeatsNew stopValuesOld stopValuesNew warpBeats warpBeats warpLengths warpLengths
+  ssc-laid p = record {
+    number = rw none-fits (p .number);
+    temposLaid = p .tempos;
+    stopsLaid = p .stops;
+    warpsLaid = none-laid (outcome .number) (outcome .warps) (p .warps) warpBeats warpLengths;
+    offsetIs = p .offset ∙ no-offset (eqb (outcome .number) 0);
+  }
+
+-- ---- tempos given and not given
+
+-- 60 at beat 0 is taken, as nothing is
+pub sixty-taken : rawNumber (beatZero ∷ []) (sixty ∷ []) ≡ rawNumber [] []
+unfolding listNumber every inRange le lt eq neg
+sixty-taken = refl
+
+some-given : (beats values : List Float) → (length beats ≡ 0 → length values ≡ 0 → ⊥) → noneGiven beats values ≡ false
+some-given beats values h = go (eqb (length beats) 0) refl
+  where
+    go : (t : Bool) → eqb (length beats) 0 ≡ t → pick t (eqb (length values) 0) false ≡ false
+    go true e = ne-eqb (length values) 0 (h (eqb-true (length beats) 0 e))
+    go false e = refl
+
+none-given : (beats values : List Float) → length beats ≡ 0 → length values ≡ 0 → noneGiven beats values ≡ true
+none-given beats values h k = rw (eq-eqb (length beats) 0 h) (eq-eqb (length values) 0 k)
+
+module _ (format : TimingFormat) (stopBeats stopValues : List Float) where
+  lists-given : (beats values : List Float) → (length beats ≡ 0 → length values ≡ 0 → ⊥) → processedLists format beats values stopBeats stopValues ≡ listsBy format beats values stopBeats stopValues
+  unfolding processedLists tempoBeatsOf tempoValuesOf
+  lists-given beats values h = rw (some-given beats values h)
+
+  lists-sixty : (beats values : List Float) → length beats ≡ 0 → length values ≡ 0 → processedLists format beats values stopBeats stopValues ≡ listsBy format (beatZero ∷ []) (sixty ∷ []) stopBeats stopValues
+  unfolding processedLists tempoBeatsOf tempoValuesOf
+  lists-sixty beats values h k = rw (none-given beats values h k)
+
+  number-sixty : (beats values : List Float) → length beats ≡ 0 → length values ≡ 0 → rawNumbers beats values stopBeats stopValues ≡ rawNumbers (beatZero ∷ []) (sixty ∷ []) stopBeats stopValues
+  number-sixty [] [] h k = rw sixty-taken
+  number-sixty [] (v ∷ values) h k = absurd (omega arith)
+  number-sixty (b ∷ beats) values h k = absurd (omega arith)
+
+module _ (format : TimingFormat) (tempoBeats tempoValues stopBeats stopValues : List Float) {outcome : Processed} {tempoBeatsOld tempoBeatsNew tempoValuesOld tempoValuesNew stopBeatsOld stopBeatsNew stopValuesOld stopValuesNew warpBeatsOld warpBeatsNew warpLengthsOld warpLengthsNew : List Float} where
+  pub as-given : (length tempoBeats ≡ 0 → length tempoValues ≡ 0 → ⊥)
+      → ListsLaid (rawNumbers tempoBeats tempoValues stopBeats stopValues) (listsBy format tempoBeats tempoValues stopBeats stopValues) outcome tempoBeatsOld tempoBeatsNew tempoValuesOld tempoValuesNew stopBeatsOld stopBeatsNew stopValuesOld stopValuesNew warpBeatsOld warpBeatsNew warpLengthsOld warpLengthsNew
+      → ProcessedBy format tempoBeats tempoValues stopBeats stopValues outcome tempoBeatsOld tempoBeatsNew tempoValuesOld tempoValuesNew stopBeatsOld stopBeatsNew stopValuesOld stopValuesNew warpBeatsOld warpBeatsNew warpLengthsOld warpLengthsNew
+  as-given h p = rw (lists-given format stopBeats stopValues tempoBeats tempoValues h) p
+
+  pub as-sixty : length tempoBeats ≡ 0 → length tempoValues ≡ 0
+      → ListsLaid (rawNumbers (beatZero ∷ []) (sixty ∷ []) stopBeats stopValues) (listsBy format (beatZero ∷ []) (sixty ∷ []) stopBeats stopValues) outcome tempoBeatsOld tempoBeatsNew tempoValuesOld tempoValuesNew stopBeatsOld stopBeatsNew stopValuesOld stopValuesNew warpBeatsOld warpBeatsNew warpLengthsOld warpLengthsNew
+      → ProcessedBy format tempoBeats tempoValues stopBeats stopValues outcome tempoBeatsOld tempoBeatsNew tempoValuesOld tempoValuesNew stopBeatsOld stopBeatsNew stopValuesOld stopValuesNew warpBeatsOld warpBeatsNew warpLengthsOld warpLengthsNew
+  as-sixty h k p = rw (number-sixty format stopBeats stopValues tempoBeats tempoValues h k, lists-sixty format stopBeats stopValues tempoBeats tempoValues h k) p

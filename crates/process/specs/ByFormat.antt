@@ -1,0 +1,71 @@
+-- The processing of raw tempos and stops by the format of the chart. Definitions only.
+use Prim.Native.Nat.{ℕ}
+use mathlib.Core.Bool.{Bool, false}
+use mathlib.Core.List.{List, [], _∷_}
+use lib.Dec.{eqb}
+use lib.ListN.{length}
+use lib.IntN.{pos}
+use lib.Ieee.{Float, fin}
+use Rattle.picks.specs.Pick.{pick}
+use Rattle.tidy_tempos.specs.TempoTidying.{beatZero, sixty}
+use Rattle.process_raw.specs.declared.Processed.{Processed}
+use Rattle.process_raw.specs.RawLists.{rawNumbers}
+use Rattle.process_ssc.specs.Ssc as ssc
+use Rattle.process_sm_changes.specs.SmChanges.{smChanges}
+use Rattle.process_sm_walk.specs.Chart.{offsetOf}
+use Rattle.process_sm_lent.specs.Sm.{written, tidied, SmLaid}
+use Rattle.process.specs.declared.TimingFormat.{TimingFormat}
+use Rattle.process.specs.declared.TimingFormat.the-variants.{Sm, Ssc}
+
+-- ---- tempos that are not there: one of 60 at beat 0
+
+abbrev pub noneGiven : List Float → List Float → Bool
+noneGiven beats values = pick (eqb (length beats) 0) (eqb (length values) 0) false
+
+unfoldable pub tempoBeatsOf : List Float → List Float → List Float
+tempoBeatsOf beats values = pick (noneGiven beats values) (beatZero ∷ []) beats
+
+unfoldable pub tempoValuesOf : List Float → List Float → List Float
+tempoValuesOf beats values = pick (noneGiven beats values) (sixty ∷ []) values
+
+-- ---- what processing makes of both lists
+
+pub record Lists : Type 0 where
+  pub tempos : List (Float × Float)
+  pub stops : List (Float × Float)
+  pub warps : List (Float × Float)
+  pub offset : Float
+
+-- beat 0 stays where it is
+abbrev pub unmoved : Float
+unmoved = fin false 0 (pos 0)
+
+-- SSC makes no warps, and leaves beat 0 where it is
+abbrev pub listsBy : TimingFormat → (tempoBeats tempoValues stopBeats stopValues : List Float) → Lists
+listsBy Sm tempoBeats tempoValues stopBeats stopValues = record {
+  tempos = tidied (written tempoBeats tempoValues stopBeats stopValues .tempos);
+  stops = written tempoBeats tempoValues stopBeats stopValues .stops;
+  warps = written tempoBeats tempoValues stopBeats stopValues .warps;
+  offset = offsetOf (smChanges stopBeats stopValues);
+}
+listsBy Ssc tempoBeats tempoValues stopBeats stopValues = record {
+  tempos = ssc.sscTempos tempoBeats tempoValues;
+  stops = ssc.stayed stopBeats stopValues;
+  warps = [];
+  offset = unmoved;
+}
+
+unfoldable pub processedLists : TimingFormat → (tempoBeats tempoValues stopBeats stopValues : List Float) → Lists
+processedLists format tempoBeats tempoValues stopBeats stopValues =
+    listsBy format (tempoBeatsOf tempoBeats tempoValues) (tempoValuesOf tempoBeats tempoValues) stopBeats stopValues
+
+-- lists of processing under one number: that of the tests, then 7 where one is longer than its room
+abbrev pub ListsLaid : ℕ → Lists → Processed
+    → (tempoBeatsOld tempoBeatsNew tempoValuesOld tempoValuesNew stopBeatsOld stopBeatsNew stopValuesOld stopValuesNew warpBeatsOld warpBeatsNew warpLengthsOld warpLengthsNew : List Float) → Type 0
+ListsLaid tests lists outcome = SmLaid tests (lists .tempos) (lists .stops) (lists .warps) (lists .offset) outcome
+
+-- the one outcome of the call
+abbrev pub ProcessedBy : TimingFormat → (tempoBeats tempoValues stopBeats stopValues : List Float) → Processed
+    → (tempoBeatsOld tempoBeatsNew tempoValuesOld tempoValuesNew stopBeatsOld stopBeatsNew stopValuesOld stopValuesNew warpBeatsOld warpBeatsNew warpLengthsOld warpLengthsNew : List Float) → Type 0
+ProcessedBy format tempoBeats tempoValues stopBeats stopValues outcome =
+    ListsLaid (rawNumbers tempoBeats tempoValues stopBeats stopValues) (processedLists format tempoBeats tempoValues stopBeats stopValues) outcome

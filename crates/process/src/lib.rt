@@ -1,0 +1,100 @@
+// Raw tempos and stops, processed by the format of the chart.
+use process_raw::Processed;
+ghost use mathlib.Core.Path.{_≡_};
+ghost use Rattle.process_raw.specs.RawLists.{rawNumbers};
+ghost use Rattle.process.specs.ByFormat.{listsBy, ListsLaid, ProcessedBy};
+
+// The file format of a chart, which decides how tempos and stops are meant.
+pub enum TimingFormat {
+    Sm,
+    Ssc,
+}
+
+fn process_given(
+    format: TimingFormat,
+    tempo_beats: &[f64],
+    tempo_values: &[f64],
+    stop_beats: &[f64],
+    stop_values: &[f64],
+    out_tempo_beats: &mut [f64],
+    out_tempo_values: &mut [f64],
+    out_stop_beats: &mut [f64],
+    out_stop_values: &mut [f64],
+    out_warp_beats: &mut [f64],
+    out_warp_lengths: &mut [f64],
+) -> Processed
+    ensures { λ r. ⌜ ListsLaid (rawNumbers (now («tempo_beats» .entry)) (now («tempo_values» .entry)) (now («stop_beats» .entry)) (now («stop_values» .entry))) (listsBy format (now («tempo_beats» .entry)) (now («tempo_values» .entry)) (now («stop_beats» .entry)) (now («stop_values» .entry))) r (now («out_tempo_beats» .entry)) (now («out_tempo_beats» .exit)) (now («out_tempo_values» .entry)) (now («out_tempo_values» .exit)) (now («out_stop_beats» .entry)) (now («out_stop_beats» .exit)) (now («out_stop_values» .entry)) (now («out_stop_values» .exit)) (now («out_warp_beats» .entry)) (now («out_warp_beats» .exit)) (now («out_warp_lengths» .entry)) (now («out_warp_lengths» .exit)) ⌝ }
+{
+    match format {
+        TimingFormat::Sm => process_sm::process_bpms_and_stops_sm(
+            tempo_beats,
+            tempo_values,
+            stop_beats,
+            stop_values,
+            out_tempo_beats,
+            out_tempo_values,
+            out_stop_beats,
+            out_stop_values,
+            out_warp_beats,
+            out_warp_lengths,
+        ),
+        TimingFormat::Ssc => process_ssc::process_bpms_and_stops_ssc(
+            tempo_beats,
+            tempo_values,
+            stop_beats,
+            stop_values,
+            out_tempo_beats,
+            out_tempo_values,
+            out_stop_beats,
+            out_stop_values,
+        ),
+    }
+}
+
+// Tempos, stops and the warps that they make, and what beat 0 is moved by. No tempos at all are one of 60 at beat 0.
+pub fn process_bpms_and_stops(
+    format: TimingFormat,
+    tempo_beats: &[f64],
+    tempo_values: &[f64],
+    stop_beats: &[f64],
+    stop_values: &[f64],
+    out_tempo_beats: &mut [f64],
+    out_tempo_values: &mut [f64],
+    out_stop_beats: &mut [f64],
+    out_stop_values: &mut [f64],
+    out_warp_beats: &mut [f64],
+    out_warp_lengths: &mut [f64],
+) -> Processed
+    ensures { λ r. ⌜ ProcessedBy format (now («tempo_beats» .entry)) (now («tempo_values» .entry)) (now («stop_beats» .entry)) (now («stop_values» .entry)) r (now («out_tempo_beats» .entry)) (now («out_tempo_beats» .exit)) (now («out_tempo_values» .entry)) (now («out_tempo_values» .exit)) (now («out_stop_beats» .entry)) (now («out_stop_beats» .exit)) (now («out_stop_values» .entry)) (now («out_stop_values» .exit)) (now («out_warp_beats» .entry)) (now («out_warp_beats» .exit)) (now («out_warp_lengths» .entry)) (now («out_warp_lengths» .exit)) ⌝ }
+{
+    if tempo_beats.len() == 0 {
+        if tempo_values.len() == 0 {
+            return process_given(
+                format,
+                &[0.0],
+                &[60.0],
+                stop_beats,
+                stop_values,
+                out_tempo_beats,
+                out_tempo_values,
+                out_stop_beats,
+                out_stop_values,
+                out_warp_beats,
+                out_warp_lengths,
+            );
+        }
+    }
+    process_given(
+        format,
+        tempo_beats,
+        tempo_values,
+        stop_beats,
+        stop_values,
+        out_tempo_beats,
+        out_tempo_values,
+        out_stop_beats,
+        out_stop_values,
+        out_warp_beats,
+        out_warp_lengths,
+    )
+}

@@ -1,0 +1,37 @@
+-- Raw tempos and raw stops, as both formats are given them: by what numbers they are refused. Definitions only.
+use Prim.Native.Nat.{ℕ, min}
+use mathlib.Core.List.{List}
+use mathlib.Core.Bool.{Bool, true, false}
+use mathlib.Core.Path.{_≡_}
+use lib.IntN.{pos}
+use lib.Ieee.{Float, fin}
+use lib.ListN.{length}
+use Rattle.limits.specs.declared.Kind.the-variants.{RawBeat, RawTempo}
+use Rattle.limits.specs.Numbers.{rangeOf}
+use Rattle.limits.specs.Refusals.{lower, listNumber}
+use Rattle.process_raw.specs.declared.Processed.{Processed}
+
+-- A list by itself. A stop's length has the limits of a tempo, and what is not finite passes here: its entry is dropped later.
+abbrev pub rawNumber : List Float → List Float → ℕ
+rawNumber beats values = listNumber (rangeOf RawBeat) (rangeOf RawTempo) beats values
+
+-- both lists, every entry of either before one is dropped
+abbrev pub rawNumbers : List Float → List Float → List Float → List Float → ℕ
+rawNumbers tempoBeats tempoValues stopBeats stopValues = lower (rawNumber tempoBeats tempoValues) (rawNumber stopBeats stopValues)
+
+-- a list that is taken, and of which nothing is dropped: `stayed` is what stays of a list
+pub record Whole (stayed : List Float → List Float → List (Float × Float)) (beats values : List Float) : Type 0 where
+  pub number : rawNumber beats values ≡ 0
+  pub stay : length (stayed beats values) ≡ length beats
+
+-- what a test has told of a list
+abbrev pub Known : (List Float → List Float → List (Float × Float)) → Bool → List Float → List Float → Type 0
+Known stayed whole beats values = whole ≡ true → Whole stayed beats values
+
+-- the room of two columns
+abbrev pub roomFor : List Float → List Float → ℕ
+roomFor first second = min (length first) (length second)
+
+-- a refusal: nothing written, and no offset
+abbrev pub processedNothing : ℕ → Processed
+processedNothing number = record { number = number; tempos = 0; stops = 0; warps = 0; offset = fin false 0 (pos 0) }

@@ -1,0 +1,16 @@
+pub mod PauseInWarp
+pub mod BeatsOnRows
+pub mod Segments
+pub mod ArrowsKeepOrder
+pub mod ChangesInOrder
+pub mod WrittenInOrder
+pub mod Incident
+pub mod WalkTaken
+pub mod Sides
+pub mod WarpLengths
+pub mod ChangesTaken
+pub mod ArrowsKeepBounds
+pub mod WalkWithin
+pub mod AssemblyTakes
+pub mod OffsetWithin
+pub mod EveryNumberFinite

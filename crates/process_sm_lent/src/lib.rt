@@ -1,0 +1,134 @@
+// SM: the processing of raw tempos and stops by way of lent work columns.
+use process_raw::Processed;
+ghost use mathlib.Core.Path.{_≡_};
+ghost use Prim.Native.Nat.{_≤_};
+ghost use lib.ListN.{length};
+ghost use Rattle.limits.specs.declared.Kind.the-variants.{Beat, TidyTempo};
+ghost use Rattle.limits.specs.Numbers.{rangeOf};
+ghost use Rattle.limits.specs.Refusals.{listNumber};
+ghost use Rattle.order.specs.Order.{laid};
+ghost use Rattle.order.specs.Entries.{entries};
+ghost use Rattle.tidy_tempos.specs.TempoTidying.{tidyTempos};
+ghost use Rattle.process_sm_walk.specs.Columns.{columns};
+ghost use Rattle.process_sm_lent.specs.Sm.{SmLaid};
+ghost use Rattle.process_sm_lent.specs.Lent.{LentLaid};
+
+// ---- results into their rooms
+
+fn copy(from: &[f64], to: &mut [f64])
+    requires { ⌜ length (now from) ≤ length (now to) ⌝ }
+    ensures { λ _. ⌜ now (to .exit) ≡ laid (now (from .entry)) (now (to .entry)) ⌝ }
+{
+    let mut i = 0;
+    while i < from.len() {
+        to[i] = from[i];
+        i += 1;
+    }
+}
+
+// Tempos tidied, stops and warps as they are; or 7, and nothing is written.
+fn lay_results(
+    tempo_beats: &[f64],
+    tempo_values: &[f64],
+    stop_beats: &[f64],
+    stop_values: &[f64],
+    warp_beats: &[f64],
+    warp_lengths: &[f64],
+    offset: f64,
+    out_tempo_beats: &mut [f64],
+    out_tempo_values: &mut [f64],
+    out_stop_beats: &mut [f64],
+    out_stop_values: &mut [f64],
+    out_warp_beats: &mut [f64],
+    out_warp_lengths: &mut [f64],
+) -> Processed
+    requires { ⌜ listNumber (rangeOf Beat) (rangeOf TidyTempo) (now «tempo_beats») (now «tempo_values») ≡ 0 ⌝ }
+    requires { ⌜ (length (now «stop_beats») ≡ length (now «stop_values»)) × (length (now «warp_beats») ≡ length (now «warp_lengths»)) ⌝ }
+    ensures { λ r. ⌜ SmLaid 0 (tidyTempos (now («tempo_beats» .entry)) (now («tempo_values» .entry))) (entries (now («stop_beats» .entry)) (now («stop_values» .entry))) (entries (now («warp_beats» .entry)) (now («warp_lengths» .entry))) offset r (now («out_tempo_beats» .entry)) (now («out_tempo_beats» .exit)) (now («out_tempo_values» .entry)) (now («out_tempo_values» .exit)) (now («out_stop_beats» .entry)) (now («out_stop_beats» .exit)) (now («out_stop_values» .entry)) (now («out_stop_values» .exit)) (now («out_warp_beats» .entry)) (now («out_warp_beats» .exit)) (now («out_warp_lengths» .entry)) (now («out_warp_lengths» .exit)) ⌝ }
+{
+    if stop_beats.len() > columns::room_of(out_stop_beats.len(), out_stop_values.len()) {
+        return process_raw::refused(limits::NO_ROOM);
+    }
+    if warp_beats.len() > columns::room_of(out_warp_beats.len(), out_warp_lengths.len()) {
+        return process_raw::refused(limits::NO_ROOM);
+    }
+    let tempos = tidy_tempos::tidy_bpms(
+        tempo_beats,
+        tempo_values,
+        out_tempo_beats,
+        out_tempo_values,
+    );
+    if tempos.number != 0 {
+        return process_raw::refused(limits::NO_ROOM);
+    }
+    copy(stop_beats, out_stop_beats);
+    copy(stop_values, out_stop_values);
+    copy(warp_beats, out_warp_beats);
+    copy(warp_lengths, out_warp_lengths);
+    Processed {
+        number: limits::TAKEN,
+        tempos: tempos.count,
+        stops: stop_beats.len(),
+        warps: warp_beats.len(),
+        offset: offset,
+    }
+}
+
+// ---- by way of work columns
+
+// SM's processing by way of six work columns, which are left with what the walk writes. 7 also where these have no room for as much as the changes can
+// come to.
+pub fn process_lent(
+    tempo_beats: &[f64],
+    tempo_values: &[f64],
+    stop_beats: &[f64],
+    stop_values: &[f64],
+    walked_tempo_beats: &mut [f64],
+    walked_tempo_values: &mut [f64],
+    walked_stop_beats: &mut [f64],
+    walked_stop_values: &mut [f64],
+    walked_warp_beats: &mut [f64],
+    walked_warp_lengths: &mut [f64],
+    out_tempo_beats: &mut [f64],
+    out_tempo_values: &mut [f64],
+    out_stop_beats: &mut [f64],
+    out_stop_values: &mut [f64],
+    out_warp_beats: &mut [f64],
+    out_warp_lengths: &mut [f64],
+) -> Processed
+    ensures { λ r. ⌜ LentLaid (now («tempo_beats» .entry)) (now («tempo_values» .entry)) (now («stop_beats» .entry)) (now («stop_values» .entry)) r (columns (now («walked_tempo_beats» .entry)) (now («walked_tempo_values» .entry)) (now («walked_stop_beats» .entry)) (now («walked_stop_values» .entry)) (now («walked_warp_beats» .entry)) (now («walked_warp_lengths» .entry))) (columns (now («walked_tempo_beats» .exit)) (now («walked_tempo_values» .exit)) (now («walked_stop_beats» .exit)) (now («walked_stop_values» .exit)) (now («walked_warp_beats» .exit)) (now («walked_warp_lengths» .exit))) (now («out_tempo_beats» .entry)) (now («out_tempo_beats» .exit)) (now («out_tempo_values» .entry)) (now («out_tempo_values» .exit)) (now («out_stop_beats» .entry)) (now («out_stop_beats» .exit)) (now («out_stop_values» .entry)) (now («out_stop_values» .exit)) (now («out_warp_beats» .entry)) (now («out_warp_beats» .exit)) (now («out_warp_lengths» .entry)) (now («out_warp_lengths» .exit)) ⌝ }
+{
+    let walked = process_sm_walk_raw::walk_raw(
+        tempo_beats,
+        tempo_values,
+        stop_beats,
+        stop_values,
+        walked_tempo_beats,
+        walked_tempo_values,
+        walked_stop_beats,
+        walked_stop_values,
+        walked_warp_beats,
+        walked_warp_lengths,
+    );
+    if walked.number != 0 {
+        return process_raw::refused(walked.number);
+    }
+    let tempos = walked.tempos;
+    let stops = walked.stops;
+    let warps = walked.warps;
+    lay_results(
+        &walked_tempo_beats[..tempos],
+        &walked_tempo_values[..tempos],
+        &walked_stop_beats[..stops],
+        &walked_stop_values[..stops],
+        &walked_warp_beats[..warps],
+        &walked_warp_lengths[..warps],
+        std::num::f32_to_f64_with_nan(walked.offset),
+        out_tempo_beats,
+        out_tempo_values,
+        out_stop_beats,
+        out_stop_values,
+        out_warp_beats,
+        out_warp_lengths,
+    )
+}

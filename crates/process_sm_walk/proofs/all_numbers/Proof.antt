@@ -1,0 +1,65 @@
+use Prim.Native.Nat.{_-_}
+use mathlib.Core.Bool.{Bool, false}
+use mathlib.Core.Path.{refl, ap, _∙_}
+use native.Mathlib.Omega.{arith}
+use lib.ListN.{length}
+use Rattle.process_sm_walk.specs.Walking.{isNumber}
+use Rattle.picks.specs.Pick.{pick}
+use Rattle.process_sm_walk.proofs.EveryFrom.{SoFar, so-far-turn, so-far-end}
+use borrow.Author.Needs.{needs}
+use Rattle.process_sm_walk.proofs.all_numbers.Statement.{statement}
+use Rattle.process_sm_walk.proofs.all_numbers.Tie as tie
+
+abbrev Inv-loop : tie.InvT-loop
+Inv-loop values so-far₀ i₀ so-far i = SoFar isNumber values 0 i so-far
+
+abbrev μ-loop : tie.MeasureT-loop
+μ-loop values so-far₀ i₀ so-far i = length values - i
+
+loop-holds : tie.Need-loop-holds Inv-loop μ-loop
+loop-holds c = refl
+
+mul-is-number : tie.Need-mul-is-number Inv-loop μ-loop
+mul-is-number c = search needs
+
+shared-slice-read-is-number : tie.Need-shared-slice-read-is-number Inv-loop μ-loop
+shared-slice-read-is-number c = search needs
+
+is-number-requires : tie.Need-is-number-requires Inv-loop μ-loop
+is-number-requires c κs = search needs
+
+both-requires : tie.Need-both-requires Inv-loop μ-loop
+both-requires c κs = search needs
+
+add-i : tie.Need-add-i Inv-loop μ-loop
+add-i c = search needs
+
+loop-less : tie.Need-loop-less Inv-loop μ-loop
+loop-less c = omega arith
+
+loop-again : tie.Need-loop-again Inv-loop μ-loop
+loop-again c =
+    let at = c .before .before .before .before in
+    let start = at .before .before in
+    so-far-turn isNumber (start .args .values .now) 0 (at .loop .i) (at .loop .so-far) (c .both .result) (c .before .before .before .loop-test .taken) (c .both .ensures ∙ ap (λ (t : Bool). pick (at .loop .so-far) t false) (c .before .is-number .ensures)) (at .loop .inv)
+
+returns : tie.Need-returns Inv-loop μ-loop
+returns c =
+    let start = c .before .before .before in
+    so-far-end isNumber (start .args .values .now) 0 (c .before .loop .i) (c .before .loop .so-far) (c .loop-test .left) (c .before .loop .inv)
+
+pub all-numbers-spec : {M : Type 1} → statement M
+all-numbers-spec =
+    tie.close
+    (tie.spec
+    Inv-loop
+    μ-loop
+    loop-holds
+    mul-is-number
+    shared-slice-read-is-number
+    is-number-requires
+    both-requires
+    add-i
+    loop-less
+    loop-again
+    returns)

@@ -1,0 +1,49 @@
+-- Tempos and stops as one list of changes, by beat. Definitions only.
+use Prim.Native.Nat.{_+_}
+use mathlib.Core.List.{List, [], _∷_, map}
+use lib.ListN.{drop}
+use lib.Ieee.{Float, le}
+use Rattle.picks.specs.Pick.{pick}
+use Rattle.process_sm_machine.specs.declared.Entry.{Entry}
+use Rattle.process_sm_machine.specs.declared.Change.{Change}
+use Rattle.process_sm_machine.specs.declared.Change.the-variants.{Tempo, Stop}
+use Rattle.process_sm_walk.specs.declared.Next.{Next}
+use Rattle.process_sm_walk.specs.declared.Next.the-variants.{Here, End}
+use Rattle.process_sm_walk.specs.declared.Places.{Places}
+
+-- a beat and a value as the machine takes them, and as lists have them
+abbrev pub entryOf : Float × Float → Entry
+entryOf e = record { beat = e .0; value = e .1 }
+
+abbrev pub pairOf : Entry → Float × Float
+pairOf entry = (entry .beat, entry .value)
+
+abbrev pub tempoOf : Float × Float → Change
+tempoOf e = Tempo (entryOf e)
+
+abbrev pub stopOf : Float × Float → Change
+stopOf e = Stop (entryOf e)
+
+-- one tempo among stops: before the first stop that isn't on an earlier beat, so before one on its own beat. What follows it is given
+abbrev pub weave : Float × Float → (List (Float × Float) → List Change) → List (Float × Float) → List Change
+weave tempo rest [] = tempoOf tempo ∷ rest []
+weave tempo rest (stop ∷ stops) = pick (le (tempo .0) (stop .0)) (tempoOf tempo ∷ rest (stop ∷ stops)) (stopOf stop ∷ weave tempo rest stops)
+
+abbrev pub merged : List (Float × Float) → List (Float × Float) → List Change
+merged [] stops = map stopOf stops
+merged (tempo ∷ tempos) stops = weave tempo (merged tempos) stops
+
+-- ---- the changes from a place in each list on
+
+abbrev pub left : List (Float × Float) → List (Float × Float) → Places → List Change
+left tempos stops places = merged (drop (places .tempo) tempos) (drop (places .stop) stops)
+
+-- the places after a change
+abbrev pub advanced : Places → Change → Places
+advanced places (Tempo entry) = record { tempo = places .tempo + 1; stop = places .stop }
+advanced places (Stop entry) = record { tempo = places .tempo; stop = places .stop + 1 }
+
+-- the change that comes next
+abbrev pub headOf : List Change → Next
+headOf [] = End
+headOf (change ∷ changes) = Here change

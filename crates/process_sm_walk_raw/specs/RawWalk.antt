@@ -1,0 +1,24 @@
+-- Raw tempos and stops, made changes and walked. Definitions only.
+use Prim.Native.Nat.{ℕ}
+use mathlib.Core.List.{List}
+use lib.Dec.{eqb}
+use lib.ListN.{length}
+use lib.Ieee.{Float}
+use Rattle.picks.specs.Pick.{pick}
+use Rattle.process_raw.specs.RawLists.{rawNumbers}
+use Rattle.process_sm_changes.specs.SmChanges.{smChanges}
+use Rattle.process_sm_walk.specs.declared.Walked.{Walked}
+use Rattle.process_sm_walk.specs.Columns.{Columns, most}
+use Rattle.process_sm_walk.specs.Walking.{hasRoom, WalkLaid}
+
+-- the number of both lists, then 7 where the most that their changes can write has no room
+unfoldable pub walkedNumber : (tempoBeats tempoValues stopBeats stopValues : List Float) → Columns → ℕ
+walkedNumber tempoBeats tempoValues stopBeats stopValues into =
+    pick (eqb (rawNumbers tempoBeats tempoValues stopBeats stopValues) 0)
+    (pick (hasRoom (most (length (smChanges tempoBeats tempoValues)) (length (smChanges stopBeats stopValues))) into) 0 7)
+    (rawNumbers tempoBeats tempoValues stopBeats stopValues)
+
+-- the one outcome: what the walk lays of the changes of both lists
+abbrev pub RawWalked : (tempoBeats tempoValues stopBeats stopValues : List Float) → Walked → Columns → Columns → Type 0
+RawWalked tempoBeats tempoValues stopBeats stopValues outcome old new =
+    WalkLaid (smChanges tempoBeats tempoValues) (smChanges stopBeats stopValues) (walkedNumber tempoBeats tempoValues stopBeats stopValues old) outcome old new

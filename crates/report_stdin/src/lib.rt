@@ -1,0 +1,148 @@
+// The report program's input, read from standard input in pieces to its end.
+use libc::STDERR_FILENO;
+use libc::STDIN_FILENO;
+use report_form::Reading;
+ghost use mathlib.Core.Path.{_≡_};
+ghost use mathlib.Core.Bool.{false};
+ghost use Rattle.report_form.specs.Form.{start, stepOf, whole};
+ghost use Rattle.report_stdin.specs.Fed.{Fed};
+ghost use Rattle.report_stdin.specs.Answers.{moreComes, afterAnswer};
+
+// How far the input is read after a piece, and whether another may come.
+struct Piece {
+    more: bool,
+    reading: Reading,
+}
+
+// An input that was not read to its end is none of the form, however far it was read: it counts as fed a byte that no form has.
+fn cut_short(reading: Reading) -> Reading
+    ensures { λ r. ⌜ r ≡ stepOf reading 0 ⌝ }
+    ensures { λ r. ⌜ whole r ≡ false ⌝ }
+{
+    io::write_all(
+        STDERR_FILENO,
+        b"report: standard input was not read to its end: a read failed\n",
+    );
+    report_form::step(reading, 0)
+}
+
+// What a read's answer says of the input: above 0 there may be more of it, 0 is its end, and below 0 the read failed.
+fn answered(got: isize, reading: Reading) -> Piece
+    ensures { λ r. ⌜ r .more ≡ moreComes got ⌝ }
+    ensures { λ r. ⌜ r .reading ≡ afterAnswer got reading ⌝ }
+{
+    if got < 0 {
+        return Piece {
+            more: false,
+            reading: cut_short(reading),
+        };
+    }
+    Piece {
+        more: got > 0,
+        reading: reading,
+    }
+}
+
+fn read_piece(
+    reading: Reading,
+    counts: &mut [u64],
+    bpm_beats: &mut [f64],
+    bpm_values: &mut [f64],
+    stop_beats: &mut [f64],
+    stop_values: &mut [f64],
+    delay_beats: &mut [f64],
+    delay_values: &mut [f64],
+    warp_beats: &mut [f64],
+    warp_values: &mut [f64],
+    speed_beats: &mut [f64],
+    speed_ratios: &mut [f64],
+    speed_delays: &mut [f64],
+    speed_units: &mut [u8],
+    scroll_beats: &mut [f64],
+    scroll_values: &mut [f64],
+    fake_beats: &mut [f64],
+    fake_values: &mut [f64],
+) -> Piece
+    ensures { λ r. ⌜ Fed reading (r .reading) (now («counts» .entry)) (now («counts» .exit)) (now («bpm_beats» .entry)) (now («bpm_beats» .exit)) (now («bpm_values» .entry)) (now («bpm_values» .exit)) (now («stop_beats» .entry)) (now («stop_beats» .exit)) (now («stop_values» .entry)) (now («stop_values» .exit)) (now («delay_beats» .entry)) (now («delay_beats» .exit)) (now («delay_values» .entry)) (now («delay_values» .exit)) (now («warp_beats» .entry)) (now («warp_beats» .exit)) (now («warp_values» .entry)) (now («warp_values» .exit)) (now («speed_beats» .entry)) (now («speed_beats» .exit)) (now («speed_ratios» .entry)) (now («speed_ratios» .exit)) (now («speed_delays» .entry)) (now («speed_delays» .exit)) (now («speed_units» .entry)) (now («speed_units» .exit)) (now («scroll_beats» .entry)) (now («scroll_beats» .exit)) (now («scroll_values» .entry)) (now («scroll_values» .exit)) (now («fake_beats» .entry)) (now («fake_beats» .exit)) (now («fake_values» .entry)) (now («fake_values» .exit)) ⌝ }
+{
+    let mut piece = [0u8; 4096];
+    let got = libc::read(STDIN_FILENO, &mut piece);
+    let count = io::count(got, &piece);
+    let next = report_feed::feed(
+        reading,
+        &piece[..count],
+        counts,
+        bpm_beats,
+        bpm_values,
+        stop_beats,
+        stop_values,
+        delay_beats,
+        delay_values,
+        warp_beats,
+        warp_values,
+        speed_beats,
+        speed_ratios,
+        speed_delays,
+        speed_units,
+        scroll_beats,
+        scroll_values,
+        fake_beats,
+        fake_values,
+    );
+    answered(got, next)
+}
+
+// All of standard input, fed from the first byte on, and a byte that no form has where a read failed. A proved loop has to end, and nothing
+// says that the input does: the turns are counted down from a number that no run uses up.
+pub fn read_all(
+    counts: &mut [u64],
+    bpm_beats: &mut [f64],
+    bpm_values: &mut [f64],
+    stop_beats: &mut [f64],
+    stop_values: &mut [f64],
+    delay_beats: &mut [f64],
+    delay_values: &mut [f64],
+    warp_beats: &mut [f64],
+    warp_values: &mut [f64],
+    speed_beats: &mut [f64],
+    speed_ratios: &mut [f64],
+    speed_delays: &mut [f64],
+    speed_units: &mut [u8],
+    scroll_beats: &mut [f64],
+    scroll_values: &mut [f64],
+    fake_beats: &mut [f64],
+    fake_values: &mut [f64],
+) -> Reading
+    ensures { λ r. ⌜ Fed start r (now («counts» .entry)) (now («counts» .exit)) (now («bpm_beats» .entry)) (now («bpm_beats» .exit)) (now («bpm_values» .entry)) (now («bpm_values» .exit)) (now («stop_beats» .entry)) (now («stop_beats» .exit)) (now («stop_values» .entry)) (now («stop_values» .exit)) (now («delay_beats» .entry)) (now («delay_beats» .exit)) (now («delay_values» .entry)) (now («delay_values» .exit)) (now («warp_beats» .entry)) (now («warp_beats» .exit)) (now («warp_values» .entry)) (now («warp_values» .exit)) (now («speed_beats» .entry)) (now («speed_beats» .exit)) (now («speed_ratios» .entry)) (now («speed_ratios» .exit)) (now («speed_delays» .entry)) (now («speed_delays» .exit)) (now («speed_units» .entry)) (now («speed_units» .exit)) (now («scroll_beats» .entry)) (now («scroll_beats» .exit)) (now («scroll_values» .entry)) (now («scroll_values» .exit)) (now («fake_beats» .entry)) (now («fake_beats» .exit)) (now («fake_values» .entry)) (now («fake_values» .exit)) ⌝ }
+{
+    let mut reading = report_form::begin();
+    let mut turns = u64::MAX;
+    while turns > 0 {
+        let piece = read_piece(
+            reading,
+            counts,
+            bpm_beats,
+            bpm_values,
+            stop_beats,
+            stop_values,
+            delay_beats,
+            delay_values,
+            warp_beats,
+            warp_values,
+            speed_beats,
+            speed_ratios,
+            speed_delays,
+            speed_units,
+            scroll_beats,
+            scroll_values,
+            fake_beats,
+            fake_values,
+        );
+        reading = piece.reading;
+        if !piece.more {
+            return reading;
+        }
+        turns -= 1;
+    }
+    cut_short(reading)
+}

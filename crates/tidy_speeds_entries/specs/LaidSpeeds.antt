@@ -1,0 +1,41 @@
+-- A list of speeds in four lent columns. Definitions only.
+use Prim.Native.Nat.{ℕ, min}
+use mathlib.Core.List.{List, map}
+use mathlib.Core.Path.{_≡_}
+use lib.ListN.{length}
+use lib.Ieee.{Float}
+use Rattle.order.specs.Order.{laid}
+use Rattle.order.specs.Entries.{first}
+use Rattle.columns.specs.declared.Outcome.{Outcome}
+use Rattle.columns.specs.Laying.{roomNumber, given, columnLaid}
+use Rattle.tidy_speeds_entries.specs.Speed.{SpeedEntry}
+
+abbrev pub ratioOf : SpeedEntry → Float
+ratioOf e = e .1 .0
+
+abbrev pub delayOf : SpeedEntry → Float
+delayOf e = e .1 .1 .0
+
+abbrev pub unitOf : SpeedEntry → ℕ
+unitOf e = e .1 .1 .1
+
+-- the least of four
+abbrev pub leastOf : ℕ → ℕ → ℕ → ℕ → ℕ
+leastOf a b c d = min (min a b) (min c d)
+
+-- The one outcome of a call whose result is a list of speeds: the number, the count, and the four rooms to their last place. The shortest room counts.
+pub record LaidSpeeds (tests : ℕ) (result : List SpeedEntry) (outcome : Outcome)
+    (beatsOld beatsNew ratiosOld ratiosNew delaysOld delaysNew : List Float) (unitsOld unitsNew : List ℕ) : Type 0 where
+  pub number : outcome .number ≡ roomNumber tests (length result) (leastOf (length beatsOld) (length ratiosOld) (length delaysOld) (length unitsOld))
+  pub count : outcome .count ≡ length (given (outcome .number) result)
+  pub beatsAre : beatsNew ≡ columnLaid first (outcome .number) result beatsOld
+  pub ratiosAre : ratiosNew ≡ columnLaid ratioOf (outcome .number) result ratiosOld
+  pub delaysAre : delaysNew ≡ columnLaid delayOf (outcome .number) result delaysOld
+  pub unitsAre : unitsNew ≡ columnLaid unitOf (outcome .number) result unitsOld
+
+-- a list over the fronts of four rooms
+pub record LaidRooms (list : List SpeedEntry) (beatsOld beatsNew ratiosOld ratiosNew delaysOld delaysNew : List Float) (unitsOld unitsNew : List ℕ) : Type 0 where
+  pub beatsAre : beatsNew ≡ laid (map first list) beatsOld
+  pub ratiosAre : ratiosNew ≡ laid (map ratioOf list) ratiosOld
+  pub delaysAre : delaysNew ≡ laid (map delayOf list) delaysOld
+  pub unitsAre : unitsNew ≡ laid (map unitOf list) unitsOld

@@ -1,0 +1,27 @@
+-- What the one pass over speeds in order writes. Definitions only.
+use Prim.Native.Nat.{ℕ}
+use mathlib.Core.Bool.{false}
+use mathlib.Core.List.{List, map}
+use lib.IntN.{pos}
+use lib.Ieee.{Float, fin}
+use Rattle.tidy_rows.specs.RowTidying.{rowKeyAt}
+use Rattle.tidy_kept.specs.Passing.{Waiting, written}
+use Rattle.columns.specs.declared.Outcome.{Outcome}
+use Rattle.tidy_speeds_entries.specs.Speed.{SpeedValue, SpeedEntry, valueOf, nearSpeed, noSpeed, speedEntries, speedOnRow}
+use Rattle.tidy_speeds_entries.specs.LaidSpeeds.{LaidSpeeds}
+use Rattle.tidy_speeds_ordered.specs.declared.Held.{Held}
+
+abbrev pub waiting : Held → Waiting Float SpeedValue
+waiting s = record { before = valueOf (s .before); waits = s .waits; row = s .row; beat = s .beat; value = valueOf (s .value) }
+
+-- before the first entry
+abbrev pub unheld : Waiting Float SpeedValue
+unheld = record { before = noSpeed; waits = false; row = 0; beat = fin false 0 (pos 0); value = noSpeed }
+
+-- what is written, as it was given
+abbrev pub keptSpeeds : List SpeedEntry → List SpeedEntry
+keptSpeeds list = written rowKeyAt nearSpeed unheld list
+
+-- the one outcome: what is written, each on its row. Columns that differ in length are read as far as the shortest goes
+abbrev pub OrderedTidied : (beats ratios delays : List Float) (units : List ℕ) → Outcome → (beatsOld beatsNew ratiosOld ratiosNew delaysOld delaysNew : List Float) (unitsOld unitsNew : List ℕ) → Type 0
+OrderedTidied beats ratios delays units outcome = LaidSpeeds 0 (map speedOnRow (keptSpeeds (speedEntries beats ratios delays units))) outcome

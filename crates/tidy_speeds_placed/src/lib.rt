@@ -1,0 +1,390 @@
+// Speeds in no order: placed one by one in four working columns.
+use columns::Outcome;
+use tidy_kept::Change;
+use tidy_speeds_entries::Speed;
+ghost use mathlib.Core.Path.{_≡_};
+ghost use mathlib.Core.Bool.{true, false};
+ghost use mathlib.Core.List.{map};
+ghost use Prim.Native.Nat.{_-_, _≤_, _<_};
+ghost use lib.Dec.{ltb};
+ghost use lib.ListN.{length, take, getD, set};
+ghost use lib.Ieee.{nan};
+ghost use Rattle.picks.specs.Pick.{pick};
+ghost use Rattle.order.specs.Order.{neverFalls};
+ghost use Rattle.tidy_rows.specs.RowTidying.{rowKeyAt, onRow};
+ghost use Rattle.tidy_kept.specs.Changing.{countBy, Changed};
+ghost use Rattle.tidy_kept.specs.Placing.{PlacedOne, PlacedAll};
+ghost use Rattle.tidy_speeds_entries.specs.Speed.{valueOf, nearSpeed, noSpeed, speedValues, speedEntries, speedOnRow};
+ghost use Rattle.tidy_speeds_entries.specs.LaidSpeeds.{leastOf, LaidRooms};
+ghost use Rattle.tidy_speeds_placed.specs.PlacedSpeeds.{listedSpeeds, PlacedTidied};
+
+fn speed_at(ratios: &[f64], delays: &[f64], units: &[u8], i: usize) -> Speed
+    requires { ⌜ (i < length (now ratios)) × (i < length (now delays)) × (i < length (now units)) ⌝ }
+    ensures { λ r. ⌜ valueOf r ≡ getD (speedValues (now (ratios .entry)) (now (delays .entry)) (now (units .entry))) i noSpeed ⌝ }
+{
+    Speed {
+        ratio: ratios[i],
+        delay: delays[i],
+        unit: units[i],
+    }
+}
+
+// Whether a speed is near that at a place of the first n.
+fn near_at(
+    ratios: &[f64],
+    delays: &[f64],
+    units: &[u8],
+    n: usize,
+    place: usize,
+    value: Speed,
+) -> bool
+    requires { ⌜ (n ≤ length (now ratios)) × (n ≤ length (now delays)) × (n ≤ length (now units)) ⌝ }
+    ensures { λ r. ⌜ r ≡ pick (ltb place n) (nearSpeed (valueOf value) (getD (speedValues (now (ratios .entry)) (now (delays .entry)) (now (units .entry))) place noSpeed)) false ⌝ }
+{
+    if place < n {
+        return tidy_speeds_entries::near(value, speed_at(ratios, delays, units, place));
+    }
+    false
+}
+
+fn change_at(
+    beats: &[f64],
+    ratios: &[f64],
+    delays: &[f64],
+    units: &[u8],
+    n: usize,
+    beat: f64,
+    value: Speed,
+) -> Change
+    requires { ⌜ (0 < n) × (n ≤ 1024) × (n ≤ length (now beats)) ⌝ }
+    requires { ⌜ (n ≤ length (now ratios)) × (n ≤ length (now delays)) × (n ≤ length (now units)) ⌝ }
+    requires { ⌜ neverFalls rowKeyAt (take n (now beats)) ≡ true ⌝ }
+    ensures { λ r. ⌜ Changed rowKeyAt nearSpeed (beat, valueOf value) (listedSpeeds n (now (beats .entry)) (now (ratios .entry)) (now (delays .entry)) (now (units .entry))) r ⌝ }
+{
+    let row = tidy_rows_sort::row_key(beat);
+    let at = tidy_by_rows::place_after(&beats[..n], row);
+    let last = tidy_kept::place_before(at);
+    let on_row = tidy_rows_sort::row_key(beats[last]) == row;
+    tidy_kept::change_of(
+        at,
+        on_row,
+        near_at(ratios, delays, units, n, last + 1, value),
+        near_at(
+            ratios,
+            delays,
+            units,
+            n,
+            tidy_kept::held_against(last, on_row),
+            value,
+        ),
+        near_at(ratios, delays, units, n, last, value),
+    )
+}
+
+// The speed that comes: the entry's own, or where the next one moves that one's.
+fn speed_of(ratios: &[f64], delays: &[f64], units: &[u8], change: Change, value: Speed) -> Speed
+    requires { ⌜ (change .moves ≡ true → 0 < change .high) ⌝ }
+    requires { ⌜ (change .high ≤ length (now ratios)) × (change .high ≤ length (now delays)) × (change .high ≤ length (now units)) ⌝ }
+    ensures { λ r. ⌜ valueOf r ≡ pick (change .moves) (getD (speedValues (now (ratios .entry)) (now (delays .entry)) (now (units .entry))) (change .high - 1) noSpeed) (valueOf value) ⌝ }
+{
+    if change.moves {
+        return speed_at(ratios, delays, units, change.high - 1);
+    }
+    value
+}
+
+// How many are kept, and whether they fall somewhere.
+struct Placed {
+    count: usize,
+    falls: bool,
+}
+
+// How many are left of n by a change.
+fn left_of(n: usize, change: Change) -> usize
+    requires { ⌜ (change .low ≤ change .high) × (change .high ≤ n) × (n ≤ 1024) ⌝ }
+    ensures { λ r. ⌜ r ≡ countBy n (change .low) (change .high) (change .comes) ⌝ }
+{
+    if change.comes {
+        return n - (change.high - change.low) + 1;
+    }
+    n - (change.high - change.low)
+}
+
+fn place_first(
+    beats: &mut [f64],
+    ratios: &mut [f64],
+    delays: &mut [f64],
+    units: &mut [u8],
+    beat: f64,
+    value: Speed,
+) -> Placed
+    requires { ⌜ (0 < length (now beats)) × (0 < length (now ratios)) × (0 < length (now delays)) × (0 < length (now units)) ⌝ }
+    ensures { λ r. ⌜ PlacedOne rowKeyAt nearSpeed (beat, valueOf value) 0 (now (beats .entry)) (speedValues (now (ratios .entry)) (now (delays .entry)) (now (units .entry))) (r .count) (r .falls) (now (beats .exit)) (speedValues (now (ratios .exit)) (now (delays .exit)) (now (units .exit))) ⌝ }
+{
+    beats[0] = beat;
+    ratios[0] = value.ratio;
+    delays[0] = value.delay;
+    units[0] = value.unit;
+    Placed {
+        count: 1,
+        falls: false,
+    }
+}
+
+fn place_later(
+    beats: &mut [f64],
+    ratios: &mut [f64],
+    delays: &mut [f64],
+    units: &mut [u8],
+    n: usize,
+    beat: f64,
+    value: Speed,
+) -> Placed
+    requires { ⌜ (0 < n) × (n < 1024) × (n < length (now beats)) ⌝ }
+    requires { ⌜ (length (now beats) ≡ length (now ratios)) × (length (now beats) ≡ length (now delays)) × (length (now beats) ≡ length (now units)) ⌝ }
+    requires { ⌜ neverFalls rowKeyAt (take n (now beats)) ≡ true ⌝ }
+    ensures { λ r. ⌜ PlacedOne rowKeyAt nearSpeed (beat, valueOf value) n (now (beats .entry)) (speedValues (now (ratios .entry)) (now (delays .entry)) (now (units .entry))) (r .count) (r .falls) (now (beats .exit)) (speedValues (now (ratios .exit)) (now (delays .exit)) (now (units .exit))) ⌝ }
+{
+    let change = change_at(beats, ratios, delays, units, n, beat, value);
+    let comes = speed_of(ratios, delays, units, change, value);
+    tidy_splice::splice(beats, n, change.low, change.high, change.comes, beat);
+    tidy_splice::splice(
+        ratios,
+        n,
+        change.low,
+        change.high,
+        change.comes,
+        comes.ratio,
+    );
+    tidy_splice::splice(
+        delays,
+        n,
+        change.low,
+        change.high,
+        change.comes,
+        comes.delay,
+    );
+    tidy_splice::splice_units(units, n, change.low, change.high, change.comes, comes.unit);
+    Placed {
+        count: left_of(n, change),
+        falls: change.falls,
+    }
+}
+
+fn place(
+    beats: &mut [f64],
+    ratios: &mut [f64],
+    delays: &mut [f64],
+    units: &mut [u8],
+    n: usize,
+    beat: f64,
+    value: Speed,
+) -> Placed
+    requires { ⌜ (n < 1024) × (n < length (now beats)) ⌝ }
+    requires { ⌜ (length (now beats) ≡ length (now ratios)) × (length (now beats) ≡ length (now delays)) × (length (now beats) ≡ length (now units)) ⌝ }
+    requires { ⌜ neverFalls rowKeyAt (take n (now beats)) ≡ true ⌝ }
+    ensures { λ r. ⌜ PlacedOne rowKeyAt nearSpeed (beat, valueOf value) n (now (beats .entry)) (speedValues (now (ratios .entry)) (now (delays .entry)) (now (units .entry))) (r .count) (r .falls) (now (beats .exit)) (speedValues (now (ratios .exit)) (now (delays .exit)) (now (units .exit))) ⌝ }
+{
+    if n == 0 {
+        return place_first(beats, ratios, delays, units, beat, value);
+    }
+    place_later(beats, ratios, delays, units, n, beat, value)
+}
+
+// Every entry, until one is to be placed in a kept list that falls: then `falls`, and the count is 0.
+fn place_all(
+    beats: &[f64],
+    ratios: &[f64],
+    delays: &[f64],
+    units: &[u8],
+    n: usize,
+    kept_beats: &mut [f64],
+    kept_ratios: &mut [f64],
+    kept_delays: &mut [f64],
+    kept_units: &mut [u8],
+) -> Placed
+    requires { ⌜ (n ≤ 1024) × (n ≡ leastOf (length (now beats)) (length (now ratios)) (length (now delays)) (length (now units))) ⌝ }
+    requires { ⌜ (length (now «kept_beats») ≡ 1024) × (length (now «kept_ratios») ≡ 1024) × (length (now «kept_delays») ≡ 1024) × (length (now «kept_units») ≡ 1024) ⌝ }
+    ensures { λ r. ⌜ PlacedAll rowKeyAt nearSpeed (speedEntries (now (beats .entry)) (now (ratios .entry)) (now (delays .entry)) (now (units .entry))) (r .count) (r .falls) (now («kept_beats» .exit)) (speedValues (now («kept_ratios» .exit)) (now («kept_delays» .exit)) (now («kept_units» .exit))) ⌝ }
+{
+    let mut kept = Placed {
+        count: 0,
+        falls: false,
+    };
+    let mut i = 0;
+    while i < n {
+        if kept.falls {
+            return Placed {
+                count: 0,
+                falls: true,
+            };
+        }
+        let value = speed_at(ratios, delays, units, i);
+        kept = place(
+            kept_beats,
+            kept_ratios,
+            kept_delays,
+            kept_units,
+            kept.count,
+            beats[i],
+            value,
+        );
+        i += 1;
+    }
+    Placed {
+        count: kept.count,
+        falls: false,
+    }
+}
+
+// An entry at a place of the rooms, on its row.
+fn write_speed(
+    out_beats: &mut [f64],
+    out_ratios: &mut [f64],
+    out_delays: &mut [f64],
+    out_units: &mut [u8],
+    at: usize,
+    beat: f64,
+    value: Speed,
+)
+    requires { ⌜ (at < length (now «out_beats»)) × (at < length (now «out_ratios»)) × (at < length (now «out_delays»)) × (at < length (now «out_units»)) ⌝ }
+    ensures { λ _. ⌜ now («out_beats» .exit) ≡ set (now («out_beats» .entry)) at (onRow beat) ⌝ }
+    ensures { λ _. ⌜ now («out_ratios» .exit) ≡ set (now («out_ratios» .entry)) at (value .ratio) ⌝ }
+    ensures { λ _. ⌜ now («out_delays» .exit) ≡ set (now («out_delays» .entry)) at (value .delay) ⌝ }
+    ensures { λ _. ⌜ now («out_units» .exit) ≡ set (now («out_units» .entry)) at (value .unit) ⌝ }
+{
+    out_beats[at] = tidy_rows_sort::on_row(beat);
+    out_ratios[at] = value.ratio;
+    out_delays[at] = value.delay;
+    out_units[at] = value.unit;
+}
+
+fn lay_rows(
+    beats: &[f64],
+    ratios: &[f64],
+    delays: &[f64],
+    units: &[u8],
+    count: usize,
+    out_beats: &mut [f64],
+    out_ratios: &mut [f64],
+    out_delays: &mut [f64],
+    out_units: &mut [u8],
+)
+    requires { ⌜ (count ≤ length (now beats)) × (count ≤ length (now ratios)) × (count ≤ length (now delays)) × (count ≤ length (now units)) ⌝ }
+    requires { ⌜ count ≤ leastOf (length (now «out_beats»)) (length (now «out_ratios»)) (length (now «out_delays»)) (length (now «out_units»)) ⌝ }
+    ensures { λ _. ⌜ LaidRooms (map speedOnRow (listedSpeeds count (now (beats .entry)) (now (ratios .entry)) (now (delays .entry)) (now (units .entry)))) (now («out_beats» .entry)) (now («out_beats» .exit)) (now («out_ratios» .entry)) (now («out_ratios» .exit)) (now («out_delays» .entry)) (now («out_delays» .exit)) (now («out_units» .entry)) (now («out_units» .exit)) ⌝ }
+{
+    let mut i = 0;
+    while i < count {
+        let value = speed_at(ratios, delays, units, i);
+        write_speed(
+            out_beats,
+            out_ratios,
+            out_delays,
+            out_units,
+            i,
+            beats[i],
+            value,
+        );
+        i += 1;
+    }
+}
+
+fn tidy_in(
+    beats: &[f64],
+    ratios: &[f64],
+    delays: &[f64],
+    units: &[u8],
+    n: usize,
+    kept_beats: &mut [f64],
+    kept_ratios: &mut [f64],
+    kept_delays: &mut [f64],
+    kept_units: &mut [u8],
+    out_beats: &mut [f64],
+    out_ratios: &mut [f64],
+    out_delays: &mut [f64],
+    out_units: &mut [u8],
+) -> Outcome
+    requires { ⌜ (n ≤ 1024) × (n ≡ leastOf (length (now beats)) (length (now ratios)) (length (now delays)) (length (now units))) ⌝ }
+    requires { ⌜ (length (now «kept_beats») ≡ 1024) × (length (now «kept_ratios») ≡ 1024) × (length (now «kept_delays») ≡ 1024) × (length (now «kept_units») ≡ 1024) ⌝ }
+    ensures { λ r. ⌜ PlacedTidied (now (beats .entry)) (now (ratios .entry)) (now (delays .entry)) (now (units .entry)) r (now («out_beats» .entry)) (now («out_beats» .exit)) (now («out_ratios» .entry)) (now («out_ratios» .exit)) (now («out_delays» .entry)) (now («out_delays» .exit)) (now («out_units» .entry)) (now («out_units» .exit)) ⌝ }
+{
+    let kept = place_all(
+        beats,
+        ratios,
+        delays,
+        units,
+        n,
+        kept_beats,
+        kept_ratios,
+        kept_delays,
+        kept_units,
+    );
+    if kept.falls {
+        return columns::refused(limits::FALLS);
+    }
+    if kept.count
+        > tidy_speeds_entries::least_of(
+            out_beats.len(),
+            out_ratios.len(),
+            out_delays.len(),
+            out_units.len(),
+        )
+    {
+        return columns::refused(limits::NO_ROOM);
+    }
+    lay_rows(
+        kept_beats,
+        kept_ratios,
+        kept_delays,
+        kept_units,
+        kept.count,
+        out_beats,
+        out_ratios,
+        out_delays,
+        out_units,
+    );
+    Outcome {
+        number: limits::TAKEN,
+        count: kept.count,
+    }
+}
+
+// The kept entries of a list whatever its order, placed one by one, each on its row: 1 above 1,024 entries, 6 where one is placed in a kept list that falls, 7 without room.
+// Columns are read as far as the shortest goes.
+pub fn tidy_placed(
+    beats: &[f64],
+    ratios: &[f64],
+    delays: &[f64],
+    units: &[u8],
+    out_beats: &mut [f64],
+    out_ratios: &mut [f64],
+    out_delays: &mut [f64],
+    out_units: &mut [u8],
+) -> Outcome
+    ensures { λ r. ⌜ PlacedTidied (now (beats .entry)) (now (ratios .entry)) (now (delays .entry)) (now (units .entry)) r (now («out_beats» .entry)) (now («out_beats» .exit)) (now («out_ratios» .entry)) (now («out_ratios» .exit)) (now («out_delays» .entry)) (now («out_delays» .exit)) (now («out_units» .entry)) (now («out_units» .exit)) ⌝ }
+{
+    let n = tidy_speeds_entries::least_of(beats.len(), ratios.len(), delays.len(), units.len());
+    if n > 1024 {
+        return columns::refused(limits::TOO_LONG);
+    }
+    let mut kept_beats = [0.0; 1024];
+    let mut kept_ratios = [0.0; 1024];
+    let mut kept_delays = [0.0; 1024];
+    let mut kept_units = [0; 1024];
+    tidy_in(
+        beats,
+        ratios,
+        delays,
+        units,
+        n,
+        &mut kept_beats,
+        &mut kept_ratios,
+        &mut kept_delays,
+        &mut kept_units,
+        out_beats,
+        out_ratios,
+        out_delays,
+        out_units,
+    )
+}
