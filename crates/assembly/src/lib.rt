@@ -1,5 +1,5 @@
 // Assembly: the seven raw lists of a chart as the f32 columns of a timing.
-use process::TimingFormat;
+use chart::TimingFormat;
 use limits::Kind;
 ghost use mathlib.Core.Path.{_≡_};
 ghost use lib.ListN.{length};
@@ -92,12 +92,7 @@ fn others_later(
         speed_room,
     );
     let scrolls = assembly_scrolls::scrolls_number(scroll_beats, scroll_values, scroll_room);
-    let fakes = limits::no_room(assembly_rows::rows_fit(
-        fake_beats,
-        fake_lengths,
-        true,
-        fake_room,
-    ));
+    let fakes = limits::no_room(assembly_rows::rows_fit(fake_beats, fake_lengths, true, fake_room));
     limits::lower_of(
         limits::lower_of(limits::lower_of(delays, speeds), scrolls),
         fakes,

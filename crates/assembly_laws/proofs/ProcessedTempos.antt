@@ -12,8 +12,8 @@ use Rattle.process_raw.specs.RawLists.{rawNumbers}
 use Rattle.process_raw.proofs.BothTaken.{both-taken}
 use Rattle.process_ssc.specs.Ssc.{stayed}
 use Rattle.process_sm_lent.specs.Sm.{written}
-use Rattle.process.specs.declared.TimingFormat.{TimingFormat}
-use Rattle.process.specs.declared.TimingFormat.the-variants.{Sm, Ssc}
+use Rattle.chart.specs.declared.TimingFormat.{TimingFormat}
+use Rattle.chart.specs.declared.TimingFormat.the-variants.{Sm, Ssc}
 use Rattle.process.specs.ByFormat.{tempoBeatsOf, tempoValuesOf, listsBy, processedLists}
 use Rattle.clock_tests.specs.TimingNumbers.{startsAtZero}
 use Rattle.process.proofs.ListsTaken.{lists-taken}

@@ -13,7 +13,7 @@ use Rattle.order.specs.Entries.{first, second}
 use Rattle.limits.specs.Refusals.{lower}
 use Rattle.limits.proofs.NoRefusal.{lower-none}
 use Rattle.process_raw.specs.RawLists.{rawNumbers}
-use Rattle.clock_walk.specs.Events.{Timing, timing}
+use Rattle.chart.specs.Timing.{Timing, timing}
 use Rattle.clock_tests.specs.TimingNumbers.{listsNumber, offsetNumber, offsetsNumber, orderNumber, timingNumber, beatNumber}
 use Rattle.clock.specs.Question.{freshCursor, question}
 use Rattle.clock_histories.proofs.FreshNumber.{fresh-number}
@@ -21,7 +21,7 @@ use Rattle.lookup.specs.Lookups.{judgableNumber}
 use Rattle.stops_for_sm.specs.Merging.{sources}
 use Rattle.stops_for_sm.specs.Filling as filling
 use Rattle.stops_for_sm.specs.Filling.{flat}
-use Rattle.process.specs.declared.TimingFormat.{TimingFormat}
+use Rattle.chart.specs.declared.TimingFormat.{TimingFormat}
 use Rattle.process.specs.ByFormat.{Lists}
 use Rattle.assembly_warps.specs.MergedWarps.{warpsNumber, threeNumber, mergedLists}
 use Rattle.assembly_rows.specs.AssembledRows.{changeBy, assembledRows}

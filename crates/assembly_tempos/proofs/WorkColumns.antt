@@ -21,7 +21,7 @@ use Rattle.process_raw.specs.declared.Processed as raw
 use Rattle.process_raw.specs.RawLists.{rawNumbers, roomFor}
 use Rattle.process_raw.proofs.BothTaken.{both-taken}
 use Rattle.process_sm_laws.proofs.ChangesTaken.{same-columns}
-use Rattle.process.specs.declared.TimingFormat.{TimingFormat}
+use Rattle.chart.specs.declared.TimingFormat.{TimingFormat}
 use Rattle.process.specs.ByFormat.{Lists, ListsLaid, processedLists}
 use Rattle.process.proofs.ListsTaken.{ListsTaken, lists-taken}
 use Rattle.process.proofs.TidiedOnGrid.{tempos-on-rows}

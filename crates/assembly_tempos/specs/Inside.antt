@@ -10,8 +10,8 @@ use Rattle.limits.specs.Numbers.{every}
 use Rattle.order.specs.Entries.{entries}
 use Rattle.tidy_rows.specs.RowTidying.{rowsNumber}
 use Rattle.process_raw.specs.RawLists.{roomFor}
-use Rattle.process.specs.declared.TimingFormat.{TimingFormat}
-use Rattle.process.specs.declared.TimingFormat.the-variants.{Sm}
+use Rattle.chart.specs.declared.TimingFormat.{TimingFormat}
+use Rattle.chart.specs.declared.TimingFormat.the-variants.{Sm}
 use Rattle.process.specs.ByFormat.{Lists}
 
 -- an f32, and no NaN

@@ -1,5 +1,5 @@
 // Assembly of tempos, stops and warps: processed by format, the made warps behind the given ones, tidied, and written as f32.
-use process::TimingFormat;
+use chart::TimingFormat;
 use columns::Outcome;
 ghost use mathlib.Core.Path.{_≡_};
 ghost use mathlib.Core.Bool.{true, false};
@@ -58,18 +58,8 @@ fn rooms_number(
     ensures { λ r. ⌜ ((offset : Float) → r ≡ threeRooms (listsOf (now («tempo_beats» .entry)) (now («tempo_values» .entry)) (now («stop_beats» .entry)) (now («stop_values» .entry)) (now («warp_beats» .entry)) (now («warp_lengths» .entry)) offset) «tempo_room» «stop_room» «warp_room») ⌝ }
 {
     let tempos = limits::no_room(tempo_beats.len() <= tempo_room);
-    let stops = limits::no_room(assembly_rows::rows_fit(
-        stop_beats,
-        stop_values,
-        false,
-        stop_room,
-    ));
-    let warps = limits::no_room(assembly_rows::rows_fit(
-        warp_beats,
-        warp_lengths,
-        true,
-        warp_room,
-    ));
+    let stops = limits::no_room(assembly_rows::rows_fit(stop_beats, stop_values, false, stop_room));
+    let warps = limits::no_room(assembly_rows::rows_fit(warp_beats, warp_lengths, true, warp_room));
     limits::lower_of(limits::lower_of(tempos, stops), warps)
 }
 

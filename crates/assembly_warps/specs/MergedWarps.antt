@@ -10,7 +10,7 @@ use Rattle.limits.specs.Refusals.{lower, listNumber}
 use Rattle.order.specs.Entries.{entries}
 use Rattle.process_raw.specs.declared.Processed.{Processed}
 use Rattle.process_raw.specs.RawLists.{rawNumbers}
-use Rattle.process.specs.declared.TimingFormat.{TimingFormat}
+use Rattle.chart.specs.declared.TimingFormat.{TimingFormat}
 use Rattle.process.specs.ByFormat.{Lists, processedLists, ListsLaid}
 
 -- given warps by themselves: too many, columns that differ in length, a beat, a length

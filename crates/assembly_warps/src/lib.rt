@@ -1,5 +1,5 @@
 // Tempos and stops processed, and the warps that they make merged with the warps of the chart.
-use process::TimingFormat;
+use chart::TimingFormat;
 use limits::Kind;
 use process_raw::Processed;
 ghost use mathlib.Core.Path.{_≡_};

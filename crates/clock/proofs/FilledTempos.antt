@@ -9,10 +9,10 @@ use lib.IntN.{ℤ}
 use lib.ListN.{length}
 use lib.Ieee.{Float}
 use Rattle.picks.specs.Pick.{pick}
-use Rattle.clock_walk.specs.Events.{Timing, timing}
+use Rattle.chart.specs.Timing.{Timing, timing}
 use Rattle.clock_walk.specs.Passing.{noTime, sixty}
 use Rattle.clock_walk.specs.Walk.{walk}
-use Rattle.clock_walk.specs.declared.State.{State}
+use Rattle.chart.specs.declared.State.{State}
 use Rattle.clock_walk.specs.declared.Walked.{Walked}
 use Rattle.clock_walk.proofs.EventsSpent.{passed-fits}
 use Rattle.clock.specs.Question.{filled}

@@ -3,7 +3,7 @@ use mathlib.Core.Path.{_≡_, refl}
 use borrow.Author.Tests.{eq-eqb}
 use lib.Ieee.{Float}
 use Rattle.limits.proofs.NoRefusal.{lower-none}
-use Rattle.clock_walk.specs.Events.{Timing}
+use Rattle.chart.specs.Timing.{Timing}
 use Rattle.clock_tests.specs.TimingNumbers.{listsNumber, offsetsNumber, orderNumber, timingNumber}
 use Rattle.clock.specs.Question.{freshCursor, made}
 

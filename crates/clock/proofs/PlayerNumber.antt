@@ -10,7 +10,7 @@ use Rattle.picks.specs.Pick.{pick}
 use Rattle.limits.specs.Numbers.{rangeOf, inRange}
 use Rattle.limits.specs.Refusals.{lower}
 use Rattle.limits.specs.declared.Kind.the-variants.{Beat}
-use Rattle.clock_walk.specs.Events.{Timing}
+use Rattle.chart.specs.Timing.{Timing}
 use Rattle.clock_walk.proofs.RowOrder.{no}
 use Rattle.clock_tests.specs.TimingNumbers.{beatNumber}
 use Rattle.clock_tests.specs.CursorNumbers.{placesIn, rowsIn, endIn, cursorNumber}

@@ -5,7 +5,7 @@ use mathlib.Core.Path.{_≡_, refl}
 use lib.Dec.{eqb}
 use lib.Ieee.{Float}
 use Rattle.picks.specs.Pick.{pick}
-use Rattle.clock_walk.specs.Events.{Timing}
+use Rattle.chart.specs.Timing.{Timing}
 use Rattle.clock_walk.specs.Passing.{noTime}
 use Rattle.clock_tests.specs.TimingNumbers.{beatNumber}
 use Rattle.clock.specs.Question.{refusedWith, byNumber, reply, asking, playerNumber, playerQuestion, questionNumber, question}

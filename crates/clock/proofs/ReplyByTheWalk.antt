@@ -9,7 +9,7 @@ use lib.Signed.{ltZ}
 use lib.ListN.{length}
 use lib.Ieee.{Float, binary64}
 use Rattle.rows.specs.Rows.{row}
-use Rattle.clock_walk.specs.Events.{Timing}
+use Rattle.chart.specs.Timing.{Timing}
 use Rattle.clock_walk.specs.Walk.{walk}
 use Rattle.clock_walk.specs.declared.Walked.{Walked}
 use Rattle.clock_tests.specs.TimingNumbers.{beatNumber}

@@ -10,10 +10,10 @@ use lib.Ieee.{Float, fin, binary64, sub, neg}
 use Rattle.picks.specs.Pick.{pick}
 use Rattle.rows.specs.Rows.{row}
 use Rattle.limits.specs.Refusals.{lower}
-use Rattle.clock_walk.specs.Events.{Timing}
+use Rattle.chart.specs.Timing.{Timing}
 use Rattle.clock_walk.specs.Passing.{noTime, sixty}
 use Rattle.clock_walk.specs.Walk.{walk}
-use Rattle.clock_walk.specs.declared.State.{State}
+use Rattle.chart.specs.declared.State.{State}
 use Rattle.clock_walk.specs.declared.Walked.{Walked}
 use Rattle.clock_tests.specs.TimingNumbers.{offsetsNumber, timingNumber, beatNumber}
 use Rattle.clock_tests.specs.CursorNumbers.{freshMark, cursorNumber}

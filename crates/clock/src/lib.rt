@@ -1,6 +1,6 @@
 // The clock: at what time is this beat? A cursor goes along a timing and is handed back with each answer.
+use chart::State;
 use clock_walk::Soon;
-use clock_walk::State;
 use clock_walk::Walked;
 ghost use mathlib.Core.Path.{_≡_};
 ghost use Prim.Native.Nat.{_+_, _<_, _≤_, _^_};
@@ -14,7 +14,7 @@ ghost use lib.IntN.{pos};
 ghost use lib.Signed.{ltZ};
 ghost use mathlib.Core.Bool.{true, false};
 ghost use Rattle.rows.specs.Rows.{row};
-ghost use Rattle.clock_walk.specs.Events.{timing};
+ghost use Rattle.chart.specs.Timing.{timing};
 ghost use Rattle.clock_walk.specs.Quiet.{onlyTempos};
 ghost use Rattle.clock_walk.specs.Soon.{walkedSoon};
 ghost use Rattle.clock_walk.specs.Walk.{walk};

@@ -13,9 +13,9 @@ use Rattle.rows.specs.Rows.{row, mostRow}
 use Rattle.rows.proofs.RowWithin.{row-within}
 use Rattle.limits.proofs.NoRefusal.{none-lower, lower-than-none}
 use Rattle.limits.proofs.TakenWithin.{taken-within}
-use Rattle.clock_walk.specs.Events.{Timing}
+use Rattle.chart.specs.Timing.{Timing}
 use Rattle.clock_walk.specs.Walk.{walk}
-use Rattle.clock_walk.specs.declared.State.{State}
+use Rattle.chart.specs.declared.State.{State}
 use Rattle.clock_tests.specs.TimingNumbers.{timingNumber, beatNumber}
 use Rattle.clock_tests.specs.CursorNumbers.{cursorNumber}
 use Rattle.clock_tests.proofs.TimingTaken.{beat-taken}

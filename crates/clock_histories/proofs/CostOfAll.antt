@@ -13,7 +13,7 @@ use lib.Signed.{ltZ}
 use lib.Ieee.{Float, binary64}
 use Rattle.picks.specs.Pick.{pick}
 use Rattle.rows.specs.Rows.{row, mostRow}
-use Rattle.clock_walk.specs.Events.{Timing}
+use Rattle.chart.specs.Timing.{Timing}
 use Rattle.clock_walk.specs.Walk.{one, left}
 use Rattle.clock_walk.proofs.EventsSpent.{spent}
 use Rattle.clock_tests.specs.TimingNumbers.{timingNumber, beatNumber}

@@ -10,8 +10,8 @@ use lib.Ieee.Scale.{finite}
 use Rattle.picks.specs.Pick.{pick}
 use Rattle.ieee.proofs.SizesAddUp.{at-most-finite}
 use Rattle.limits.specs.Numbers.{rowIn}
-use Rattle.clock_walk.specs.Events.{Timing}
-use Rattle.clock_walk.specs.declared.State.{State}
+use Rattle.chart.specs.Timing.{Timing}
+use Rattle.chart.specs.declared.State.{State}
 use Rattle.clock_tests.specs.CursorNumbers.{freshMark, timeAndEndIn, cursorNumber}
 use Rattle.clock_tests.proofs.CursorTaken.{cursor-taken}
 use Rattle.clock_histories.proofs.WarpEnds.{end-in}

@@ -1,7 +1,7 @@
 -- What is asked of the clock is kept, for every timing that is taken and every history. Assumes nothing.
 use mathlib.Core.Path.{_≡_}
 use lib.Ieee.{Float}
-use Rattle.clock_walk.specs.Events.{Timing}
+use Rattle.chart.specs.Timing.{Timing}
 use Rattle.clock_tests.specs.TimingNumbers.{timingNumber}
 use Rattle.clock_histories.specs.Demand.{used, Kept}
 use Rattle.clock_histories.proofs.AnyQuestion.{used-comes, time-alone, number-alone, steps-passed}

@@ -22,10 +22,11 @@ use Rattle.limits.specs.declared.Kind.the-variants as Kind
 use Rattle.limits.proofs.Every.{every-at}
 use Rattle.limits.proofs.ListTaken.{Taken}
 use Rattle.limits.proofs.TakenWithin.{taken-within}
-use Rattle.clock_walk.specs.Events.{Timing, next}
+use Rattle.chart.specs.Timing.{Timing}
+use Rattle.clock_walk.specs.Events.{next}
 use Rattle.clock_walk.specs.Passing.{earlyTempo, timeTo, arrived, passed, step, afterWarpEnd, afterTempo, afterDelay, afterStop, afterWarp}
 use Rattle.clock_walk.specs.Walk.{isEvent, isNothing, due, left, timeAt, walkOn, walk}
-use Rattle.clock_walk.specs.declared.State.{State}
+use Rattle.chart.specs.declared.State.{State}
 use Rattle.clock_walk.specs.declared.Next.{Next}
 use Rattle.clock_walk.specs.declared.Event.{Event}
 use Rattle.clock_walk.specs.declared.Event.the-variants.{WarpEnd, Tempo, Delay, Asked, Stop, Warp, NotFound}

@@ -7,7 +7,8 @@ use native.Mathlib.Omega.{arith}
 use lib.IntN.{ℤ, pos}
 use lib.Ieee.{Float, fin, add, sub, neg, mul, div, ofInt, lt, le, eq, sum}
 use Rattle.ieee.specs.Rounding.{rint, hold}
-use Rattle.clock_walk.specs.Events.{Timing, timing, sooner, offered, endOffered, nextEvent}
+use Rattle.chart.specs.Timing.{Timing, timing}
+use Rattle.clock_walk.specs.Events.{sooner, offered, endOffered, nextEvent}
 use Rattle.clock_walk.specs.Passing.{noTime, sixty, lastUpTo, tempoAt, earlyTempo, inForce, timeTo, afterWarpEnd, afterTempo, afterDelay, afterStop, larger, afterWarp, passed}
 use Rattle.clock_walk.specs.Walk.{timeAt, walkWithin, walkOn, walk}
 use Rattle.clock_walk.proofs.EventsSpent.{spent}

@@ -15,7 +15,7 @@ use Rattle.limits.specs.Refusals.{lower, listNumber}
 use Rattle.limits.specs.declared.Kind.the-variants.{Beat, Tempo, Pause, Value, Offset}
 use Rattle.limits.specs.declared.Range.{Range}
 use Rattle.limits.proofs.NoRefusal.{none-lower}
-use Rattle.clock_walk.specs.Events.{Timing}
+use Rattle.chart.specs.Timing.{Timing}
 use Rattle.clock_tests.specs.TimingNumbers.{rises, startsAtZero, listsNumber, offsetNumber, offsetsNumber, orderNumber, timingNumber, beatNumber}
 use Rattle.clock_tests.specs.CursorNumbers.{placesIn, rowsIn, endIn, cursorNumber}
 use Rattle.clock.specs.Question.{temposOf, freshCursor, refusedWith, byNumber, reply, cursorRefusal, playerNumber, questionNumber, question}

@@ -6,7 +6,7 @@ use borrow.Author.Tests.{eq-eqb}
 use lib.Ieee.{Float}
 use Rattle.limits.proofs.NoRefusal.{none-lower, lower-than-none}
 use Rattle.columns.specs.Laying.{given}
-use Rattle.clock_walk.specs.Events.{Timing}
+use Rattle.chart.specs.Timing.{Timing}
 use Rattle.clock_tests.specs.TimingNumbers.{timingNumber}
 use Rattle.clock.specs.Question.{asking}
 use Rattle.clock.specs.History.{asks, History, answers, lastCursor, numberOf, timeOf}

@@ -14,7 +14,7 @@ use Rattle.limits.specs.Numbers.{rangeOf, inRange, allIn}
 use Rattle.limits.specs.declared.Kind.the-variants.{Tempo}
 use Rattle.limits.proofs.Every.{every-rest, every-at}
 use Rattle.clock_walk.specs.Passing.{sixty, firstOr, lastUpTo, tempoAt, earlyTempo, inForce}
-use Rattle.clock_walk.specs.declared.State.{State}
+use Rattle.chart.specs.declared.State.{State}
 
 abbrev pub IsTempo : Float → Type 0
 IsTempo x = inRange (rangeOf Tempo) x ≡ true

@@ -16,7 +16,7 @@ use Rattle.rows.specs.Rows.{beatOf, mostRow}
 use Rattle.rows.proofs.RowValue.{beat-rounded}
 use Rattle.limits.proofs.TempoSizes.{tempo-at-most, tempo-at-least}
 use Rattle.clock_walk.specs.Passing.{noTime, sixty, inForce, timeTo}
-use Rattle.clock_walk.specs.declared.State.{State}
+use Rattle.chart.specs.declared.State.{State}
 use Rattle.clock_walk.proofs.RowsApart.{apart}
 use Rattle.clock_histories.proofs.TempoInForce.{IsTempo}
 

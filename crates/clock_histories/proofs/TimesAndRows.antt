@@ -10,7 +10,7 @@ use Rattle.ieee.proofs.Magnitude.{sized}
 use Rattle.ieee.proofs.SizesAddUp.{at-most-finite, sub-at-most}
 use Rattle.rows.specs.Rows.{row, mostRow}
 use Rattle.limits.proofs.TakenWithin.{taken-within}
-use Rattle.clock_walk.specs.Events.{Timing}
+use Rattle.chart.specs.Timing.{Timing}
 use Rattle.clock_walk.specs.Walk.{walk}
 use Rattle.clock_tests.specs.TimingNumbers.{timingNumber}
 use Rattle.clock_tests.proofs.TimingTaken.{timing-taken}

@@ -20,10 +20,10 @@ use Rattle.limits.specs.Numbers.{rangeOf, inRange, every, rowIn}
 use Rattle.limits.specs.declared.Kind.the-variants as Kind
 use Rattle.limits.proofs.ListTaken.{Taken}
 use Rattle.limits.proofs.TakenWithin.{taken-within}
-use Rattle.clock_walk.specs.Events.{Timing}
+use Rattle.chart.specs.Timing.{Timing}
 use Rattle.clock_walk.specs.Passing.{noTime, sixty}
 use Rattle.clock_walk.specs.Walk.{walk}
-use Rattle.clock_walk.specs.declared.State.{State}
+use Rattle.chart.specs.declared.State.{State}
 use Rattle.clock_walk.proofs.EventByEvent.{left-le}
 use Rattle.clock_tests.specs.TimingNumbers.{rises, risesFrom, startsAtZero, timingNumber}
 use Rattle.clock_tests.specs.CursorNumbers.{freshMark}

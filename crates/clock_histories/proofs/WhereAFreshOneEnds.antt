@@ -14,10 +14,10 @@ use Rattle.picks.specs.Pick.{pick}
 use Rattle.rows.specs.Rows.{row, mostRow}
 use Rattle.limits.specs.Numbers.{rangeOf, allIn}
 use Rattle.limits.specs.declared.Kind.the-variants.{Beat}
-use Rattle.clock_walk.specs.Events.{Timing}
+use Rattle.chart.specs.Timing.{Timing}
 use Rattle.clock_walk.specs.Passing.{sixty, firstOr, earlyTempo}
 use Rattle.clock_walk.specs.Walk.{walkOn, walk}
-use Rattle.clock_walk.specs.declared.State.{State}
+use Rattle.chart.specs.declared.State.{State}
 use Rattle.clock_walk.specs.declared.Walked.{Walked}
 use Rattle.clock_walk.proofs.WalkedOn.{walked-on}
 use Rattle.clock_walk.proofs.CountApart.{same-state, same-time}

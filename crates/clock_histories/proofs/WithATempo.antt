@@ -9,7 +9,7 @@ use lib.Dec.{eqb}
 use lib.ListN.{length}
 use lib.Ieee.{Float}
 use Rattle.picks.specs.Pick.{pick}
-use Rattle.clock_walk.specs.Events.{Timing}
+use Rattle.chart.specs.Timing.{Timing}
 use Rattle.clock_walk.specs.Passing.{noTime, sixty}
 use Rattle.clock_walk.specs.Walk.{left}
 use Rattle.clock.specs.Question.{filled, temposOf, freshState}

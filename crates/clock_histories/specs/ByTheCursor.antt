@@ -6,7 +6,7 @@ use lib.Dec.{eqb}
 use lib.Signed.{ltZ}
 use lib.Ieee.{Float, binary64}
 use Rattle.rows.specs.Rows.{row}
-use Rattle.clock_walk.specs.Events.{Timing}
+use Rattle.chart.specs.Timing.{Timing}
 use Rattle.clock_walk.specs.Walk.{one}
 use Rattle.clock.specs.History.{asks, History}
 use Rattle.clock.specs.declared.Cursor.{Cursor}

@@ -9,7 +9,7 @@ use mathlib.Core.List.{map}
 use mathlib.Core.Path.{_≡_}
 use lib.Ieee.{Float, binary64}
 use Rattle.rows.specs.Rows.{row}
-use Rattle.clock_walk.specs.Events.{Timing}
+use Rattle.chart.specs.Timing.{Timing}
 use Rattle.clock_walk.specs.Walk.{walk}
 use Rattle.clock.specs.Question.{filled, freshCursor, beginning, question}
 use Rattle.clock.specs.History.{Asking, asks, History, answers, lastCursor, countOf}

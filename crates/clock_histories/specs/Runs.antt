@@ -4,7 +4,7 @@ use mathlib.Core.List.{List, map, _++_}
 use mathlib.Core.Path.{_≡_}
 use lib.Ieee.{Float}
 use Rattle.order.specs.Order.{laid}
-use Rattle.clock_walk.specs.Events.{Timing}
+use Rattle.chart.specs.Timing.{Timing}
 use Rattle.clock.specs.History.{History, answers, numberOf, timeOf, countOf}
 use Rattle.clock_run.specs.declared.Ran.{Ran}
 use Rattle.clock_histories.specs.Demand.{used}

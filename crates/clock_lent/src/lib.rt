@@ -1,7 +1,7 @@
 // The clock over a cursor that its holder lends: it is copied out, asked, and what it has become is stored. For native programs too.
 use clock::Cursor;
 ghost use mathlib.Core.Path.{_≡_};
-ghost use Rattle.clock_walk.specs.Events.{timing};
+ghost use Rattle.chart.specs.Timing.{timing};
 ghost use Rattle.clock.specs.Question.{playerQuestion, question};
 ghost use Rattle.clock_run.specs.Run.{RunLaid};
 ghost use Rattle.clock_lent.specs.Reply.{replyOf};

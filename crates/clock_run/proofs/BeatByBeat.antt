@@ -10,8 +10,8 @@ use lib.IntN.{ℤ}
 use lib.Ieee.{Float, nan, binary64, sub}
 use Rattle.rows.specs.Rows.{row}
 use Rattle.order.proofs.LaidOverFront.{Laying, laying-none, laying-more, laying-all}
-use Rattle.clock_walk.specs.Events.{Timing}
-use Rattle.clock_walk.specs.declared.State.{State}
+use Rattle.chart.specs.Timing.{Timing}
+use Rattle.chart.specs.declared.State.{State}
 use Rattle.clock.specs.Question.{asking}
 use Rattle.clock.specs.History.{answers, lastCursor, numberOf, timeOf, countOf}
 use Rattle.clock.specs.declared.Cursor.{Cursor}

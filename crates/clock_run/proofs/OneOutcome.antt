@@ -3,7 +3,7 @@ use Prim.Native.Nat.{ℕ}
 use mathlib.Core.Path.{_≡_}
 use mathlib.Core.List.{List}
 use lib.Ieee.{Float}
-use Rattle.clock_walk.specs.Events.{Timing}
+use Rattle.chart.specs.Timing.{Timing}
 use Rattle.clock.specs.declared.Cursor.{Cursor}
 use Rattle.clock_run.specs.Run.{RunLaid}
 use Rattle.clock_run.specs.declared.Ran.{Ran}

@@ -12,12 +12,12 @@ use lib.ListN.{length, getD}
 use lib.Ieee.{Float, nan, binary64, add, sub, div}
 use Rattle.picks.specs.Pick.{pick}
 use Rattle.rows.specs.Rows.{row}
-use Rattle.clock_walk.specs.Events.{Timing}
+use Rattle.chart.specs.Timing.{Timing}
 use Rattle.clock_walk.specs.Passing.{noTime, sixty, inForce, timeTo, passed, afterTempo}
 use Rattle.clock_walk.specs.Walk.{walk}
 use Rattle.clock_walk.specs.Quiet.{farthest, rowAt, endRow}
 use Rattle.clock_walk.specs.Soon.{tempoPassed, rowAfter}
-use Rattle.clock_walk.specs.declared.State.{State}
+use Rattle.chart.specs.declared.State.{State}
 use Rattle.clock_walk.specs.declared.Walked.{Walked}
 use Rattle.clock_walk.specs.declared.Event.the-variants.{Tempo}
 use Rattle.clock_walk.proofs.OneTempo.{Others, past, none-soon, one-soon}

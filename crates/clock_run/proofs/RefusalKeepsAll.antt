@@ -6,7 +6,7 @@ use lib.Ieee.{Float}
 use borrow.Author.Tests.{ne-eqb}
 use Rattle.order.specs.Order.{laid}
 use Rattle.columns.specs.Laying.{given}
-use Rattle.clock_walk.specs.Events.{Timing}
+use Rattle.chart.specs.Timing.{Timing}
 use Rattle.clock.specs.History.{lastCursor}
 use Rattle.clock.specs.declared.Cursor.{Cursor}
 use Rattle.clock_run.specs.Run.{RunLaid}

@@ -11,7 +11,7 @@ use Rattle.picks.specs.Pick.{pick}
 use Rattle.limits.proofs.NoRefusal.{lower-none}
 use Rattle.order.specs.Order.{laid}
 use Rattle.columns.specs.Laying.{given}
-use Rattle.clock_walk.specs.Events.{Timing}
+use Rattle.chart.specs.Timing.{Timing}
 use Rattle.clock_tests.specs.TimingNumbers.{timingNumber}
 use Rattle.clock.specs.Question.{cursorRefusal}
 use Rattle.clock.specs.History.{lastCursor}

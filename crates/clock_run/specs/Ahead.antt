@@ -9,11 +9,11 @@ use lib.ListN.{length, getD}
 use lib.Ieee.{Float, nan, binary64, add, div}
 use Rattle.picks.specs.Pick.{pick}
 use Rattle.rows.specs.Rows.{beatOf}
-use Rattle.clock_walk.specs.Events.{Timing}
+use Rattle.chart.specs.Timing.{Timing}
 use Rattle.clock_walk.specs.Quiet.{farthest, rowAt, endRow}
 use Rattle.clock_walk.specs.Passing.{noTime, sixty}
 use Rattle.clock_walk.specs.Soon.{tempoPassed, rowAfter}
-use Rattle.clock_walk.specs.declared.State.{State}
+use Rattle.chart.specs.declared.State.{State}
 use Rattle.clock_tests.specs.TimingNumbers.{beatNumber}
 use Rattle.clock.specs.declared.Cursor.{Cursor}
 use Rattle.clock_run.specs.declared.Ahead.{Ahead}

@@ -8,7 +8,7 @@ use lib.Ieee.{Float}
 use Rattle.picks.specs.Pick.{pick}
 use Rattle.limits.specs.Refusals.{lower}
 use Rattle.columns.specs.Laying.{given, columnLaid}
-use Rattle.clock_walk.specs.Events.{Timing}
+use Rattle.chart.specs.Timing.{Timing}
 use Rattle.clock_tests.specs.TimingNumbers.{timingNumber}
 use Rattle.clock.specs.Question.{cursorRefusal}
 use Rattle.clock.specs.History.{ofBeat, History, answers, lastCursor, numberOf, timeOf, countOf}

@@ -1,10 +1,10 @@
 // A run: at what times are these beats? The timing and the cursor are tested once, and each beat is asked by the cursor that the one before it left.
+use chart::State;
 use clock::Cursor;
-use clock_walk::State;
 ghost use mathlib.Core.Path.{_≡_};
 ghost use Prim.Native.Nat.{_≤_};
 ghost use lib.ListN.{length};
-ghost use Rattle.clock_walk.specs.Events.{timing};
+ghost use Rattle.chart.specs.Timing.{timing};
 ghost use Rattle.clock_run.specs.Run.{roomNumber, RunLaid};
 ghost use Rattle.clock_run.specs.Asked.{AllAsked};
 ghost use Rattle.clock_run.specs.Ahead.{least, restUntil, lookOn, lookAhead, isBefore, quietTime, pastTempo};

@@ -9,7 +9,7 @@ use lib.Ieee.{Float}
 use lib.Ieee.Scale.{finite}
 use Rattle.picks.specs.Pick.{pick}
 use Rattle.limits.specs.Numbers.{rowIn}
-use Rattle.clock_walk.specs.declared.State.{State}
+use Rattle.chart.specs.declared.State.{State}
 use Rattle.clock_tests.specs.CursorNumbers.{freshMark, placesIn, rowsIn, endIn, timeAndEndIn, cursorNumber}
 
 -- the last two tests made as one

@@ -10,7 +10,7 @@ use Rattle.limits.specs.Refusals.{listNumber}
 use Rattle.limits.specs.declared.Kind.the-variants.{Beat, Tempo, Pause, Value, Offset}
 use Rattle.limits.proofs.NoRefusal.{lower-none}
 use Rattle.limits.proofs.ListTaken.{Taken, list-taken}
-use Rattle.clock_walk.specs.Events.{Timing}
+use Rattle.chart.specs.Timing.{Timing}
 use Rattle.clock_tests.specs.TimingNumbers.{rises, startsAtZero, listsNumber, offsetNumber, offsetsNumber, orderNumber, timingNumber, beatNumber}
 
 pub record TimingTaken (t : Timing) (offset global : Float) : Type 0 where

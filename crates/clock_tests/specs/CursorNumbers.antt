@@ -8,7 +8,7 @@ use lib.Ieee.{Float, fin, le}
 use lib.Ieee.Scale.{finite}
 use Rattle.picks.specs.Pick.{pick}
 use Rattle.limits.specs.Numbers.{rowIn}
-use Rattle.clock_walk.specs.declared.State.{State}
+use Rattle.chart.specs.declared.State.{State}
 
 -- the last asked row of a cursor that was not asked yet: the lowest i32, which no other is below
 abbrev pub freshMark : ℤ

@@ -11,7 +11,7 @@ use Rattle.rows.specs.Rows.{row}
 use Rattle.limits.specs.Numbers.{rangeOf, inRange}
 use Rattle.limits.specs.Refusals.{lower, listNumber}
 use Rattle.limits.specs.declared.Kind.the-variants.{Beat, Tempo, Pause, Value, Offset}
-use Rattle.clock_walk.specs.Events.{Timing}
+use Rattle.chart.specs.Timing.{Timing}
 
 -- each row is above the one before it
 unfoldable pub risesFrom : ℤ → List Float → Bool

@@ -1,11 +1,11 @@
 // What the clock refuses: of a timing with its offsets, of an asked beat, of a lent cursor.
+use chart::State;
 use limits::Kind;
-use clock_walk::State;
 ghost use mathlib.Core.Path.{_≡_};
 ghost use lib.Ieee.{binary64};
 ghost use lib.Ieee.Scale.{finite};
 ghost use Rattle.rows.specs.Rows.{row};
-ghost use Rattle.clock_walk.specs.Events.{timing};
+ghost use Rattle.chart.specs.Timing.{timing};
 ghost use Rattle.clock_tests.specs.TimingNumbers.{rises, startsAtZero, listsNumber, offsetNumber, offsetsNumber, orderNumber, timingNumber, beatNumber};
 ghost use Rattle.clock_tests.specs.CursorNumbers.{placesIn, rowsIn, endIn, timeAndEndIn, cursorNumber};
 

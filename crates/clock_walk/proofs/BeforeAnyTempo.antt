@@ -12,10 +12,11 @@ use lib.Signed.{ltZ}
 use lib.Ieee.{Float, nan, binary64}
 use Rattle.picks.specs.Pick.{pick}
 use Rattle.rows.specs.Rows.{row}
-use Rattle.clock_walk.specs.Events.{Timing, sooner, offered, nextEvent, next}
+use Rattle.chart.specs.Timing.{Timing}
+use Rattle.clock_walk.specs.Events.{sooner, offered, nextEvent, next}
 use Rattle.clock_walk.specs.Passing.{arrived, passed, step, afterWarpEnd, afterTempo, afterDelay, afterStop, afterWarp}
 use Rattle.clock_walk.specs.Walk.{isEvent, due, left, walkWithin, walkOn}
-use Rattle.clock_walk.specs.declared.State.{State}
+use Rattle.chart.specs.declared.State.{State}
 use Rattle.clock_walk.specs.declared.Next.{Next}
 use Rattle.clock_walk.specs.declared.Event.{Event}
 use Rattle.clock_walk.specs.declared.Event.the-variants.{WarpEnd, Tempo, Delay, Asked, Stop, Warp, NotFound}

@@ -4,10 +4,10 @@ use mathlib.Core.Bool.{Bool, true, false}
 use mathlib.Core.Path.{_≡_, refl}
 use lib.IntN.{ℤ}
 use lib.Ieee.{Float}
-use Rattle.clock_walk.specs.Events.{Timing}
+use Rattle.chart.specs.Timing.{Timing}
 use Rattle.clock_walk.specs.Passing.{step}
 use Rattle.clock_walk.specs.Walk.{due, left, walkWithin, walkOn}
-use Rattle.clock_walk.specs.declared.State.{State}
+use Rattle.chart.specs.declared.State.{State}
 
 module _ (early : Float) (t : Timing) (r : ℤ) where
   state-within : (f : ℕ) (b : Bool) (s : State) (m n : ℕ) → walkWithin f b early t r s m .state ≡ walkWithin f b early t r s n .state

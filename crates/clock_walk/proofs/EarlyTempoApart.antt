@@ -7,10 +7,11 @@ use native.Mathlib.Omega.{arith}
 use borrow.Author.Tests.{ne-eqb}
 use lib.IntN.{ℤ}
 use lib.Ieee.{Float, add, binary64}
-use Rattle.clock_walk.specs.Events.{Timing, next}
+use Rattle.chart.specs.Timing.{Timing}
+use Rattle.clock_walk.specs.Events.{next}
 use Rattle.clock_walk.specs.Passing.{inForce, timeTo, arrived, passed, step, afterWarpEnd, afterTempo, afterDelay, afterStop, afterWarp}
 use Rattle.clock_walk.specs.Walk.{due, left, timeAt, ended, walkWithin, walkOn}
-use Rattle.clock_walk.specs.declared.State.{State}
+use Rattle.chart.specs.declared.State.{State}
 use Rattle.clock_walk.specs.declared.Next.{Next}
 use Rattle.clock_walk.specs.declared.Walked.{Walked}
 use Rattle.clock_walk.specs.declared.Event.{Event}

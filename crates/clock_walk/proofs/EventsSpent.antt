@@ -6,10 +6,10 @@ use native.Mathlib.Omega.{arith}
 use lib.ListN.{length}
 use lib.IntN.{ℤ}
 use lib.Ieee.{Float}
-use Rattle.clock_walk.specs.Events.{Timing}
+use Rattle.chart.specs.Timing.{Timing}
 use Rattle.clock_walk.specs.Passing.{earlyTempo, step}
 use Rattle.clock_walk.specs.Walk.{due, left, walkWithin, walkOn, walk}
-use Rattle.clock_walk.specs.declared.State.{State}
+use Rattle.chart.specs.declared.State.{State}
 use Rattle.clock_walk.specs.declared.Walked.{Walked}
 use Rattle.clock_walk.proofs.EventByEvent.{left-falls, count-fits}
 

@@ -14,11 +14,12 @@ use mir.Syntax.{w32}
 use mir.Val.{SFits}
 use Rattle.picks.specs.Pick.{pick}
 use Rattle.rows.specs.Rows.{row}
-use Rattle.clock_walk.specs.Events.{Timing, nothingYet, sooner, offered, endOffered, nextEvent}
+use Rattle.chart.specs.Timing.{Timing}
+use Rattle.clock_walk.specs.Events.{nothingYet, sooner, offered, endOffered, nextEvent}
 use Rattle.clock_walk.specs.Passing.{arrived, passed, afterWarpEnd, afterTempo, afterDelay, afterStop, afterWarp}
 use Rattle.clock_walk.specs.Quiet.{farthest, rowAt, endRow}
 use Rattle.clock_walk.specs.Heads.{headsOf, headsAfter, nextOf}
-use Rattle.clock_walk.specs.declared.State.{State}
+use Rattle.chart.specs.declared.State.{State}
 use Rattle.clock_walk.specs.declared.Next.{Next}
 use Rattle.clock_walk.specs.declared.Heads.{Heads}
 use Rattle.clock_walk.specs.declared.Event.{Event}

@@ -12,13 +12,14 @@ use lib.ListN.{length, getD}
 use lib.Ieee.{Float, nan, binary64, add}
 use Rattle.picks.specs.Pick.{pick}
 use Rattle.rows.specs.Rows.{row}
-use Rattle.clock_walk.specs.Events.{Timing, next}
+use Rattle.chart.specs.Timing.{Timing}
+use Rattle.clock_walk.specs.Events.{next}
 use Rattle.clock_walk.specs.Passing.{noTime, earlyTempo, timeTo, passed, step, afterTempo}
 use Rattle.clock_walk.specs.Quiet.{farthest, rowAt, endRow, isLater, isNextLater, onlyTempos}
 use Rattle.clock_walk.specs.Heads.{headsOf}
 use Rattle.clock_walk.specs.Soon.{tempoPassed, soonOf, walkedSoon}
 use Rattle.clock_walk.specs.Walk.{timeAt, due, isEvent, walkOn, walk}
-use Rattle.clock_walk.specs.declared.State.{State}
+use Rattle.chart.specs.declared.State.{State}
 use Rattle.clock_walk.specs.declared.Next.{Next}
 use Rattle.clock_walk.specs.declared.Soon.{Soon}
 use Rattle.clock_walk.specs.declared.Event.the-variants.{Tempo, Asked}

@@ -13,7 +13,7 @@ use lib.Ieee.{Float, fin, nan, binary64, le}
 use Rattle.picks.specs.Pick.{pick}
 use Rattle.rows.specs.Rows.{beatOf}
 use Rattle.clock_walk.specs.Quiet.{endRow, notBefore, onlyTempos}
-use Rattle.clock_walk.specs.declared.State.{State}
+use Rattle.chart.specs.declared.State.{State}
 use Rattle.clock_walk.proofs.RowOrder.{no}
 
 pub place-within : (beats : List Float) (place : ℕ) (beat : Float) → notBefore beats place beat ≡ true → place ≤ length beats

@@ -4,10 +4,11 @@ use mathlib.Core.Bool.{Bool, true, false}
 use mathlib.Core.Path.{_≡_, refl}
 use lib.IntN.{ℤ}
 use lib.Ieee.{Float}
-use Rattle.clock_walk.specs.Events.{Timing, next}
+use Rattle.chart.specs.Timing.{Timing}
+use Rattle.clock_walk.specs.Events.{next}
 use Rattle.clock_walk.specs.Passing.{step}
 use Rattle.clock_walk.specs.Walk.{due, left, timeAt, walkWithin, walkOn}
-use Rattle.clock_walk.specs.declared.State.{State}
+use Rattle.chart.specs.declared.State.{State}
 
 module _ (early : Float) (t : Timing) (r : ℤ) where
   abbrev timeNext : State → Float

@@ -8,34 +8,12 @@ use lib.IntN.{ℤ, pos}
 use lib.Signed.{ltZ}
 use lib.Ieee.{Float, nan, binary64}
 use Rattle.picks.specs.Pick.{pick}
+use Rattle.chart.specs.Timing.{Timing}
 use Rattle.rows.specs.Rows.{row}
-use Rattle.clock_walk.specs.declared.State.{State}
+use Rattle.chart.specs.declared.State.{State}
 use Rattle.clock_walk.specs.declared.Next.{Next}
 use Rattle.clock_walk.specs.declared.Event.{Event}
 use Rattle.clock_walk.specs.declared.Event.the-variants.{WarpEnd, Tempo, Delay, Asked, Stop, Warp, NotFound}
-
--- the four lists, in columns
-pub record Timing : Type 0 where
-  pub tempoBeats : List Float
-  pub tempoValues : List Float
-  pub stopBeats : List Float
-  pub stopValues : List Float
-  pub delayBeats : List Float
-  pub delayValues : List Float
-  pub warpBeats : List Float
-  pub warpLengths : List Float
-
-abbrev pub timing : (tempoBeats tempoValues stopBeats stopValues delayBeats delayValues warpBeats warpLengths : List Float) → Timing
-timing tempoBeats tempoValues stopBeats stopValues delayBeats delayValues warpBeats warpLengths = record {
-  tempoBeats = tempoBeats;
-  tempoValues = tempoValues;
-  stopBeats = stopBeats;
-  stopValues = stopValues;
-  delayBeats = delayBeats;
-  delayValues = delayValues;
-  warpBeats = warpBeats;
-  warpLengths = warpLengths;
-}
 
 -- before anything is found: the greatest i32, which no row is below, so that an event on it is never found
 abbrev pub nothingYet : Next

@@ -5,7 +5,7 @@ use lib.Ieee.{Float, binary64}
 use Rattle.rows.specs.Rows.{row}
 use Rattle.clock_walk.specs.Events.{nothingYet, sooner}
 use Rattle.clock_walk.specs.Quiet.{farthest, rowAt, endRow}
-use Rattle.clock_walk.specs.declared.State.{State}
+use Rattle.chart.specs.declared.State.{State}
 use Rattle.clock_walk.specs.declared.Next.{Next}
 use Rattle.clock_walk.specs.declared.Heads.{Heads}
 use Rattle.clock_walk.specs.declared.Event.{Event}

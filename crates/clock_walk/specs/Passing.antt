@@ -8,8 +8,9 @@ use lib.IntN.{ℤ, pos, _-ℤ_}
 use lib.Ieee.{Float, fin, nan, binary64, add, div, lt, le}
 use Rattle.picks.specs.Pick.{pick}
 use Rattle.rows.specs.Rows.{beatOf}
-use Rattle.clock_walk.specs.Events.{Timing, next}
-use Rattle.clock_walk.specs.declared.State.{State}
+use Rattle.chart.specs.Timing.{Timing}
+use Rattle.clock_walk.specs.Events.{next}
+use Rattle.chart.specs.declared.State.{State}
 use Rattle.clock_walk.specs.declared.Next.{Next}
 use Rattle.clock_walk.specs.declared.Event.{Event}
 use Rattle.clock_walk.specs.declared.Event.the-variants.{WarpEnd, Tempo, Delay, Asked, Stop, Warp, NotFound}

@@ -9,7 +9,7 @@ use lib.ListN.{length, getD}
 use lib.Ieee.{Float, fin, nan, binary64, le}
 use Rattle.picks.specs.Pick.{pick}
 use Rattle.rows.specs.Rows.{row, beatOf}
-use Rattle.clock_walk.specs.declared.State.{State}
+use Rattle.chart.specs.declared.State.{State}
 
 -- where nothing is ahead: the greatest i32
 abbrev pub farthest : ℤ

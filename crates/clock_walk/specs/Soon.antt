@@ -10,7 +10,7 @@ use lib.Ieee.{Float, binary64, add}
 use Rattle.picks.specs.Pick.{pick}
 use Rattle.clock_walk.specs.Passing.{noTime, timeTo, passed}
 use Rattle.clock_walk.specs.Quiet.{farthest, rowAt, isLater, isNextLater}
-use Rattle.clock_walk.specs.declared.State.{State}
+use Rattle.chart.specs.declared.State.{State}
 use Rattle.clock_walk.specs.declared.Soon.{Soon}
 use Rattle.clock_walk.specs.declared.Walked.{Walked}
 use Rattle.clock_walk.specs.declared.Event.the-variants.{Tempo}

@@ -6,9 +6,10 @@ use lib.ListN.{length}
 use lib.IntN.{ℤ}
 use lib.Ieee.{Float, binary64, add}
 use Rattle.picks.specs.Pick.{pick}
-use Rattle.clock_walk.specs.Events.{Timing, next}
+use Rattle.chart.specs.Timing.{Timing}
+use Rattle.clock_walk.specs.Events.{next}
 use Rattle.clock_walk.specs.Passing.{earlyTempo, timeTo, step}
-use Rattle.clock_walk.specs.declared.State.{State}
+use Rattle.chart.specs.declared.State.{State}
 use Rattle.clock_walk.specs.declared.Next.{Next}
 use Rattle.clock_walk.specs.declared.Walked.{Walked}
 use Rattle.clock_walk.specs.declared.Event.{Event}

@@ -1,4 +1,5 @@
 // The walk through the events of a timing, up to an asked row.
+use chart::State;
 ghost use mathlib.Core.Path.{_≡_};
 ghost use mathlib.Core.Bool.{true};
 ghost use Prim.Native.Nat.{_<_, _^_};
@@ -6,26 +7,14 @@ ghost use lib.IntN.{_-ℤ_};
 ghost use lib.ListN.{length, getD};
 ghost use lib.Ieee.{nan, binary64, add};
 ghost use Rattle.rows.specs.Rows.{beatOf};
-ghost use Rattle.clock_walk.specs.Events.{timing, sooner};
+ghost use Rattle.chart.specs.Timing.{timing};
+ghost use Rattle.clock_walk.specs.Events.{sooner};
 ghost use Rattle.clock_walk.specs.Heads.{headsOf, headsAfter, nextOf};
 ghost use Rattle.clock_walk.specs.Passing.{noTime, tempoAt, earlyTempo, inForce, timeTo, larger, afterWarpEnd, afterTempo, afterDelay, afterStop, afterWarp, CanMove, passed as Passing·passed, firstOr, lastUpTo, sixty};
 ghost use Rattle.clock_walk.specs.Quiet.{rowAt, endRow, notBefore, isLater, isNextLater, onlyTempos};
 ghost use Rattle.clock_walk.specs.Soon.{tempoPassed, rowAfter, soonOf};
 ghost use Rattle.clock_walk.specs.declared.Event.the-variants.{Tempo};
 ghost use Rattle.clock_walk.specs.Walk.{isEvent, isNothing, timeAt, walk};
-
-// How far a walk has come: a place in each list, the row and the time of the last event passed, the warp's end and whether it is warping.
-#[repr(C)]
-pub struct State {
-    pub tempos: usize,
-    pub stops: usize,
-    pub delays: usize,
-    pub warps: usize,
-    pub row: i32,
-    pub warping: bool,
-    pub time: f64,
-    pub end: f64,
-}
 
 // What can be next, in the order in which events of one row come.
 pub enum Event {

@@ -2,8 +2,8 @@
 use Prim.Native.Nat.{ℕ}
 use lib.Dec.{eqb}
 use Rattle.picks.specs.Pick.{pick}
-use Rattle.process.specs.declared.TimingFormat.{TimingFormat}
-use Rattle.process.specs.declared.TimingFormat.the-variants.{Sm, Ssc}
+use Rattle.chart.specs.declared.TimingFormat.{TimingFormat}
+use Rattle.chart.specs.declared.TimingFormat.the-variants.{Sm, Ssc}
 
 -- 0 is SM, and any other number SSC
 unfoldable pub formatOf : ℕ → TimingFormat

@@ -1,6 +1,6 @@
 // Assembly under C names, for native programs to link.
 use assembly::Assembled;
-use process::TimingFormat;
+use chart::TimingFormat;
 ghost use mathlib.Core.Path.{_≡_};
 ghost use lib.ListN.{length};
 ghost use Rattle.limits.specs.Refusals.{lower};

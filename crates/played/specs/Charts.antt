@@ -2,7 +2,7 @@
 use Prim.Native.Nat.{ℕ}
 use mathlib.Core.List.{[], _∷_}
 use lib.Ieee.{Float}
-use Rattle.clock_walk.specs.Events.{Timing, timing}
+use Rattle.chart.specs.Timing.{Timing, timing}
 use Rattle.clock.specs.Question.{freshCursor, question}
 use Rattle.clock.specs.declared.Answer.{Answer}
 use Rattle.played.specs.Numbers.{whole}

@@ -18,8 +18,8 @@ use Rattle.tidy_tempos.specs.TempoTidying.{beatZero, sixty}
 use Rattle.process_raw.specs.declared.Processed.{Processed}
 use Rattle.process_raw.specs.RawLists.{rawNumber, rawNumbers}
 use Rattle.process_ssc.specs.Ssc.{SscProcessed}
-use Rattle.process.specs.declared.TimingFormat.{TimingFormat}
-use Rattle.process.specs.declared.TimingFormat.the-variants.{Sm, Ssc}
+use Rattle.chart.specs.declared.TimingFormat.{TimingFormat}
+use Rattle.chart.specs.declared.TimingFormat.the-variants.{Sm, Ssc}
 use Rattle.process.specs.ByFormat.{unmoved, noneGiven, tempoBeatsOf, tempoValuesOf, listsBy, processedLists, ListsLaid, ProcessedBy}
 
 -- ---- no warps: no number of their own, and nothing written

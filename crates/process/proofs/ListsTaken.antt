@@ -35,8 +35,8 @@ use Rattle.process_sm_laws.proofs.AssemblyTakes.{sm-stops-taken, sm-warps-taken
 use Rattle.process_sm_laws.proofs.ChangesInOrder.{changeKey}
 use Rattle.process_sm_lent.specs.Sm.{written}
 use Rattle.process_sm.proofs.FewTidied.{entries-few, few-tidied}
-use Rattle.process.specs.declared.TimingFormat.{TimingFormat}
-use Rattle.process.specs.declared.TimingFormat.the-variants.{Sm, Ssc}
+use Rattle.chart.specs.declared.TimingFormat.{TimingFormat}
+use Rattle.chart.specs.declared.TimingFormat.the-variants.{Sm, Ssc}
 use Rattle.process.specs.ByFormat.{Lists, tempoBeatsOf, tempoValuesOf, listsBy, processedLists}
 use Rattle.process.proofs.NoneGiven.{given-number, given-length}
 use Rattle.process.proofs.ChangesF32.{changes-f32, all-f32}

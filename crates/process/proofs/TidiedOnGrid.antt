@@ -20,8 +20,8 @@ use Rattle.process_raw.specs.RawLists.{rawNumbers}
 use Rattle.process_raw.proofs.BothTaken.{both-taken}
 use Rattle.process_ssc.specs.Ssc.{stayed}
 use Rattle.process_sm_lent.specs.Sm.{written}
-use Rattle.process.specs.declared.TimingFormat.{TimingFormat}
-use Rattle.process.specs.declared.TimingFormat.the-variants.{Sm, Ssc}
+use Rattle.chart.specs.declared.TimingFormat.{TimingFormat}
+use Rattle.chart.specs.declared.TimingFormat.the-variants.{Sm, Ssc}
 use Rattle.process.specs.ByFormat.{tempoBeatsOf, tempoValuesOf, listsBy, processedLists}
 use Rattle.process.proofs.NoneGiven.{given-number}
 use Rattle.process.proofs.TemposOnGrid.{OnGrid, Narrowed, SmTempo, zero-on-row, zero-allowed, sixty-taken, sm-narrowed, ssc-grid, sm-grid}

@@ -27,7 +27,7 @@ use Rattle.process_sm_laws.proofs.ChangesTaken.{changes-good, changes-most, in-
 use Rattle.process_sm_laws.proofs.ArrowsKeepBounds.{IsStop}
 use Rattle.process_sm_laws.proofs.WalkWithin.{GoodChange, Values, all-good}
 use Rattle.process_sm_laws.proofs.AssemblyTakes.{sm-stops-above}
-use Rattle.process.specs.declared.TimingFormat.the-variants.{Sm}
+use Rattle.chart.specs.declared.TimingFormat.the-variants.{Sm}
 use Rattle.process.specs.ByFormat.{tempoBeatsOf, tempoValuesOf, listsBy, processedLists}
 use Rattle.process.proofs.NoneGiven.{given-number}
 use Rattle.process.proofs.ChangesF32.{ValueF32, changes-f32, all-f32}

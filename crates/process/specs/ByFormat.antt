@@ -14,8 +14,8 @@ use Rattle.process_ssc.specs.Ssc as ssc
 use Rattle.process_sm_changes.specs.SmChanges.{smChanges}
 use Rattle.process_sm_walk.specs.Chart.{offsetOf}
 use Rattle.process_sm_lent.specs.Sm.{written, tidied, SmLaid}
-use Rattle.process.specs.declared.TimingFormat.{TimingFormat}
-use Rattle.process.specs.declared.TimingFormat.the-variants.{Sm, Ssc}
+use Rattle.chart.specs.declared.TimingFormat.{TimingFormat}
+use Rattle.chart.specs.declared.TimingFormat.the-variants.{Sm, Ssc}
 
 -- ---- tempos that are not there: one of 60 at beat 0
 

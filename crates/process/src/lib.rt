@@ -1,14 +1,9 @@
 // Raw tempos and stops, processed by the format of the chart.
+use chart::TimingFormat;
 use process_raw::Processed;
 ghost use mathlib.Core.Path.{_≡_};
 ghost use Rattle.process_raw.specs.RawLists.{rawNumbers};
 ghost use Rattle.process.specs.ByFormat.{listsBy, ListsLaid, ProcessedBy};
-
-// The file format of a chart, which decides how tempos and stops are meant.
-pub enum TimingFormat {
-    Sm,
-    Ssc,
-}
 
 fn process_given(
     format: TimingFormat,

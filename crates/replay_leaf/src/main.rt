@@ -49,9 +49,15 @@ fn same(call: u8, bits: u64, stored: u64) -> bool {
         b'c' => same_f32(ieee::narrow_f64(ieee_patterns::f64_of_bits(bits)), stored),
         b'd' => same_f64(rows::note_row_to_beat(row_of_bits(bits)), stored),
         b'e' => same_f32(rows::note_row_to_beat_f32(row_of_bits(bits)), stored),
-        b'f' => same_row(rows::beat_to_note_row(ieee_patterns::f64_of_bits(bits)), stored),
+        b'f' => same_row(
+            rows::beat_to_note_row(ieee_patterns::f64_of_bits(bits)),
+            stored,
+        ),
         b'g' => same_row(rows::beat_to_note_row_f32(f32_of_bits(bits)), stored),
-        b'h' => same_f64(rows::quantize_beat(ieee_patterns::f64_of_bits(bits)), stored),
+        b'h' => same_f64(
+            rows::quantize_beat(ieee_patterns::f64_of_bits(bits)),
+            stored,
+        ),
         b'i' => same_f32(rows::quantize_beat_f32(f32_of_bits(bits)), stored),
         _ => false,
     }

@@ -1,6 +1,7 @@
 // Replays the original's stored answers for the calls that take lists, from standard input: words of 16 hexadecimal digits, one a line.
 // The first says how many cases follow. A case is the call's number, then columns, each with its length before it, and the answer.
 // A room for results has 300 places, each of which holds the same number before the call; what the call has to write is stored.
+use chart::State;
 use clock::Answer;
 use clock::Cursor;
 use columns::Outcome;
@@ -8,7 +9,6 @@ use libc::STDIN_FILENO;
 use libc::STDOUT_FILENO;
 use lookup::Looked;
 use process_raw::Processed;
-use clock_walk::State;
 ghost use Prim.Native.Nat.{_≤_};
 ghost use lib.ListN.{length};
 

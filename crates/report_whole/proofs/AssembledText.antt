@@ -8,7 +8,7 @@ use Rattle.limits.specs.Refusals.{lower}
 use Rattle.columns.specs.Laying.{LaidList}
 use Rattle.process_raw.specs.RawLists.{roomFor}
 use Rattle.tidy_speeds_entries.specs.LaidSpeeds.{leastOf}
-use Rattle.process.specs.declared.TimingFormat.{TimingFormat}
+use Rattle.chart.specs.declared.TimingFormat.{TimingFormat}
 use Rattle.assembly_warps.specs.MergedWarps.{threeNumber, mergedLists}
 use Rattle.assembly_tempos.specs.AssembledTempos.{ThreeLaid}
 use Rattle.assembly_scrolls.specs.AssembledScrolls.{assembledScrolls}

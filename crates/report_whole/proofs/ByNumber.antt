@@ -5,7 +5,7 @@ use mathlib.Core.List.{List}
 use borrow.Author.Tests.{eq-eqb, ne-eqb}
 use lib.ListN.{take}
 use lib.Ieee.{Float}
-use Rattle.process.specs.declared.TimingFormat.{TimingFormat}
+use Rattle.chart.specs.declared.TimingFormat.{TimingFormat}
 use Rattle.report_form.specs.declared.Reading.{Reading}
 use Rattle.report_form.specs.Form.{answerOf}
 use Rattle.report_text.specs.Output.{answerLine}

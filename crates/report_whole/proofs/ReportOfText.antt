@@ -15,7 +15,7 @@ use Rattle.limits.specs.Numbers.{nothing}
 use Rattle.order.specs.Order.{laid}
 use Rattle.columns.specs.Each.{laidEach}
 use Rattle.columns.proofs.EachOverFront.{each-over-front}
-use Rattle.process.specs.declared.TimingFormat.{TimingFormat}
+use Rattle.chart.specs.declared.TimingFormat.{TimingFormat}
 use Rattle.report_form.specs.Form.{start, after, widthOf, whole, over, answerOf}
 use Rattle.report_form.specs.Stores.{placed, columnAfter}
 use Rattle.report_form.specs.Text.{Pair, bpm, stop, delay, warp, scroll, fake, Entry, pair, speed, pairList, entryList, text}

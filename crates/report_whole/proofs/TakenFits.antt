@@ -15,7 +15,7 @@ use Rattle.limits.proofs.NoRefusal.{lower-none}
 use Rattle.order.specs.Entries.{first, second}
 use Rattle.columns.specs.Laying.{roomNumber}
 use Rattle.tidy_speeds_entries.specs.LaidSpeeds.{ratioOf, delayOf, unitOf}
-use Rattle.process.specs.declared.TimingFormat.{TimingFormat}
+use Rattle.chart.specs.declared.TimingFormat.{TimingFormat}
 use Rattle.assembly_warps.specs.MergedWarps.{threeNumber}
 use Rattle.assembly_warps.proofs.Merging.{taken-fits}
 use Rattle.assembly_tempos.specs.AssembledTempos.{assembledTempos, assembledStops, assembledWarps, fitNumber, threeRooms}

@@ -14,7 +14,7 @@ use Rattle.order.specs.Order.{laid}
 use Rattle.order.specs.Entries.{first, second}
 use Rattle.columns.specs.Laying.{given, columnLaid, LaidList}
 use Rattle.tidy_speeds_entries.specs.LaidSpeeds.{ratioOf, delayOf, unitOf}
-use Rattle.process.specs.declared.TimingFormat.{TimingFormat}
+use Rattle.chart.specs.declared.TimingFormat.{TimingFormat}
 use Rattle.assembly_tempos.specs.AssembledTempos.{assembledTempos, assembledStops, assembledWarps, ThreeLaid}
 use Rattle.assembly_scrolls.specs.AssembledScrolls.{assembledScrolls}
 use Rattle.assembly.specs.declared.Assembled.{Assembled}

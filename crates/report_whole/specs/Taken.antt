@@ -9,7 +9,7 @@ use Rattle.ieee.specs.Narrowing.{narrow}
 use Rattle.limits.specs.Refusals.{lower}
 use Rattle.order.specs.Entries.{first, second}
 use Rattle.tidy_speeds_entries.specs.LaidSpeeds.{ratioOf, delayOf, unitOf}
-use Rattle.process.specs.declared.TimingFormat.{TimingFormat}
+use Rattle.chart.specs.declared.TimingFormat.{TimingFormat}
 use Rattle.process.specs.ByFormat.{Lists}
 use Rattle.assembly_warps.specs.MergedWarps.{threeNumber, mergedLists}
 use Rattle.assembly_tempos.specs.AssembledTempos.{assembledTempos, assembledStops, assembledWarps, verdict, threeRooms}

@@ -7,8 +7,8 @@ use lib.ListN.{length, getD, take, replicate}
 use lib.Ieee.{Float}
 use Rattle.picks.specs.Pick.{pick}
 use Rattle.limits.specs.Numbers.{nothing}
-use Rattle.process.specs.declared.TimingFormat.{TimingFormat}
-use Rattle.process.specs.declared.TimingFormat.the-variants.{Sm, Ssc}
+use Rattle.chart.specs.declared.TimingFormat.{TimingFormat}
+use Rattle.chart.specs.declared.TimingFormat.the-variants.{Sm, Ssc}
 use Rattle.report_form.specs.declared.Reading.{Reading}
 use Rattle.report_form.specs.Form.{start, after, answerOf}
 use Rattle.report_form.specs.Stores.{numberIn, unitIn, countIn, columnAfter}

@@ -1,5 +1,5 @@
 // The whole report of what was read of an input: its own number, or the answer to its lists.
-use process::TimingFormat;
+use chart::TimingFormat;
 use report_form::Reading;
 ghost use mathlib.Core.Path.{_≡_};
 ghost use lib.ListN.{take};

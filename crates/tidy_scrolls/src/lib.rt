@@ -1,7 +1,7 @@
 // Scroll tidying: entries in order are kept in one pass; others are placed one by one.
 use columns::Outcome;
-use tidy_kept::Change;
 use limits::Kind;
+use tidy_kept::Change;
 ghost use mathlib.Core.Path.{_≡_};
 ghost use mathlib.Core.Bool.{true, false};
 ghost use mathlib.Core.List.{map};

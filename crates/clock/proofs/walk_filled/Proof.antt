@@ -1,7 +1,7 @@
 -- `clock::walk_filled` walks the filled timing. Assumes nothing.
 use mathlib.Core.Path.{_≡_}
 use lib.Ieee.{ofBits}
-use Rattle.clock_walk.specs.Events.{Timing, timing}
+use Rattle.chart.specs.Timing.{Timing, timing}
 use Rattle.clock_walk.specs.Walk.{walk}
 use Rattle.clock_walk.proofs.BackFromBits.{back}
 use Rattle.clock.specs.Question.{filled}

@@ -44,7 +44,7 @@ use denote.Triple.Walked.{says, Stays, stay-ref, stay-none, stay-none-slice, gav
 use denote.Exit.{yes}
 use Rattle.clock_lent.proofs.CopiedBeside.{beside-none, beside, end-none, end-one}
 use Rattle.clock_run.specs.Run.{RunLaid}
-use Rattle.clock_walk.specs.Events.{timing}
+use Rattle.chart.specs.Timing.{timing}
 use Rattle.clock.specs.declared.Cursor.{Cursor}
 use Rattle.clock_run.specs.declared.Ran.{Ran}
 use Rattle.clock.proofs.Cursor as T

@@ -9,7 +9,7 @@ use lib.Ieee.{Float, nan, binary64, sub}
 use mir.Syntax.{w32}
 use mir.Val.{SFits, toZ, ofZ}
 use Rattle.rows.specs.Rows.{row}
-use Rattle.clock_walk.specs.Events.{timing}
+use Rattle.chart.specs.Timing.{timing}
 use Rattle.clock_walk.proofs.BackFromBits.{back}
 use Rattle.clock_walk.proofs.RowOrder.{no}
 use Rattle.clock_run.specs.Ahead.{isBefore, pastTempo}

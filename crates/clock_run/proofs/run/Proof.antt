@@ -1,7 +1,7 @@
 -- `clock_run::run` tests once and asks every beat. Assumes nothing.
 use mathlib.Core.Path.{_≡_, sym, _∙_}
 use lib.ListN.{length}
-use Rattle.clock_walk.specs.Events.{timing}
+use Rattle.chart.specs.Timing.{timing}
 use Rattle.clock.specs.Question.{temposOf, cursorRefusal}
 use Rattle.clock_run.specs.Run.{runNumber}
 use Rattle.clock_run.proofs.RunOutcome.{room-for-all, refused-run, taken-run}

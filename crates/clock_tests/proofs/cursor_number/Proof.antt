@@ -1,7 +1,7 @@
 -- `clock_tests::cursor_number` is `cursorNumber`. Assumes nothing.
 use mir.Syntax.{w32}
 use mir.Val.{toZ, ofZ}
-use Rattle.clock_walk.proofs.BackFromBits.{back}
+use mir.ValLaws.{toZ-ofZ}
 use borrow.Author.Tests.{not-true, not-false}
 use mathlib.Core.Path.{_≡_, sym, ap, _∙_}
 use mathlib.Core.Bool.{true, false}
@@ -27,8 +27,8 @@ returns-2 : tie.Need-returns-2
 unfolding cursorNumber
 returns-2 c =
     let s = c .before .before .before .before .before in
-    let last = back (s .args .state .row) (record { sfits = c .before .before .struct-told .given .1 .1 .1 .1 .0 .1 }) in
-    let asked = back (s .args .asked) (s .fits .asked) in
+    let last = toZ-ofZ w32 (s .args .state .row) (record { sfits = c .before .before .struct-told .given .1 .1 .1 .1 .0 .1 }) in
+    let asked = toZ-ofZ w32 (s .args .asked) (s .fits .asked) in
     let rows : c .before .rows-in .result ≡ rowsIn (s .args .state .row) (s .args .asked) = c .before .rows-in .ensures ∙ ap (λ (z : ℤ). rowsIn z (toZ w32 (ofZ w32 (s .args .asked)))) last ∙ ap (rowsIn (s .args .state .row)) asked in
     rw (
       sym (c .before .before .before .before .places-in .ensures) ∙ not-false (c .before .before .before .before .places-in .result) (c .before .before .before .if1 .left),
@@ -42,8 +42,8 @@ returns-3 : tie.Need-returns-3
 unfolding cursorNumber
 returns-3 c =
     let s = c .before .before .before .before .before .before .before in
-    let last = back (s .args .state .row) (record { sfits = c .before .before .before .before .struct-told .given .1 .1 .1 .1 .0 .1 }) in
-    let asked = back (s .args .asked) (s .fits .asked) in
+    let last = toZ-ofZ w32 (s .args .state .row) (record { sfits = c .before .before .before .before .struct-told .given .1 .1 .1 .1 .0 .1 }) in
+    let asked = toZ-ofZ w32 (s .args .asked) (s .fits .asked) in
     let rows : c .before .before .before .rows-in .result ≡ rowsIn (s .args .state .row) (s .args .asked) = c .before .before .before .rows-in .ensures ∙ ap (λ (z : ℤ). rowsIn z (toZ w32 (ofZ w32 (s .args .asked)))) last ∙ ap (rowsIn (s .args .state .row)) asked in
     rw (
       sym (c .before .before .before .before .before .before .places-in .ensures) ∙ not-false (c .before .before .before .before .before .before .places-in .result) (c .before .before .before .before .before .if1 .left),
@@ -54,8 +54,8 @@ returns-4 : tie.Need-returns-4
 unfolding cursorNumber
 returns-4 c =
     let s = c .before .before .before .before .before .before .before in
-    let last = back (s .args .state .row) (record { sfits = c .before .before .before .before .struct-told .given .1 .1 .1 .1 .0 .1 }) in
-    let asked = back (s .args .asked) (s .fits .asked) in
+    let last = toZ-ofZ w32 (s .args .state .row) (record { sfits = c .before .before .before .before .struct-told .given .1 .1 .1 .1 .0 .1 }) in
+    let asked = toZ-ofZ w32 (s .args .asked) (s .fits .asked) in
     let rows : c .before .before .before .rows-in .result ≡ rowsIn (s .args .state .row) (s .args .asked) = c .before .before .before .rows-in .ensures ∙ ap (λ (z : ℤ). rowsIn z (toZ w32 (ofZ w32 (s .args .asked)))) last ∙ ap (rowsIn (s .args .state .row)) asked in
     rw (
       sym (c .before .before .before .before .before .before .places-in .ensures) ∙ not-false (c .before .before .before .before .before .before .places-in .result) (c .before .before .before .before .before .if1 .left),

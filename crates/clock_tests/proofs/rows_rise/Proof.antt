@@ -1,5 +1,5 @@
 -- `clock_tests::rows_rise` goes row by row. Assumes nothing.
-use Rattle.clock_walk.proofs.BackFromBits.{back}
+use mir.ValLaws.{toZ-ofZ}
 use Prim.Native.Nat.{_-_}
 use native.Mathlib.Omega.{arith}
 use mathlib.Core.Path.{_≡_, sym, ap, _∙_, subst}
@@ -35,7 +35,7 @@ row-of-requires c κs = search needs
 loop-holds : tie.Need-loop-holds Inv-loop μ-loop
 loop-holds c =
     let l = c .before .before .before .before .args .beats .now in
-    subst (λ (z : ℤ). Rising l z 1) (sym (back (c .row-of .result) (record { sfits = c .row-of .ok }) ∙ c .row-of .ensures)) (begun l (c .before .before .if1 .left))
+    subst (λ (z : ℤ). Rising l z 1) (sym (toZ-ofZ w32 (c .row-of .result) (record { sfits = c .row-of .ok }) ∙ c .row-of .ensures)) (begun l (c .before .before .if1 .left))
 
 mul-row-of : tie.Need-mul-row-of Inv-loop μ-loop
 mul-row-of c = search needs
@@ -57,14 +57,14 @@ loop-again : tie.Need-loop-again Inv-loop μ-loop
 loop-again c =
     let l = c .before .before .before .before .before .before .before .before .before .args .beats .now in
     let at = c .before .before .before .before .loop in
-    let is : toZ w32 (ofZ w32 (c .before .row-of2 .result)) ≡ row binary64 (getD l (at .i) nan) = back (c .before .row-of2 .result) (record { sfits = c .before .row-of2 .ok }) ∙ c .before .row-of2 .ensures in
+    let is : toZ w32 (ofZ w32 (c .before .row-of2 .result)) ≡ row binary64 (getD l (at .i) nan) = toZ-ofZ w32 (c .before .row-of2 .result) (record { sfits = c .before .row-of2 .ok }) ∙ c .before .row-of2 .ensures in
     rw is (higher l (toZ w32 (at .last)) (at .i) (at .inv) (c .before .before .before .loop-test .taken) (sym (ap (ltZ (toZ w32 (at .last))) is) ∙ c .if2 .taken))
 
 returns-2 : tie.Need-returns-2 Inv-loop μ-loop
 returns-2 c =
     let l = c .before .before .before .before .before .before .before .before .before .args .beats .now in
     let at = c .before .before .before .before .loop in
-    let is : toZ w32 (ofZ w32 (c .before .row-of2 .result)) ≡ row binary64 (getD l (at .i) nan) = back (c .before .row-of2 .result) (record { sfits = c .before .row-of2 .ok }) ∙ c .before .row-of2 .ensures in
+    let is : toZ w32 (ofZ w32 (c .before .row-of2 .result)) ≡ row binary64 (getD l (at .i) nan) = toZ-ofZ w32 (c .before .row-of2 .result) (record { sfits = c .before .row-of2 .ok }) ∙ c .before .row-of2 .ensures in
     not-higher l (toZ w32 (at .last)) (at .i) (at .inv) (c .before .before .before .loop-test .taken) (sym (ap (ltZ (toZ w32 (at .last))) is) ∙ c .if2 .left)
 
 returns-3 : tie.Need-returns-3 Inv-loop μ-loop

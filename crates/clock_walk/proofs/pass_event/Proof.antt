@@ -3,7 +3,7 @@ use mathlib.Core.Path.{_≡_, subst}
 use mathlib.Core.List.{List}
 use lib.IntN.{ℤ}
 use lib.Ieee.{Float, binary64, add}
-use Rattle.clock_walk.specs.declared.State.{State}
+use Rattle.chart.specs.declared.State.{State}
 use Rattle.clock_walk.specs.declared.Next.{Next}
 use Rattle.clock_walk.specs.declared.Event.{Event}
 use Rattle.clock_walk.specs.declared.Event.the-variants.{WarpEnd, Tempo, Delay, Stop, Warp}

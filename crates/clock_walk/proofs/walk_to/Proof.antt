@@ -7,7 +7,8 @@ use lib.IntN.{ℤ}
 use mir.Syntax.{w32}
 use mir.Val.{toZ, ofZ}
 use native.Mathlib.Omega.{arith}
-use Rattle.clock_walk.specs.Events.{Timing, timing, next}
+use Rattle.chart.specs.Timing.{Timing, timing}
+use Rattle.clock_walk.specs.Events.{next}
 use Rattle.clock_walk.specs.Walk.{isEvent, left, walkOn, walk}
 use Rattle.clock_walk.specs.Heads.{headsOf, nextOf}
 use Rattle.clock_walk.specs.declared.Next.{Next}

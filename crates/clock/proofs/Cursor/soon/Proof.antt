@@ -1,6 +1,6 @@
 -- `clock::Cursor::soon` is the walk of a cursor that is not refused where it says that it is whole. Assumes nothing.
 use mathlib.Core.Path.{_≡_, sym, ap, _∙_}
-use Rattle.clock_walk.specs.Events.{Timing, timing}
+use Rattle.chart.specs.Timing.{Timing, timing}
 use Rattle.clock_walk.specs.Soon.{walkedSoon}
 use Rattle.clock_walk.specs.declared.Soon.{Soon}
 use Rattle.clock_walk.proofs.BackFromBits.{back}
