@@ -6,6 +6,7 @@ use mathlib.Core.Path.{_≡_}
 use lib.Dec.{leb, eqb}
 use lib.ListN.{length}
 use lib.Ieee.{Float}
+use Rattle.ieee.specs.Constants.{plusZero}
 use Rattle.picks.specs.Pick.{pick}
 use Rattle.ieee.specs.Narrowing.{narrow}
 use Rattle.limits.specs.Refusals.{lower}
@@ -13,7 +14,7 @@ use Rattle.order.specs.Entries.{first, second}
 use Rattle.columns.specs.Laying.{roomNumber, LaidList}
 use Rattle.tidy_rows.specs.RowTidying.{tidyRows}
 use Rattle.process_raw.specs.RawLists.{roomFor}
-use Rattle.process.specs.ByFormat.{Lists, unmoved}
+use Rattle.process.specs.ByFormat.{Lists}
 use Rattle.assembly_rows.specs.AssembledRows.{narrowedEntry, changeBy, assembledRows}
 use Rattle.assembly_tempos.specs.declared.AssembledTempos.{AssembledTempos}
 
@@ -56,8 +57,8 @@ pub record ThreeLaid (raw later most : ℕ) (lists : Lists) (outcome : Assembled
   pub temposLaid : LaidList (outcome .number) (assembledTempos lists) (outcome .tempos) tempoBeatsOld tempoBeatsNew tempoValuesOld tempoValuesNew
   pub stopsLaid : LaidList (outcome .number) (assembledStops lists) (outcome .stops) stopBeatsOld stopBeatsNew stopValuesOld stopValuesNew
   pub warpsLaid : LaidList (outcome .number) (assembledWarps lists) (outcome .warps) warpBeatsOld warpBeatsNew warpLengthsOld warpLengthsNew
-  pub offsetIs : outcome .offset ≡ pick (eqb (outcome .number) 0) (narrow (lists .offset)) unmoved
+  pub offsetIs : outcome .offset ≡ pick (eqb (outcome .number) 0) (narrow (lists .offset)) plusZero
 
 -- the outcome of a refusal
 abbrev pub nothingAssembled : ℕ → AssembledTempos
-nothingAssembled number = record { number = number; tempos = 0; stops = 0; warps = 0; offset = unmoved }
+nothingAssembled number = record { number = number; tempos = 0; stops = 0; warps = 0; offset = plusZero }

@@ -8,9 +8,9 @@ use lib.Dec.{eqb}
 use lib.IntN.{ℤ}
 use lib.ListN.{length}
 use lib.Ieee.{Float}
+use Rattle.ieee.specs.Constants.{plusZero, sixty}
 use Rattle.picks.specs.Pick.{pick}
 use Rattle.chart.specs.Timing.{Timing, timing}
-use Rattle.clock_walk.specs.Passing.{noTime, sixty}
 use Rattle.clock_walk.specs.Walk.{walk}
 use Rattle.chart.specs.declared.State.{State}
 use Rattle.clock_walk.specs.declared.Walked.{Walked}
@@ -24,13 +24,13 @@ tempoed t beats tempos =
 
 module _ (t : Timing) where
   pub filled-by : (beats tempos : List Float)
-      → beats ≡ pick (eqb (length (t .tempoBeats)) 0) (noTime ∷ []) (t .tempoBeats)
+      → beats ≡ pick (eqb (length (t .tempoBeats)) 0) (plusZero ∷ []) (t .tempoBeats)
       → tempos ≡ pick (eqb (length (t .tempoBeats)) 0) (sixty ∷ []) (t .tempoValues)
       → tempoed t beats tempos ≡ filled t
   unfolding filled
   filled-by beats tempos e f = rw (e, f) (by (eqb (length (t .tempoBeats)) 0))
     where
-      by : (b : Bool) → tempoed t (pick b (noTime ∷ []) (t .tempoBeats)) (pick b (sixty ∷ []) (t .tempoValues)) ≡ pick b (tempoed t (noTime ∷ []) (sixty ∷ [])) t
+      by : (b : Bool) → tempoed t (pick b (plusZero ∷ []) (t .tempoBeats)) (pick b (sixty ∷ []) (t .tempoValues)) ≡ pick b (tempoed t (plusZero ∷ []) (sixty ∷ [])) t
       by true = refl
       by false = refl
 
@@ -39,6 +39,6 @@ module _ (t : Timing) where
   unfolding filled
   filled-fits w r s e k l m n = by (eqb (length (t .tempoBeats)) 0) e
     where
-      by : (b : Bool) → w ≡ walk (pick b (tempoed t (noTime ∷ []) (sixty ∷ [])) t) r s → w .passed + 1 < 2 ^ 64
-      by true e = passed-fits w (tempoed t (noTime ∷ []) (sixty ∷ [])) r s e (omega arith) l m n
+      by : (b : Bool) → w ≡ walk (pick b (tempoed t (plusZero ∷ []) (sixty ∷ [])) t) r s → w .passed + 1 < 2 ^ 64
+      by true e = passed-fits w (tempoed t (plusZero ∷ []) (sixty ∷ [])) r s e (omega arith) l m n
       by false e = passed-fits w t r s e k l m n

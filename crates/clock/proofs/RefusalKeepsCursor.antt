@@ -4,9 +4,9 @@ use mathlib.Core.Bool.{Bool, true, false}
 use mathlib.Core.Path.{_≡_, refl}
 use lib.Dec.{eqb}
 use lib.Ieee.{Float}
+use Rattle.ieee.specs.Constants.{plusZero}
 use Rattle.picks.specs.Pick.{pick}
 use Rattle.chart.specs.Timing.{Timing}
-use Rattle.clock_walk.specs.Passing.{noTime}
 use Rattle.clock_tests.specs.TimingNumbers.{beatNumber}
 use Rattle.clock.specs.Question.{refusedWith, byNumber, reply, asking, playerNumber, playerQuestion, questionNumber, question}
 use Rattle.clock.specs.History.{Asking, ofBeat, ofCursor, ofAll, asks}
@@ -14,7 +14,7 @@ use Rattle.clock.specs.declared.Cursor.{Cursor}
 use Rattle.clock.specs.declared.Answer.{Answer}
 
 abbrev pub Untouched : Cursor → Answer → Type 0
-Untouched c a = (a .cursor ≡ c) × (a .time ≡ noTime) × (a .count ≡ 0)
+Untouched c a = (a .cursor ≡ c) × (a .time ≡ plusZero) × (a .count ≡ 0)
 
 module _ (t : Timing) (c : Cursor) (offset global beat : Float) where
   by-number : (n : ℕ) → (byNumber n t c offset global beat .number ≡ 0 → ⊥) → Untouched c (byNumber n t c offset global beat)

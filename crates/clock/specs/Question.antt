@@ -6,12 +6,12 @@ use lib.ListN.{length}
 use lib.Dec.{eqb}
 use lib.IntN.{ℤ, pos}
 use lib.Signed.{ltZ}
-use lib.Ieee.{Float, fin, binary64, sub, neg}
+use lib.Ieee.{Float, binary64, sub, neg}
+use Rattle.ieee.specs.Constants.{plusZero, sixty}
 use Rattle.picks.specs.Pick.{pick}
 use Rattle.rows.specs.Rows.{row}
 use Rattle.limits.specs.Refusals.{lower}
 use Rattle.chart.specs.Timing.{Timing}
-use Rattle.clock_walk.specs.Passing.{noTime, sixty}
 use Rattle.clock_walk.specs.Walk.{walk}
 use Rattle.chart.specs.declared.State.{State}
 use Rattle.clock_walk.specs.declared.Walked.{Walked}
@@ -26,7 +26,7 @@ unfoldable pub filled : Timing → Timing
 filled t =
     pick (eqb (length (t .tempoBeats)) 0)
     (record {
-      tempoBeats = noTime ∷ [];
+      tempoBeats = plusZero ∷ [];
       tempoValues = sixty ∷ [];
       stopBeats = t .stopBeats;
       stopValues = t .stopValues;
@@ -52,7 +52,7 @@ freshState offset global = record {
   warps = 0;
   row = pos 0;
   time = sub binary64 (neg offset) global;
-  end = noTime;
+  end = plusZero;
   warping = false;
 }
 
@@ -64,7 +64,7 @@ unfoldable pub made : Float → Float → Made
 made offset global =
     pick (eqb (offsetsNumber offset global) 0)
     (record { number = 0; cursor = freshCursor offset global })
-    (record { number = offsetsNumber offset global; cursor = freshCursor noTime noTime })
+    (record { number = offsetsNumber offset global; cursor = freshCursor plusZero plusZero })
 
 -- ---- the answer
 
@@ -83,7 +83,7 @@ answered global asked w = record {
 
 -- a refusal has no time and no count, and the cursor stays
 abbrev pub refusedWith : ℕ → Cursor → Answer
-refusedWith number c = record { number = number; time = noTime; count = 0; cursor = c }
+refusedWith number c = record { number = number; time = plusZero; count = 0; cursor = c }
 
 -- the answer of a question that its tests took
 unfoldable pub reply : Timing → Cursor → Float → Float → Float → Answer

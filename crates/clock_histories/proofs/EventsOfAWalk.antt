@@ -6,10 +6,11 @@ use mathlib.Core.Path.{_≡_, refl}
 use native.Mathlib.Omega.{arith}
 use lib.IntN.{ℤ, pos}
 use lib.Ieee.{Float, fin, add, sub, neg, mul, div, ofInt, lt, le, eq, sum}
+use Rattle.ieee.specs.Constants.{plusZero, sixty}
 use Rattle.ieee.specs.Rounding.{rint, hold}
 use Rattle.chart.specs.Timing.{Timing, timing}
 use Rattle.clock_walk.specs.Events.{sooner, offered, endOffered, nextEvent}
-use Rattle.clock_walk.specs.Passing.{noTime, sixty, lastUpTo, tempoAt, earlyTempo, inForce, timeTo, afterWarpEnd, afterTempo, afterDelay, afterStop, larger, afterWarp, passed}
+use Rattle.clock_walk.specs.Passing.{lastUpTo, tempoAt, earlyTempo, inForce, timeTo, afterWarpEnd, afterTempo, afterDelay, afterStop, larger, afterWarp, passed}
 use Rattle.clock_walk.specs.Walk.{timeAt, walkWithin, walkOn, walk}
 use Rattle.clock_walk.proofs.EventsSpent.{spent}
 use Rattle.limits.specs.Numbers.{inRange, every}
@@ -27,13 +28,13 @@ abbrev pub one : Float
 one = fin false 1 (pos 0)
 
 abbrev pub small : Timing
-small = timing (noTime ∷ []) (sixty ∷ []) (one ∷ []) (one ∷ []) (one ∷ []) (one ∷ []) (fin false 1 (pos 1) ∷ []) (one ∷ [])
+small = timing (plusZero ∷ []) (sixty ∷ []) (one ∷ []) (one ∷ []) (one ∷ []) (one ∷ []) (fin false 1 (pos 1) ∷ []) (one ∷ [])
 
-pub events-all-passed : walk (filled small) (pos 192) (freshState noTime noTime) .passed ≡ events small
+pub events-all-passed : walk (filled small) (pos 192) (freshState plusZero plusZero) .passed ≡ events small
 unfolding filled temposOf freshState walk walkOn walkWithin timeAt earlyTempo tempoAt lastUpTo inForce timeTo passed afterWarpEnd afterTempo afterDelay afterStop afterWarp larger nextEvent sooner offered endOffered rint hold add sub neg mul div ofInt lt le sum
 events-all-passed = refl
 
 -- a timing that is taken
-pub small-taken : timingNumber small noTime noTime ≡ 0
+pub small-taken : timingNumber small plusZero plusZero ≡ 0
 unfolding timingNumber listsNumber offsetsNumber offsetNumber orderNumber listNumber lower inRange every rises risesFrom startsAtZero rint hold mul ofInt neg lt le eq
 small-taken = refl

@@ -8,6 +8,7 @@ use lib.Dec.{T}
 use lib.IntN.{ℤ, pos, negsuc, natAbs}
 use lib.Signed.{ltZ, leZ}
 use lib.Ieee.{Float, binary64, le}
+use Rattle.ieee.specs.Constants.{sixty}
 use Rattle.picks.specs.Pick.{pick}
 use Rattle.rows.specs.Rows.{row, beatOf, allowedBeat, mostRow}
 use Rattle.rows.proofs.RowsKeepOrder.{row-mono}
@@ -17,7 +18,7 @@ use Rattle.rows.proofs.BeatsRise.{beat-allowed}
 use Rattle.limits.specs.Numbers.{rangeOf, inRange, allIn, every}
 use Rattle.limits.specs.declared.Kind.the-variants.{Beat}
 use Rattle.limits.proofs.TakenWithin.{taken-within}
-use Rattle.clock_walk.specs.Passing.{sixty, firstOr, lastUpTo, tempoAt}
+use Rattle.clock_walk.specs.Passing.{firstOr, lastUpTo, tempoAt}
 use Rattle.clock_walk.proofs.RowOrder.{no, lt-le}
 use Rattle.clock_walk.proofs.BeforeAnyTempo.{Low}
 use Rattle.clock_tests.specs.TimingNumbers.{risesFrom, rises, startsAtZero}

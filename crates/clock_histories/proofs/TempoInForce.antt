@@ -8,12 +8,13 @@ use borrow.Author.Tests.{eqb-false}
 use lib.Dec.{eqb}
 use lib.ListN.{length, getD}
 use lib.Ieee.{Float, nan, binary64, le, lt, eq}
+use Rattle.ieee.specs.Constants.{sixty}
 use Rattle.picks.specs.Pick.{pick}
 use Rattle.rows.specs.Rows.{beatOf}
 use Rattle.limits.specs.Numbers.{rangeOf, inRange, allIn}
 use Rattle.limits.specs.declared.Kind.the-variants.{Tempo}
 use Rattle.limits.proofs.Every.{every-rest, every-at}
-use Rattle.clock_walk.specs.Passing.{sixty, firstOr, lastUpTo, tempoAt, earlyTempo, inForce}
+use Rattle.clock_walk.specs.Passing.{firstOr, lastUpTo, tempoAt, earlyTempo, inForce}
 use Rattle.chart.specs.declared.State.{State}
 
 abbrev pub IsTempo : Float → Type 0

@@ -8,6 +8,7 @@ use native.Mathlib.Omega.{arith}
 use lib.Dec.{lit≤}
 use lib.IntN.{ℤ, natAbs, _-ℤ_}
 use lib.Ieee.{Float, binary64, div}
+use Rattle.ieee.specs.Constants.{plusZero, sixty}
 use Rattle.picks.specs.Pick.{pick}
 use Rattle.ieee.proofs.SignedSizes.{negative}
 use Rattle.ieee.proofs.Magnitude.{AtMost}
@@ -15,7 +16,7 @@ use Rattle.ieee.proofs.SizesAddUp.{AtLeast, power-of-format, at-most-finite, ro
 use Rattle.rows.specs.Rows.{beatOf, mostRow}
 use Rattle.rows.proofs.RowValue.{beat-rounded}
 use Rattle.limits.proofs.TempoSizes.{tempo-at-most, tempo-at-least}
-use Rattle.clock_walk.specs.Passing.{noTime, sixty, inForce, timeTo}
+use Rattle.clock_walk.specs.Passing.{inForce, timeTo}
 use Rattle.chart.specs.declared.State.{State}
 use Rattle.clock_walk.proofs.RowsApart.{apart}
 use Rattle.clock_histories.proofs.TempoInForce.{IsTempo}
@@ -39,7 +40,7 @@ pace-at-least tempo h =
     let finite = at-most-finite (div-at-most binary64 (power-of-format binary64 30 (lit≤ tt)) tempo sixty (tempo-at-most false tempo h) sixty-at-least (lit≤ tt)) in
     div-at-least binary64 _ (lit≤ tt) (lit≤ tt) tempo sixty (tempo-at-least tempo h) sixty-at-most (zero-lt-suc 59) finite
 
-none-at-most : {bound : ℕ} → AtMost bound noTime
+none-at-most : {bound : ℕ} → AtMost bound plusZero
 none-at-most = record { negative = false; num = 0; den = 1; den-pos = zero-lt-suc 0; value = (refl, refl); small = omega arith }
 
 -- ---- the time between two rows
@@ -47,7 +48,7 @@ pub time-between : (early : Float) (values : List Float) (s : State) (at : ℤ) 
 unfolding timeTo
 time-between early values s at near there tempo = go (s .warping)
   where
-    go : (b : Bool) → AtMost (2 ^ 43) (pick b noTime (div binary64 (beatOf binary64 (at -ℤ s .row)) (div binary64 (inForce early values (s .tempos)) sixty)))
+    go : (b : Bool) → AtMost (2 ^ 43) (pick b plusZero (div binary64 (beatOf binary64 (at -ℤ s .row)) (div binary64 (inForce early values (s .tempos)) sixty)))
     go true = none-at-most
     go false =
         div-at-most binary64 (power-of-format binary64 43 (lit≤ tt)) (beatOf binary64 (at -ℤ s .row)) (div binary64 (inForce early values (s .tempos)) sixty)

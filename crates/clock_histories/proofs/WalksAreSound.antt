@@ -11,6 +11,7 @@ use lib.ListN.{length, getD}
 use lib.IntN.{ℤ, pos, natAbs}
 use lib.Signed.{leZ}
 use lib.Ieee.{Float, nan, binary64, neg, lt, le, eq}
+use Rattle.ieee.specs.Constants.{plusZero, sixty}
 use Rattle.picks.specs.Pick.{pick}
 use Rattle.ieee.proofs.Magnitude.{AtMost, Sized, sized}
 use Rattle.ieee.proofs.SizesAddUp.{power-of-format, at-most-wider, at-most-neg, sub-at-most}
@@ -21,7 +22,6 @@ use Rattle.limits.specs.declared.Kind.the-variants as Kind
 use Rattle.limits.proofs.ListTaken.{Taken}
 use Rattle.limits.proofs.TakenWithin.{taken-within}
 use Rattle.chart.specs.Timing.{Timing}
-use Rattle.clock_walk.specs.Passing.{noTime, sixty}
 use Rattle.clock_walk.specs.Walk.{walk}
 use Rattle.chart.specs.declared.State.{State}
 use Rattle.clock_walk.proofs.EventByEvent.{left-le}
@@ -43,7 +43,7 @@ pub record Sound (t : Timing) (offset global : Float) : Type 0 where
   pub walkedFine : (r : ℤ) → natAbs r ≤ mostRow → cursorRefusal t (record { state = walk (filled t) r (freshState offset global) .state; asked = r }) ≡ 0
 
 -- ---- a timing without a tempo has the one of 60 at beat 0
-sole-taken : Taken (rangeOf Kind.Beat) (rangeOf Kind.Tempo) (noTime ∷ []) (sixty ∷ [])
+sole-taken : Taken (rangeOf Kind.Beat) (rangeOf Kind.Tempo) (plusZero ∷ []) (sixty ∷ [])
 unfolding every inRange lt le eq
 sole-taken = record { few = lit≤ tt; even = refl; beatsIn = refl; valuesIn = refl }
 
@@ -62,7 +62,7 @@ record Starts (f : Timing) : Type 0 where
 
 sole-starts : (t : Timing) → Starts (given t)
 unfolding startsAtZero rises risesFrom eq
-sole-starts t = record { some = zero-lt-suc 0; first = row-of-zero binary64 noTime refl; starts = refl; rise = refl }
+sole-starts t = record { some = zero-lt-suc 0; first = row-of-zero binary64 plusZero refl; starts = refl; rise = refl }
 
 some-start : (t : Timing) → (length (t .tempoBeats) ≡ 0 → ⊥) → startsAtZero (t .tempoBeats) ≡ true → rises (t .tempoBeats) ≡ true → Starts t
 some-start t n h k = record { some = some (length (t .tempoBeats)) n; first = row-of-zero binary64 (getD (t .tempoBeats) 0 nan) (first-starts (t .tempoBeats) n ∙ h); starts = h; rise = k }

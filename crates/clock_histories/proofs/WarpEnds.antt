@@ -9,11 +9,12 @@ use lib.IntN.{pos}
 use lib.Ieee.{Float, nan, inf, fin, binary64, add, lt, le}
 use lib.Ieee.Bits.{is-true}
 use lib.Ieee.Exact.{HasValue}
+use Rattle.ieee.specs.Constants.{plusZero}
 use Rattle.picks.specs.Pick.{pick}
 use Rattle.ieee.proofs.FloatOrder.{sizes-le}
 use Rattle.ieee.proofs.Magnitude.{AtMost, Sized}
 use Rattle.ieee.proofs.SizesAddUp.{OfFormat, whole-of-format, add-at-most, at-most-wider}
-use Rattle.clock_walk.specs.Passing.{noTime, larger}
+use Rattle.clock_walk.specs.Passing.{larger}
 use Rattle.clock_walk.proofs.RowOrder.{no}
 use Rattle.clock_tests.specs.CursorNumbers.{endIn}
 
@@ -28,7 +29,7 @@ pub record EndFine (x : Float) : Type 0 where
   pub value : HasValue x false num den
   pub small : num ≤ mostEnd * den
 
-pub end-begins : EndFine noTime
+pub end-begins : EndFine plusZero
 end-begins = record { num = 0; den = 1; den-pos = zero-lt-suc 0; value = (refl, refl); small = lit≤ tt }
 
 -- what is above a number that is not negative has its sign clear

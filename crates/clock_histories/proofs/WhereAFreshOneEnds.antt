@@ -10,12 +10,13 @@ use lib.ListN.{length, getD}
 use lib.IntN.{ℤ, pos, natAbs}
 use lib.Signed.{ltZ}
 use lib.Ieee.{Float, nan, binary64}
+use Rattle.ieee.specs.Constants.{sixty}
 use Rattle.picks.specs.Pick.{pick}
 use Rattle.rows.specs.Rows.{row, mostRow}
 use Rattle.limits.specs.Numbers.{rangeOf, allIn}
 use Rattle.limits.specs.declared.Kind.the-variants.{Beat}
 use Rattle.chart.specs.Timing.{Timing}
-use Rattle.clock_walk.specs.Passing.{sixty, firstOr, earlyTempo}
+use Rattle.clock_walk.specs.Passing.{firstOr, earlyTempo}
 use Rattle.clock_walk.specs.Walk.{walkOn, walk}
 use Rattle.chart.specs.declared.State.{State}
 use Rattle.clock_walk.specs.declared.Walked.{Walked}

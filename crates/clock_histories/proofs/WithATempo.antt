@@ -8,16 +8,16 @@ use borrow.Author.Tests.{eqb-false}
 use lib.Dec.{eqb}
 use lib.ListN.{length}
 use lib.Ieee.{Float}
+use Rattle.ieee.specs.Constants.{plusZero, sixty}
 use Rattle.picks.specs.Pick.{pick}
 use Rattle.chart.specs.Timing.{Timing}
-use Rattle.clock_walk.specs.Passing.{noTime, sixty}
 use Rattle.clock_walk.specs.Walk.{left}
 use Rattle.clock.specs.Question.{filled, temposOf, freshState}
 use Rattle.clock_histories.specs.Costs.{events}
 
 abbrev pub given : Timing → Timing
 given t = record {
-  tempoBeats = noTime ∷ [];
+  tempoBeats = plusZero ∷ [];
   tempoValues = sixty ∷ [];
   stopBeats = t .stopBeats;
   stopValues = t .stopValues;

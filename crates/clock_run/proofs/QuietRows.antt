@@ -10,10 +10,11 @@ use lib.IntN.{ℤ}
 use lib.Signed.{ltZ}
 use lib.ListN.{length, getD}
 use lib.Ieee.{Float, nan, binary64, add, sub, div}
+use Rattle.ieee.specs.Constants.{plusZero, sixty}
 use Rattle.picks.specs.Pick.{pick}
 use Rattle.rows.specs.Rows.{row}
 use Rattle.chart.specs.Timing.{Timing}
-use Rattle.clock_walk.specs.Passing.{noTime, sixty, inForce, timeTo, passed, afterTempo}
+use Rattle.clock_walk.specs.Passing.{inForce, timeTo, passed, afterTempo}
 use Rattle.clock_walk.specs.Walk.{walk}
 use Rattle.clock_walk.specs.Quiet.{farthest, rowAt, endRow}
 use Rattle.clock_walk.specs.Soon.{tempoPassed, rowAfter}
@@ -63,7 +64,7 @@ module _ (r : ℤ) where
       }
 
   -- a tempo's time by the rate that was looked for
-  by-rate : (values : List Float) (s : State) → eqb (s .tempos) 0 ≡ false → add binary64 (s .time) (timeTo noTime values s r) ≡ quietTime s (div binary64 (getD values (s .tempos - 1) nan) sixty) r
+  by-rate : (values : List Float) (s : State) → eqb (s .tempos) 0 ≡ false → add binary64 (s .time) (timeTo plusZero values s r) ≡ quietTime s (div binary64 (getD values (s .tempos - 1) nan) sixty) r
   unfolding timeTo inForce quietTime
   by-rate values s e = rw e
 
@@ -196,7 +197,7 @@ rest-stays : (t : Timing) (s : State) (at : ℤ) → restOf t (past t s at) ≡ 
 unfolding restUntil tempoPassed passed afterTempo
 rest-stays t s at = go (ltb (s .tempos) (length (t .tempoBeats)))
   where
-    go : (b : Bool) → restOf t (pick b (passed noTime (t .tempoValues) (t .stopValues) (t .delayValues) (t .warpBeats) (t .warpLengths) s (record { row = at; kind = Tempo })) s) ≡ restOf t s
+    go : (b : Bool) → restOf t (pick b (passed plusZero (t .tempoValues) (t .stopValues) (t .delayValues) (t .warpBeats) (t .warpLengths) s (record { row = at; kind = Tempo })) s) ≡ restOf t s
     go true = refl
     go false = refl
 
@@ -250,9 +251,9 @@ module _ (t : Timing) (offset global : Float) (c : Cursor) (beat : Float) (ahead
         let on-is = past-sight (t .tempoBeats) (t .tempoValues) moved (ahead .rest) (s .tempos) next-place inValues in
         let later : ltZ r (rowAt (t .tempoBeats) (moved .tempos)) ≡ true =
         ap (λ (z : ℤ). ltZ r z) (sym after-next) ∙ below-left r (rowAfter (t .tempoBeats) (s .tempos)) (ahead .rest) (asked .3) in
-        let walked : walk t r s ≡ record { state = moved; passed = 1; time = add binary64 (moved .time) (timeTo noTime (t .tempoValues) moved r) } =
+        let walked : walk t r s ≡ record { state = moved; passed = 1; time = add binary64 (moved .time) (timeTo plusZero (t .tempoValues) moved r) } =
         one-soon t r s (others r t s before) (ap (λ (z : ℤ). ltZ r z) (sym isTempo) ∙ notRow) (sight .passed-one) (ap (λ (x : State). ltZ r (rowAt (t .tempoBeats) (x .tempos))) (sym isMoved) ∙ later)
-        ∙ ap (λ (x : State). record { state = x; passed = 1; time = add binary64 (x .time) (timeTo noTime (t .tempoValues) x r) }) (sym isMoved) in (
+        ∙ ap (λ (x : State). record { state = x; passed = 1; time = add binary64 (x .time) (timeTo plusZero (t .tempoValues) x r) }) (sym isMoved) in (
           ap (λ (a : Ahead). quietly t offset global c beat 1 moved (a .rate)) (on-is .1)
               ∙ ap (λ (x : Float). answer-of t offset global c beat (record { state = moved; passed = 1; time = x })) (sym (by-rate r (t .tempoValues) moved (on-is .0)))
               ∙ sym (by-walk t offset global c beat (asked .0) (sight .some) (asked .2) _ walked),

@@ -7,11 +7,11 @@ use lib.IntN.{ℤ, pos, _-ℤ_}
 use lib.Signed.{ltZ}
 use lib.ListN.{length, getD}
 use lib.Ieee.{Float, nan, binary64, add, div}
+use Rattle.ieee.specs.Constants.{plusZero, sixty}
 use Rattle.picks.specs.Pick.{pick}
 use Rattle.rows.specs.Rows.{beatOf}
 use Rattle.chart.specs.Timing.{Timing}
 use Rattle.clock_walk.specs.Quiet.{farthest, rowAt, endRow}
-use Rattle.clock_walk.specs.Passing.{noTime, sixty}
 use Rattle.clock_walk.specs.Soon.{tempoPassed, rowAfter}
 use Rattle.chart.specs.declared.State.{State}
 use Rattle.clock_tests.specs.TimingNumbers.{beatNumber}
@@ -29,7 +29,7 @@ restUntil stopBeats delayBeats warpBeats s =
     (least (endRow (s .warping) (s .end)) (least (rowAt delayBeats (s .delays)) (least (rowAt stopBeats (s .stops)) (rowAt warpBeats (s .warps)))))
 
 abbrev pub blind : Ahead
-blind = record { known = false; row = pos 0; rest = pos 0; rate = noTime }
+blind = record { known = false; row = pos 0; rest = pos 0; rate = plusZero }
 
 -- what is ahead of a state, with a row before which only tempos are; before any tempo is passed it looks for nothing
 unfoldable pub lookOn : (tempoBeats tempoValues : List Float) → State → ℤ → Ahead
@@ -53,7 +53,7 @@ unfoldable pub isBefore : Bool → ℤ → ℤ → Float → ℤ → Bool
 isBefore known until last beat asked = pick (eqb (beatNumber beat) 0) (pick known (pick (ltZ asked last) false (ltZ asked until)) false) false
 
 unfoldable pub quietTime : State → Float → ℤ → Float
-quietTime s rate asked = add binary64 (s .time) (pick (s .warping) noTime (div binary64 (beatOf binary64 (asked -ℤ s .row)) rate))
+quietTime s rate asked = add binary64 (s .time) (pick (s .warping) plusZero (div binary64 (beatOf binary64 (asked -ℤ s .row)) rate))
 
 -- a state past a tempo, and one that nothing is passed from
 abbrev pub pastOne : (tempoBeats tempoValues : List Float) → ℤ → State → Past

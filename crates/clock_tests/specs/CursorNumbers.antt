@@ -6,6 +6,7 @@ use lib.Signed.{leZ}
 use lib.Dec.{leb}
 use lib.Ieee.{Float, fin, le}
 use lib.Ieee.Scale.{finite}
+use Rattle.ieee.specs.Constants.{plusZero}
 use Rattle.picks.specs.Pick.{pick}
 use Rattle.limits.specs.Numbers.{rowIn}
 use Rattle.chart.specs.declared.State.{State}
@@ -25,7 +26,7 @@ rowsIn last asked = pick (rowIn last) (pick (rowIn asked) true (leZ asked freshM
 
 -- the warp's end lies from 0 to 2 ^ 31, -0 included
 unfoldable pub endIn : Float → Bool
-endIn end = pick (le (fin false 0 (pos 0)) end) (le end (fin false 1 (pos 31))) false
+endIn end = pick (le plusZero end) (le end (fin false 1 (pos 31))) false
 
 -- the time is finite, and the warp's end there
 unfoldable pub timeAndEndIn : Float → Float → Bool

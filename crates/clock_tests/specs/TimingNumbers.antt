@@ -2,10 +2,11 @@
 use Prim.Native.Nat.{ℕ}
 use mathlib.Core.List.{List, [], _∷_}
 use mathlib.Core.Bool.{Bool, true, false}
-use lib.IntN.{ℤ, pos}
+use lib.IntN.{ℤ}
 use lib.Signed.{ltZ}
-use lib.Ieee.{Float, fin, binary64, eq}
+use lib.Ieee.{Float, binary64, eq}
 use lib.Dec.{eqb}
+use Rattle.ieee.specs.Constants.{plusZero}
 use Rattle.picks.specs.Pick.{pick}
 use Rattle.rows.specs.Rows.{row}
 use Rattle.limits.specs.Numbers.{rangeOf, inRange}
@@ -26,7 +27,7 @@ rises (beat ∷ beats) = risesFrom (row binary64 beat) beats
 -- tempos start at beat 0, by value; no tempo at all is fine
 unfoldable pub startsAtZero : List Float → Bool
 startsAtZero [] = true
-startsAtZero (beat ∷ beats) = eq beat (fin false 0 (pos 0))
+startsAtZero (beat ∷ beats) = eq beat plusZero
 
 -- 1 to 4, the lowest over the four lists
 unfoldable pub listsNumber : Timing → ℕ

@@ -10,11 +10,12 @@ use lib.IntN.{ℤ, pos, negsuc}
 use lib.Signed.{ltZ}
 use lib.ListN.{length, getD}
 use lib.Ieee.{Float, nan, binary64, add}
+use Rattle.ieee.specs.Constants.{plusZero}
 use Rattle.picks.specs.Pick.{pick}
 use Rattle.rows.specs.Rows.{row}
 use Rattle.chart.specs.Timing.{Timing}
 use Rattle.clock_walk.specs.Events.{next}
-use Rattle.clock_walk.specs.Passing.{noTime, earlyTempo, timeTo, passed, step, afterTempo}
+use Rattle.clock_walk.specs.Passing.{earlyTempo, timeTo, passed, step, afterTempo}
 use Rattle.clock_walk.specs.Quiet.{farthest, rowAt, endRow, isLater, isNextLater, onlyTempos}
 use Rattle.clock_walk.specs.Heads.{headsOf}
 use Rattle.clock_walk.specs.Soon.{tempoPassed, soonOf, walkedSoon}
@@ -51,13 +52,13 @@ pub record Others (t : Timing) (r : ℤ) (s : State) : Type 0 where
   pub ofWarp : ltZ r (rowAt (t .warpBeats) (s .warps)) ≡ true
 
 module _ (t : Timing) (r : ℤ) (s : State) where
-  no-early : eqb (s .tempos) 0 ≡ false → earlyTempo (t .tempoBeats) (t .tempoValues) s ≡ noTime
+  no-early : eqb (s .tempos) 0 ≡ false → earlyTempo (t .tempoBeats) (t .tempoValues) s ≡ plusZero
   unfolding earlyTempo
   no-early e = rw e
 
   -- nothing is due
   pub none-soon : eqb (s .tempos) 0 ≡ false → Others t r s → ltZ r (rowAt (t .tempoBeats) (s .tempos)) ≡ true
-      → walk t r s ≡ record { state = s; passed = 0; time = add binary64 (s .time) (timeTo noTime (t .tempoValues) s r) }
+      → walk t r s ≡ record { state = s; passed = 0; time = add binary64 (s .time) (timeTo plusZero (t .tempoValues) s r) }
   none-soon e o tempo =
       quiet-end t r s (none-before r (t .tempoBeats) (t .stopBeats) (t .delayBeats) (t .warpBeats) s (o .ofAll) (o .ofEnd) tempo (o .ofDelay) (o .ofStop) (o .ofWarp))
       ∙ rw (no-early e)
@@ -77,7 +78,7 @@ module _ (t : Timing) (r : ℤ) (s : State) where
     there : ltb (s .tempos) (length (t .tempoBeats)) ≡ true
     there = listed (t .tempoBeats) (s .tempos) (le-lt (rowAt (t .tempoBeats) (s .tempos)) r farthest due-by (o .ofAll))
 
-    first-step : step noTime t r s ≡ past t s (rowAt (t .tempoBeats) (s .tempos))
+    first-step : step plusZero t r s ≡ past t s (rowAt (t .tempoBeats) (s .tempos))
     unfolding tempoPassed
     first-step = rw (first-next, there)
 
@@ -93,7 +94,7 @@ module _ (t : Timing) (r : ℤ) (s : State) where
     -- one is due, and no other
     pub one-soon : eqb (s .tempos) 0 ≡ false → ltZ r (rowAt (t .tempoBeats) (past t s (rowAt (t .tempoBeats) (s .tempos)) .tempos)) ≡ true
         → let s′ = past t s (rowAt (t .tempoBeats) (s .tempos)) in
-        walk t r s ≡ record { state = s′; passed = 1; time = add binary64 (s′ .time) (timeTo noTime (t .tempoValues) s′ r) }
+        walk t r s ≡ record { state = s′; passed = 1; time = add binary64 (s′ .time) (timeTo plusZero (t .tempoValues) s′ r) }
     unfolding walk timeAt
     one-soon e later =
         let s′ = past t s (rowAt (t .tempoBeats) (s .tempos)) in
@@ -102,9 +103,9 @@ module _ (t : Timing) (r : ℤ) (s : State) where
         none-before r (t .tempoBeats) (t .stopBeats) (t .delayBeats) (t .warpBeats) s′ (o′ .ofAll) (o′ .ofEnd) later (o′ .ofDelay) (o′ .ofStop) (o′ .ofWarp) in
         let due-now : due t r s ≡ true = ap (λ (n : Next). isEvent (n .kind)) first-next in
         ap (λ (x : Float). walkOn x t r s 0) (no-early e)
-        ∙ walk-on noTime t r s 0 due-now
-        ∙ ap (λ (x : State). walkOn noTime t r x 1) first-step
-        ∙ walk-end noTime t r s′ 1 (ap (λ (n : Next). isEvent (n .kind)) asked)
+        ∙ walk-on plusZero t r s 0 due-now
+        ∙ ap (λ (x : State). walkOn plusZero t r x 1) first-step
+        ∙ walk-end plusZero t r s′ 1 (ap (λ (n : Next). isEvent (n .kind)) asked)
         ∙ rw asked
 
 pub only-tempos : (t : Timing) (r : ℤ) (s : State) → onlyTempos (t .stopBeats) (t .delayBeats) (t .warpBeats) s r ≡ true → Others t r s

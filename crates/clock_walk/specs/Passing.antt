@@ -4,8 +4,9 @@ use mathlib.Core.List.{List, [], _∷_}
 use mathlib.Core.Bool.{Bool, true, false}
 use lib.ListN.{getD}
 use lib.Dec.{eqb}
-use lib.IntN.{ℤ, pos, _-ℤ_}
-use lib.Ieee.{Float, fin, nan, binary64, add, div, lt, le}
+use lib.IntN.{ℤ, _-ℤ_}
+use lib.Ieee.{Float, nan, binary64, add, div, lt, le}
+use Rattle.ieee.specs.Constants.{plusZero, sixty}
 use Rattle.picks.specs.Pick.{pick}
 use Rattle.rows.specs.Rows.{beatOf}
 use Rattle.chart.specs.Timing.{Timing}
@@ -14,12 +15,6 @@ use Rattle.chart.specs.declared.State.{State}
 use Rattle.clock_walk.specs.declared.Next.{Next}
 use Rattle.clock_walk.specs.declared.Event.{Event}
 use Rattle.clock_walk.specs.declared.Event.the-variants.{WarpEnd, Tempo, Delay, Asked, Stop, Warp, NotFound}
-
-abbrev pub noTime : Float
-noTime = fin false 0 (pos 0)
-
-abbrev pub sixty : Float
-sixty = fin false 15 (pos 2)
 
 -- ---- the tempo in force
 
@@ -39,7 +34,7 @@ tempoAt beats values at = lastUpTo (beatOf binary64 at) (firstOr sixty values) b
 
 -- the tempo that a walk from this state begins with, if none is passed
 unfoldable pub earlyTempo : List Float → List Float → State → Float
-earlyTempo beats values s = pick (eqb (s .tempos) 0) (tempoAt beats values (s .row)) noTime
+earlyTempo beats values s = pick (eqb (s .tempos) 0) (tempoAt beats values (s .row)) plusZero
 
 -- the last one passed, before any the one that the walk began with
 unfoldable pub inForce : Float → List Float → ℕ → Float
@@ -50,7 +45,7 @@ inForce early values place = pick (eqb place 0) early (getD values (place - 1) n
 -- from the last row to another: beats over beats a second, and none while warping
 unfoldable pub timeTo : Float → List Float → State → ℤ → Float
 timeTo early tempoValues s at =
-    pick (s .warping) noTime (div binary64 (beatOf binary64 (at -ℤ s .row)) (div binary64 (inForce early tempoValues (s .tempos)) sixty))
+    pick (s .warping) plusZero (div binary64 (beatOf binary64 (at -ℤ s .row)) (div binary64 (inForce early tempoValues (s .tempos)) sixty))
 
 -- ---- the state after an event on a row, at a time
 

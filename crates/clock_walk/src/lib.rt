@@ -6,11 +6,12 @@ ghost use Prim.Native.Nat.{_<_, _^_};
 ghost use lib.IntN.{_-ℤ_};
 ghost use lib.ListN.{length, getD};
 ghost use lib.Ieee.{nan, binary64, add};
+ghost use Rattle.ieee.specs.Constants.{plusZero, sixty};
 ghost use Rattle.rows.specs.Rows.{beatOf};
 ghost use Rattle.chart.specs.Timing.{timing};
 ghost use Rattle.clock_walk.specs.Events.{sooner};
 ghost use Rattle.clock_walk.specs.Heads.{headsOf, headsAfter, nextOf};
-ghost use Rattle.clock_walk.specs.Passing.{noTime, tempoAt, earlyTempo, inForce, timeTo, larger, afterWarpEnd, afterTempo, afterDelay, afterStop, afterWarp, CanMove, passed as Passing·passed, firstOr, lastUpTo, sixty};
+ghost use Rattle.clock_walk.specs.Passing.{tempoAt, earlyTempo, inForce, timeTo, larger, afterWarpEnd, afterTempo, afterDelay, afterStop, afterWarp, CanMove, passed as Passing·passed, firstOr, lastUpTo};
 ghost use Rattle.clock_walk.specs.Quiet.{rowAt, endRow, notBefore, isLater, isNextLater, onlyTempos};
 ghost use Rattle.clock_walk.specs.Soon.{tempoPassed, rowAfter, soonOf};
 ghost use Rattle.clock_walk.specs.declared.Event.the-variants.{Tempo};
@@ -625,7 +626,7 @@ pub fn walk_soon(
 
 // The time of a row by which no event is due, where a tempo was passed.
 pub fn quiet_time(state: State, asked: i32, tempo_values: &[f32]) -> f64
-    ensures { λ r. ⌜ r ≡ add binary64 (state .time) (timeTo noTime (now («tempo_values» .entry)) state asked) ⌝ }
+    ensures { λ r. ⌜ r ≡ add binary64 (state .time) (timeTo plusZero (now («tempo_values» .entry)) state asked) ⌝ }
 {
     state.time + time_to(state, 0.0, tempo_values, asked)
 }

@@ -2,3 +2,4 @@ pub mod Rounding
 pub mod Narrowing
 pub mod Nearest
 pub mod Magnitude
+pub mod Constants

@@ -6,13 +6,14 @@ use mathlib.Core.List.{List}
 use lib.Dec.{T}
 use lib.IntN.{pos}
 use lib.Ieee.{Float, nan, inf, fin, neg, le, lt, eq}
+use Rattle.ieee.specs.Constants.{plusZero}
 use Rattle.picks.specs.Pick.{pick}
 use Rattle.ieee.specs.Magnitude.{withinPower}
 use Rattle.ieee.proofs.Magnitude.{sized}
 use Rattle.limits.specs.declared.Kind.{Kind}
 use Rattle.limits.specs.declared.Kind.the-variants.{Beat, RawBeat, RawTempo, TidyTempo, Tempo, Pause, Value, Offset}
 use Rattle.limits.specs.declared.Range.{Range}
-use Rattle.limits.specs.Numbers.{inRange, rangeOf, upTo, tempo, orDropped, power, sizeOf, nothing, every, allIn}
+use Rattle.limits.specs.Numbers.{inRange, rangeOf, upTo, tempo, orDropped, power, sizeOf, every, allIn}
 use Rattle.limits.specs.Plain.{inside, within, plain}
 use Rattle.limits.proofs.Every.{every-more}
 use Rattle.limits.proofs.TakenWithin.{first-test, within-taken}
@@ -55,7 +56,7 @@ plain-tempo zeroToo x h = go x (p .0) (within-power 30 x (p .1))
     go (inf s) i w = absurd (sized 30 (inf s) w .value)
     go (fin s m e) i w =
         let size = sizeOf (fin s m e) in
-        let most = first-test 30 (le size (power (pos 30))) (pick (le nothing size) true (pick (eq size nothing) true false)) (lt size (inf false)) (within-taken 30 (fin s m e) w) in
+        let most = first-test 30 (le size (power (pos 30))) (pick (le plusZero size) true (pick (eq size plusZero) true false)) (lt size (inf false)) (within-taken 30 (fin s m e) w) in
         rw (yes (le size (power (pos 30))) most, yes (le least size) (outside-reaches m e s i))
 
 -- ---- every kind

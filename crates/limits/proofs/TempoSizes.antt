@@ -9,11 +9,12 @@ use lib.Dec.{T}
 use lib.IntN.{ℤ, pos, negsuc}
 use lib.Ieee.{Float, nan, inf, fin, up, down, neg, lt, eq, le}
 use lib.Ieee.Fits.{down-pos}
+use Rattle.ieee.specs.Constants.{plusZero}
 use Rattle.picks.specs.Pick.{pick}
 use Rattle.ieee.proofs.FloatOrder.{le-sizes, sizes-le, lt-or-le}
 use Rattle.ieee.proofs.Magnitude.{Sized}
 use Rattle.ieee.proofs.SizesAddUp.{AtLeast}
-use Rattle.limits.specs.Numbers.{inRange, tempo, power, nothing, sizeOf}
+use Rattle.limits.specs.Numbers.{inRange, tempo, power, sizeOf}
 use Rattle.limits.specs.Plain.{inside}
 use Rattle.limits.proofs.TakenWithin.{taken-sized}
 
@@ -44,9 +45,9 @@ module _ (m : ℕ) (e : ℤ) where
 
   large : (s : Bool) → T (le least (sizeOf (fin s m e))) → down e ≤ 2 ^ 20 * (m * up e)
   unfolding lt neg
-  large s = go s (lt (fin s m e) nothing) refl
+  large s = go s (lt (fin s m e) plusZero) refl
     where
-      go : (s t : Bool) → lt (fin s m e) nothing ≡ t → T (le least (pick t (neg (fin s m e)) (fin s m e))) → down e ≤ 2 ^ 20 * (m * up e)
+      go : (s t : Bool) → lt (fin s m e) plusZero ≡ t → T (le least (pick t (neg (fin s m e)) (fin s m e))) → down e ≤ 2 ^ 20 * (m * up e)
       go false true q h = absurd (omega (arith, ltb-true (m * up e * 1) (0 * 1 * down e) q))
       go false false q h = from-least h
       go true true q h = from-least h
@@ -63,7 +64,7 @@ tempo-at-least (fin s m e) h = record {
   den = down e;
   den-pos = down-pos e;
   value = (refl, refl);
-  large = large m e s (second-test (le (sizeOf (fin s m e)) (power (pos 30))) (le least (sizeOf (fin s m e))) (eq (sizeOf (fin s m e)) nothing) (lt (sizeOf (fin s m e)) (inf false)) h);
+  large = large m e s (second-test (le (sizeOf (fin s m e)) (power (pos 30))) (le least (sizeOf (fin s m e))) (eq (sizeOf (fin s m e)) plusZero) (lt (sizeOf (fin s m e)) (inf false)) h);
 }
 
 -- ---- and back
@@ -73,9 +74,9 @@ module _ (m : ℕ) (e : ℤ) where
 
   by-size : (s : Bool) → down e ≤ 2 ^ 20 * (m * up e) → T (le least (sizeOf (fin s m e)))
   unfolding lt neg
-  by-size s l = go s (lt (fin s m e) nothing) refl
+  by-size s l = go s (lt (fin s m e) plusZero) refl
     where
-      go : (s t : Bool) → lt (fin s m e) nothing ≡ t → T (le least (pick t (neg (fin s m e)) (fin s m e)))
+      go : (s t : Bool) → lt (fin s m e) plusZero ≡ t → T (le least (pick t (neg (fin s m e)) (fin s m e)))
       go false true q = absurd (omega (arith, ltb-true (m * up e * 1) (0 * 1 * down e) q))
       go false false q = clear l
       go true true q = clear l

@@ -6,21 +6,18 @@ use lib.Dec.{leb, eqb}
 use lib.IntN.{ℤ, pos, negsuc, natAbs}
 use lib.Signed.{leZ, ltZ}
 use lib.Ieee.{Float, inf, fin, le, lt, eq, neg}
+use Rattle.ieee.specs.Constants.{plusZero}
 use Rattle.picks.specs.Pick.{pick}
 use Rattle.limits.specs.declared.Kind.{Kind}
 use Rattle.limits.specs.declared.Kind.the-variants.{Beat, RawBeat, RawTempo, TidyTempo, Tempo, Pause, Value, Offset}
 use Rattle.limits.specs.declared.Range.{Range}
-
--- 0 and 2 ^ k
-abbrev pub nothing : Float
-nothing = fin false 0 (pos 0)
 
 abbrev pub power : ℤ → Float
 power k = fin false 1 k
 
 -- finite, and at most 2 ^ k in size
 abbrev pub upTo : ℕ → Range
-upTo k = record { least = nothing; most = power (pos k); zeros = true; dropped = false }
+upTo k = record { least = plusZero; most = power (pos k); zeros = true; dropped = false }
 
 -- from 2 ^ -20 to 2 ^ 30 in size, and 0 where it is taken too
 abbrev pub tempo : Bool → Range
@@ -42,13 +39,13 @@ rangeOf Value = upTo 30
 rangeOf Offset = upTo 20
 
 abbrev pub sizeOf : Float → Float
-sizeOf x = pick (lt x nothing) (neg x) x
+sizeOf x = pick (lt x plusZero) (neg x) x
 
 -- by size: at most the most, and at least the least or a 0 that is taken; beyond the most only what is not finite can pass
 unfoldable pub inRange : Range → Float → Bool
 inRange range x =
     pick (le (sizeOf x) (range .most))
-    (pick (le (range .least) (sizeOf x)) true (pick (eq (sizeOf x) nothing) (range .zeros) false))
+    (pick (le (range .least) (sizeOf x)) true (pick (eq (sizeOf x) plusZero) (range .zeros) false))
     (pick (lt (sizeOf x) (inf false)) false (range .dropped))
 
 -- every number of a list passes a test

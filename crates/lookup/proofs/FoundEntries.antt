@@ -8,8 +8,8 @@ use native.Mathlib.Omega.{arith}
 use borrow.Author.Tests.{le-leb, lt-leb, eq-eqb, ne-eqb}
 use lib.ListN.{length, getD}
 use lib.Ieee.{Float, nan, lt}
+use Rattle.ieee.specs.Constants.{plusZero}
 use Rattle.picks.specs.Pick.{pick}
-use Rattle.limits.specs.Numbers.{nothing}
 use Rattle.order.proofs.Compare.{below?}
 use Rattle.lookup.specs.Lookups.{keyOf, lastPasses, isPaused}
 use Rattle.lookup.specs.Finding.{keyAt, Passed, Past, Split, Between, ofLast, pausesOn}
@@ -89,7 +89,7 @@ pause-found key (beat ∷ beats) [] n e r s = absurd (omega arith)
 pause-found key (beat ∷ beats) (value ∷ values) zero e r s = none-paused key (beat ∷ beats) (value ∷ values) (λ place l same. omega (arith, s .past place (omega arith) l))
 pause-found key (beat ∷ beats) (value ∷ values) (suc zero) e r s =
     let rest : isPaused key beats values ≡ false = none-paused key beats values (λ place l same. omega (arith, s .past (suc place) (omega arith) (omega arith))) in
-    rw (rest, alone (lt nothing value)) (sym (of-next (pausesOn key) false (beat ∷ beats) (value ∷ values) 0))
+    rw (rest, alone (lt plusZero value)) (sym (of-next (pausesOn key) false (beat ∷ beats) (value ∷ values) 0))
 pause-found key (beat ∷ beats) (value ∷ values) (suc (suc m)) e r s =
     let here : keyOf beat < key = omega (arith, r 0 (suc m) (omega arith) (omega (arith, s .passed .0)), s .passed .1 (suc m) (omega arith)) in
     rw (ne-eqb (keyOf beat) key (λ same. omega arith))

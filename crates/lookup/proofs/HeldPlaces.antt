@@ -10,8 +10,8 @@ use borrow.Author.Tests.{lt-ltb, ne-eqb}
 use lib.Dec.{eqb}
 use lib.ListN.{length, getD}
 use lib.Ieee.{Float, nan, lt}
+use Rattle.ieee.specs.Constants.{plusZero}
 use Rattle.picks.specs.Pick.{pick}
-use Rattle.limits.specs.Numbers.{nothing}
 use Rattle.order.proofs.Compare.{below?}
 use Rattle.lookup.specs.Lookups.{isPaused}
 use Rattle.lookup.specs.Finding.{keyAt, keyBefore, keyAfter, Passed, Past, Split, ofLast, pausesOn, Stands, Usable}
@@ -55,12 +55,12 @@ module _ (key : ℕ) (beats values : List Float) where
   neither-way true = refl
   neither-way false = refl
 
-  on-last : (n from : ℕ) → from ≡ keyBefore beats n → ofLast (pausesOn key) false beats values n ≡ pick (eqb from key) (pick (eqb n 0) false (lt nothing (getD values (n - 1) nan))) false
+  on-last : (n from : ℕ) → from ≡ keyBefore beats n → ofLast (pausesOn key) false beats values n ≡ pick (eqb from key) (pick (eqb n 0) false (lt plusZero (getD values (n - 1) nan))) false
   on-last zero from e = sym (neither-way (eqb from key))
   on-last (suc m) from e =
       let here : suc m - 1 ≡ m = omega arith in
       of-next (pausesOn key) false beats values m ∙ rw (e ∙ before-next beats m, ne-eqb (suc m) 0 (λ e. omega arith), here)
 
   pub pause-on-row : (count from until : ℕ) → Usable beats values → Stands beats count from until → Split key beats count
-      → isPaused key beats values ≡ pick (eqb from key) (pick (eqb count 0) false (lt nothing (getD values (count - 1) nan))) false
+      → isPaused key beats values ≡ pick (eqb from key) (pick (eqb count 0) false (lt plusZero (getD values (count - 1) nan))) false
   pause-on-row count from until usable stands split = pause-found key beats values count (usable .0) (rises beats (usable .1)) split ∙ on-last count from (stands .before)

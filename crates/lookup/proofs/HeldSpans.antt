@@ -8,8 +8,8 @@ use borrow.Author.Tests.{ne-eqb}
 use lib.IntN.{ℤ}
 use lib.ListN.{getD}
 use lib.Ieee.{Float, nan, inf, fin, binary32, add, lt, le, eq}
+use Rattle.ieee.specs.Constants.{plusZero}
 use Rattle.picks.specs.Pick.{pick}
-use Rattle.limits.specs.Numbers.{nothing}
 use Rattle.rows.specs.Rows.{beatOf}
 use Rattle.order.specs.RowKey.{rowKey}
 use Rattle.lookup.specs.Lookups.{warpCovers, fakeCovers, inWarp, isPaused, isWarped, isFake, isJudgable}
@@ -37,7 +37,7 @@ module _ (beats lengths : List Float) (at : Float) where
   warp-spans zero = refl
   warp-spans (suc m) =
       let here : suc m - 1 ≡ m = omega arith in
-      rw (ne-eqb (suc m) 0 (λ e. omega arith), here) (no-length (lt nothing (getD lengths m nan)) (getD beats m nan) (add binary32 (getD beats m nan) (getD lengths m nan)))
+      rw (ne-eqb (suc m) 0 (λ e. omega arith), here) (no-length (lt plusZero (getD lengths m nan)) (getD beats m nan) (add binary32 (getD beats m nan) (getD lengths m nan)))
 
   fake-spans : (n : ℕ) → spanCovers (startOf beats n) (fakeEnd beats lengths n) at ≡ ofLast (fakeCovers at) false beats lengths n
   unfolding fakeEnd le lt eq

@@ -9,8 +9,8 @@ use lib.Dec.{eqb}
 use lib.IntN.{ℤ}
 use lib.ListN.{length, getD}
 use lib.Ieee.{Float, nan, lt}
+use Rattle.ieee.specs.Constants.{plusZero}
 use Rattle.picks.specs.Pick.{pick}
-use Rattle.limits.specs.Numbers.{nothing}
 use Rattle.order.specs.Order.{laid}
 use Rattle.order.specs.RowKey.{rowKey}
 use Rattle.columns.specs.declared.Outcome.{Outcome}
@@ -35,28 +35,28 @@ pub record Pause (key : ℕ) (beats values : List Float) : Type 0 where
   pub within : place < length beats
   pub alsoWithin : place < length values
   pub onRow : keyAt beats place ≡ key
-  pub above : lt nothing (getD values place nan) ≡ true
+  pub above : lt plusZero (getD values place nan) ≡ true
 
 pub paused-some : (key : ℕ) (beats values : List Float) → isPaused key beats values ≡ true → Pause key beats values
 unfolding isPaused
 paused-some key [] values h = never h
 paused-some key (beat ∷ beats) [] h = never h
-paused-some key (beat ∷ beats) (value ∷ values) h = go (λ k. paused-some key beats values k) (eqb (keyOf beat) key) (lt nothing value) refl refl h
+paused-some key (beat ∷ beats) (value ∷ values) h = go (λ k. paused-some key beats values k) (eqb (keyOf beat) key) (lt plusZero value) refl refl h
   where
     later : Pause key beats values → Pause key (beat ∷ beats) (value ∷ values)
     later p = record { place = suc (p .place); within = omega (arith, p .within); alsoWithin = omega (arith, p .alsoWithin); onRow = p .onRow; above = p .above }
 
-    go : (isPaused key beats values ≡ true → Pause key beats values) → (t s : Bool) → eqb (keyOf beat) key ≡ t → lt nothing value ≡ s → pick t (pick s true (isPaused key beats values)) (isPaused key beats values) ≡ true → Pause key (beat ∷ beats) (value ∷ values)
+    go : (isPaused key beats values ≡ true → Pause key beats values) → (t s : Bool) → eqb (keyOf beat) key ≡ t → lt plusZero value ≡ s → pick t (pick s true (isPaused key beats values)) (isPaused key beats values) ≡ true → Pause key (beat ∷ beats) (value ∷ values)
     go rest true true e l k = record { place = 0; within = omega arith; alsoWithin = omega arith; onRow = eqb-true (keyOf beat) key e; above = l }
     go rest true false e l k = later (rest k)
     go rest false s e l k = later (rest k)
 
-pub some-paused : (key : ℕ) (beats values : List Float) → (place : ℕ) → place < length beats → place < length values → keyAt beats place ≡ key → lt nothing (getD values place nan) ≡ true → isPaused key beats values ≡ true
+pub some-paused : (key : ℕ) (beats values : List Float) → (place : ℕ) → place < length beats → place < length values → keyAt beats place ≡ key → lt plusZero (getD values place nan) ≡ true → isPaused key beats values ≡ true
 unfolding isPaused
 some-paused key [] values place h k e l = absurd (omega arith)
 some-paused key (beat ∷ beats) [] place h k e l = absurd (omega arith)
 some-paused key (beat ∷ beats) (value ∷ values) zero h k e l = rw (eq-eqb (keyOf beat) key e, l)
-some-paused key (beat ∷ beats) (value ∷ values) (suc place) h k e l = go (eqb (keyOf beat) key) (lt nothing value) (some-paused key beats values place (omega arith) (omega arith) e l)
+some-paused key (beat ∷ beats) (value ∷ values) (suc place) h k e l = go (eqb (keyOf beat) key) (lt plusZero value) (some-paused key beats values place (omega arith) (omega arith) e l)
   where
     go : (t s : Bool) → isPaused key beats values ≡ true → pick t (pick s true (isPaused key beats values)) (isPaused key beats values) ≡ true
     go true true r = refl

@@ -6,8 +6,8 @@ use mathlib.Core.Path.{_≡_}
 use lib.Dec.{ltb, eqb}
 use lib.ListN.{length, getD}
 use lib.Ieee.{Float, nan, le, lt, add, binary32, binary64}
+use Rattle.ieee.specs.Constants.{plusZero}
 use Rattle.ieee.specs.Narrowing.{narrow}
-use Rattle.limits.specs.Numbers.{nothing}
 use Rattle.picks.specs.Pick.{pick}
 use Rattle.lookup.specs.declared.Cursor.{Cursor}
 use Rattle.lookup.specs.declared.Place.{Place}
@@ -44,7 +44,7 @@ ofLast test none beats values n = pick (eqb n 0) none (test (getD beats (n - 1) 
 
 -- an entry above 0 on a row
 abbrev pub pausesOn : ℕ → Float → Float → Bool
-pausesOn key beat value = pick (eqb (keyOf beat) key) (lt nothing value) false
+pausesOn key beat value = pick (eqb (keyOf beat) key) (lt plusZero value) false
 
 -- ---- where a row stands in a list
 
@@ -74,7 +74,7 @@ abbrev pub startOf : List Float → ℕ → Float
 startOf beats n = pick (eqb n 0) nan (getD beats (n - 1) nan)
 
 unfoldable pub warpEnd : (beats lengths : List Float) → ℕ → Float
-warpEnd beats lengths n = pick (eqb n 0) nan (pick (lt nothing (getD lengths (n - 1) nan)) (add binary32 (getD beats (n - 1) nan) (getD lengths (n - 1) nan)) nan)
+warpEnd beats lengths n = pick (eqb n 0) nan (pick (lt plusZero (getD lengths (n - 1) nan)) (add binary32 (getD beats (n - 1) nan) (getD lengths (n - 1) nan)) nan)
 
 unfoldable pub fakeEnd : (beats lengths : List Float) → ℕ → Float
 fakeEnd beats lengths n = pick (eqb n 0) nan (narrow (add binary64 (getD beats (n - 1) nan) (getD lengths (n - 1) nan)))

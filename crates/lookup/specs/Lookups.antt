@@ -7,10 +7,10 @@ use lib.Dec.{leb, eqb}
 use lib.IntN.{ℤ}
 use lib.ListN.{length}
 use lib.Ieee.{Float, Format, binary32, binary64, lt, le, add}
+use Rattle.ieee.specs.Constants.{plusZero}
 use Rattle.picks.specs.Pick.{pick}
 use Rattle.ieee.specs.Narrowing.{narrow}
 use Rattle.rows.specs.Rows.{row, beatOf}
-use Rattle.limits.specs.Numbers.{nothing}
 use Rattle.order.specs.Order.{laid}
 use Rattle.order.specs.RowKey.{rowKey}
 use Rattle.columns.specs.declared.Outcome.{Outcome}
@@ -31,13 +31,13 @@ lastPasses test key none (beat ∷ beats) (value ∷ values) = lastPasses test k
 unfoldable pub isPaused : ℕ → List Float → List Float → Bool
 isPaused key [] values = false
 isPaused key (beat ∷ beats) [] = false
-isPaused key (beat ∷ beats) (value ∷ values) = pick (eqb (keyOf beat) key) (pick (lt nothing value) true (isPaused key beats values)) (isPaused key beats values)
+isPaused key (beat ∷ beats) (value ∷ values) = pick (eqb (keyOf beat) key) (pick (lt plusZero value) true (isPaused key beats values)) (isPaused key beats values)
 
 -- ---- the three questions
 
 -- from its beat on and before its end: a warp, of a length above 0, sums in f32
 abbrev pub warpCovers : Float → Float → Float → Bool
-warpCovers at beat length = pick (lt nothing length) (pick (le beat at) (lt at (add binary32 beat length)) false) false
+warpCovers at beat length = pick (lt plusZero length) (pick (le beat at) (lt at (add binary32 beat length)) false) false
 
 -- a fake sums in f64, and then narrows
 abbrev pub fakeCovers : Float → Float → Float → Bool

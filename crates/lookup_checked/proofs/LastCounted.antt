@@ -10,8 +10,8 @@ use borrow.Author.Tests.{lt-ltb, le-ltb, eq-eqb, ne-eqb, eqb-true, eqb-false}
 use lib.Dec.{eqb}
 use lib.ListN.{length, getD}
 use lib.Ieee.{Float, nan, le, lt}
+use Rattle.ieee.specs.Constants.{plusZero}
 use Rattle.picks.specs.Pick.{pick}
-use Rattle.limits.specs.Numbers.{nothing}
 use Rattle.order.proofs.Compare.{below?}
 use Rattle.lookup.specs.Finding.{keyAt, ofLast, pausesOn}
 use Rattle.lookup.specs.Lookups.{warpCovers, fakeCovers}
@@ -82,7 +82,7 @@ module _ (test : Float → Float → Bool) (at : Float) (key : ℕ) (beats value
 
 -- ---- the tests of warps and of fakes are such
 pub warps-end : (at beat value : Float) → le beat at ≡ false → warpCovers at beat value ≡ false
-warps-end at beat value h = rw h (go (lt nothing value))
+warps-end at beat value h = rw h (go (lt plusZero value))
   where
     go : (t : Bool) → pick t false false ≡ false
     go true = refl
@@ -95,7 +95,7 @@ fakes-end at beat value h = rw h
 module _ (at : Float) (key : ℕ) (beats values : List Float) where
   -- of the entry before a place, where it is there
   before : (n : ℕ) → n ≤ length beats
-      → ofLast (pausesOn key) false beats values n ≡ pick (eqb n 0) false (pick (isOnRow beats (n - 1) key) (lt nothing (getD values (n - 1) nan)) false)
+      → ofLast (pausesOn key) false beats values n ≡ pick (eqb n 0) false (pick (isOnRow beats (n - 1) key) (lt plusZero (getD values (n - 1) nan)) false)
   unfolding isOnRow
   before zero h = refl
   before (suc m) h =
@@ -103,32 +103,32 @@ module _ (at : Float) (key : ℕ) (beats values : List Float) where
       rw (ne-eqb (suc m) 0 (λ e. omega arith), here, lt-ltb m (length beats) (omega arith))
 
   paused-by-place : pausedBy at key beats values
-      ≡ pick (isOnRow beats (placeOf beats at) key) (lt nothing (getD values (placeOf beats at) nan))
-      (pick (eqb (placeOf beats at) 0) false (pick (isOnRow beats (placeOf beats at - 1) key) (lt nothing (getD values (placeOf beats at - 1) nan)) false))
+      ≡ pick (isOnRow beats (placeOf beats at) key) (lt plusZero (getD values (placeOf beats at) nan))
+      (pick (eqb (placeOf beats at) 0) false (pick (isOnRow beats (placeOf beats at - 1) key) (lt plusZero (getD values (placeOf beats at - 1) nan)) false))
   unfolding counted
   paused-by-place = go (isOnRow beats (placeOf beats at) key) refl
     where
       go : (t : Bool) → isOnRow beats (placeOf beats at) key ≡ t
           → ofLast (pausesOn key) false beats values (pick t (placeOf beats at + 1) (placeOf beats at))
-          ≡ pick t (lt nothing (getD values (placeOf beats at) nan))
-          (pick (eqb (placeOf beats at) 0) false (pick (isOnRow beats (placeOf beats at - 1) key) (lt nothing (getD values (placeOf beats at - 1) nan)) false))
+          ≡ pick t (lt plusZero (getD values (placeOf beats at) nan))
+          (pick (eqb (placeOf beats at) 0) false (pick (isOnRow beats (placeOf beats at - 1) key) (lt plusZero (getD values (placeOf beats at - 1) nan)) false))
       go true e =
           next-last (pausesOn key) beats values (placeOf beats at)
           ∙ rw (eq-eqb (keyAt beats (placeOf beats at)) key (on-row beats (placeOf beats at) key e .1))
       go false e = before (placeOf beats at) (place-ends beats at .within)
 
   module _ (place : ℕ) (found : place ≡ placeOf beats at) where
-    pub pause-there : isOnRow beats place key ≡ true → lt nothing (getD values place nan) ≡ pausedBy at key beats values
+    pub pause-there : isOnRow beats place key ≡ true → lt plusZero (getD values place nan) ≡ pausedBy at key beats values
     pause-there h = sym (paused-by-place ∙ rw (ap (λ (n : ℕ). isOnRow beats n key) (sym found) ∙ h, found))
 
     module _ (not-there : isOnRow beats place key ≡ false) where
-      elsewhere : pausedBy at key beats values ≡ pick (eqb place 0) false (pick (isOnRow beats (place - 1) key) (lt nothing (getD values (place - 1) nan)) false)
+      elsewhere : pausedBy at key beats values ≡ pick (eqb place 0) false (pick (isOnRow beats (place - 1) key) (lt plusZero (getD values (place - 1) nan)) false)
       elsewhere = paused-by-place ∙ rw (ap (λ (n : ℕ). isOnRow beats n key) (sym found) ∙ not-there, found)
 
       pub no-pause-first : place ≡ 0 → false ≡ pausedBy at key beats values
       no-pause-first h = sym (elsewhere ∙ rw (eq-eqb place 0 h))
 
-      pub pause-before : (place ≡ 0 → ⊥) → isOnRow beats (place - 1) key ≡ true → lt nothing (getD values (place - 1) nan) ≡ pausedBy at key beats values
+      pub pause-before : (place ≡ 0 → ⊥) → isOnRow beats (place - 1) key ≡ true → lt plusZero (getD values (place - 1) nan) ≡ pausedBy at key beats values
       pause-before some h = sym (elsewhere ∙ rw (ne-eqb place 0 some, h))
 
       pub no-pause-before : (place ≡ 0 → ⊥) → isOnRow beats (place - 1) key ≡ false → false ≡ pausedBy at key beats values

@@ -6,11 +6,12 @@ use mathlib.Core.Path.{_≡_}
 use lib.IntN.{ℤ}
 use lib.ListN.{length}
 use lib.Ieee.{Float, binary32, lt}
+use Rattle.ieee.specs.Constants.{plusZero}
 use Rattle.picks.specs.Pick.{pick}
 use Rattle.rows.specs.Rows.{row}
 use Rattle.limits.specs.declared.Kind.{Kind}
 use Rattle.limits.specs.declared.Kind.the-variants.{Beat, Pause, Value}
-use Rattle.limits.specs.Numbers.{rangeOf, nothing}
+use Rattle.limits.specs.Numbers.{rangeOf}
 use Rattle.limits.specs.Refusals.{lower, listNumber}
 use Rattle.order.specs.Order.{ordered, tidied, laid}
 use Rattle.order.specs.RowKey.{rowKey}
@@ -19,7 +20,7 @@ use Rattle.lookup_row_store.specs.declared.Stored.{Stored}
 
 -- whether an entry has a row in the store: of stops and delays, the pauses, those above 0
 abbrev pub isStored : Bool → Float → Bool
-isStored pauses value = pick pauses (lt nothing value) true
+isStored pauses value = pick pauses (lt plusZero value) true
 
 -- the f32 rows of a list's stored entries, as they come
 unfoldable pub givenRows : Bool → List Float → List Float → List ℤ

@@ -8,19 +8,19 @@ use lib.Dec.{eqb}
 use lib.ListN.{length}
 use lib.Ieee.{Float, le, lt, eq, neg}
 use borrow.Author.Tests.{eq-eqb, ne-eqb, eqb-true}
+use Rattle.ieee.specs.Constants.{plusZero, sixty}
 use Rattle.picks.specs.Pick.{pick}
 use Rattle.limits.specs.Refusals.{listNumber}
 use Rattle.limits.specs.Numbers.{inRange, every}
 use Rattle.order.specs.Order.{laid}
 use Rattle.columns.specs.Laying.{roomNumber, LaidList}
 use Rattle.columns.proofs.Rooms.{number-of-tests, number-taken, list-refused, list-laid}
-use Rattle.tidy_tempos.specs.TempoTidying.{beatZero, sixty}
 use Rattle.process_raw.specs.declared.Processed.{Processed}
 use Rattle.process_raw.specs.RawLists.{rawNumber, rawNumbers}
 use Rattle.process_ssc.specs.Ssc.{SscProcessed}
 use Rattle.chart.specs.declared.TimingFormat.{TimingFormat}
 use Rattle.chart.specs.declared.TimingFormat.the-variants.{Sm, Ssc}
-use Rattle.process.specs.ByFormat.{unmoved, noneGiven, tempoBeatsOf, tempoValuesOf, listsBy, processedLists, ListsLaid, ProcessedBy}
+use Rattle.process.specs.ByFormat.{noneGiven, tempoBeatsOf, tempoValuesOf, listsBy, processedLists, ListsLaid, ProcessedBy}
 
 -- ---- no warps: no number of their own, and nothing written
 
@@ -33,7 +33,7 @@ unfolding laid
 none-laid zero count e beats lengths = list-laid e refl refl
 none-laid (suc n) count e beats lengths = rw e (list-refused (λ z. omega arith))
 
-no-offset : (t : Bool) → unmoved ≡ pick t unmoved unmoved
+no-offset : (t : Bool) → plusZero ≡ pick t plusZero plusZero
 no-offset true = refl
 no-offset false = refl
 
@@ -51,7 +51,7 @@ module _ {tempoBeats tempoValues stopBeats stopValues : List Float} {outcome : P
 -- ---- tempos given and not given
 
 -- 60 at beat 0 is taken, as nothing is
-pub sixty-taken : rawNumber (beatZero ∷ []) (sixty ∷ []) ≡ rawNumber [] []
+pub sixty-taken : rawNumber (plusZero ∷ []) (sixty ∷ []) ≡ rawNumber [] []
 unfolding listNumber every inRange le lt eq neg
 sixty-taken = refl
 
@@ -70,11 +70,11 @@ module _ (format : TimingFormat) (stopBeats stopValues : List Float) where
   unfolding processedLists tempoBeatsOf tempoValuesOf
   lists-given beats values h = rw (some-given beats values h)
 
-  lists-sixty : (beats values : List Float) → length beats ≡ 0 → length values ≡ 0 → processedLists format beats values stopBeats stopValues ≡ listsBy format (beatZero ∷ []) (sixty ∷ []) stopBeats stopValues
+  lists-sixty : (beats values : List Float) → length beats ≡ 0 → length values ≡ 0 → processedLists format beats values stopBeats stopValues ≡ listsBy format (plusZero ∷ []) (sixty ∷ []) stopBeats stopValues
   unfolding processedLists tempoBeatsOf tempoValuesOf
   lists-sixty beats values h k = rw (none-given beats values h k)
 
-  number-sixty : (beats values : List Float) → length beats ≡ 0 → length values ≡ 0 → rawNumbers beats values stopBeats stopValues ≡ rawNumbers (beatZero ∷ []) (sixty ∷ []) stopBeats stopValues
+  number-sixty : (beats values : List Float) → length beats ≡ 0 → length values ≡ 0 → rawNumbers beats values stopBeats stopValues ≡ rawNumbers (plusZero ∷ []) (sixty ∷ []) stopBeats stopValues
   number-sixty [] [] h k = rw sixty-taken
   number-sixty [] (v ∷ values) h k = absurd (omega arith)
   number-sixty (b ∷ beats) values h k = absurd (omega arith)
@@ -86,6 +86,6 @@ module _ (format : TimingFormat) (tempoBeats tempoValues stopBeats stopValues : 
   as-given h p = rw (lists-given format stopBeats stopValues tempoBeats tempoValues h) p
 
   pub as-sixty : length tempoBeats ≡ 0 → length tempoValues ≡ 0
-      → ListsLaid (rawNumbers (beatZero ∷ []) (sixty ∷ []) stopBeats stopValues) (listsBy format (beatZero ∷ []) (sixty ∷ []) stopBeats stopValues) outcome tempoBeatsOld tempoBeatsNew tempoValuesOld tempoValuesNew stopBeatsOld stopBeatsNew stopValuesOld stopValuesNew warpBeatsOld warpBeatsNew warpLengthsOld warpLengthsNew
+      → ListsLaid (rawNumbers (plusZero ∷ []) (sixty ∷ []) stopBeats stopValues) (listsBy format (plusZero ∷ []) (sixty ∷ []) stopBeats stopValues) outcome tempoBeatsOld tempoBeatsNew tempoValuesOld tempoValuesNew stopBeatsOld stopBeatsNew stopValuesOld stopValuesNew warpBeatsOld warpBeatsNew warpLengthsOld warpLengthsNew
       → ProcessedBy format tempoBeats tempoValues stopBeats stopValues outcome tempoBeatsOld tempoBeatsNew tempoValuesOld tempoValuesNew stopBeatsOld stopBeatsNew stopValuesOld stopValuesNew warpBeatsOld warpBeatsNew warpLengthsOld warpLengthsNew
   as-sixty h k p = rw (number-sixty format stopBeats stopValues tempoBeats tempoValues h k, lists-sixty format stopBeats stopValues tempoBeats tempoValues h k) p

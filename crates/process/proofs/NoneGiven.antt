@@ -7,8 +7,8 @@ use native.Mathlib.Omega.{arith}
 use lib.ListN.{length}
 use lib.Ieee.{Float}
 use borrow.Author.Tests.{ne-eqb}
+use Rattle.ieee.specs.Constants.{plusZero}
 use Rattle.picks.specs.Pick.{pick}
-use Rattle.tidy_tempos.specs.TempoTidying.{beatZero}
 use Rattle.process_raw.specs.RawLists.{rawNumbers}
 use Rattle.process.specs.ByFormat.{noneGiven, tempoBeatsOf, tempoValuesOf}
 use Rattle.process.proofs.FormatLists.{sixty-taken}
@@ -23,6 +23,6 @@ pub given-length : (beats values : List Float) → length (tempoBeatsOf beats va
 unfolding tempoBeatsOf
 given-length beats values = go (noneGiven beats values)
   where
-    go : (t : Bool) → length (pick t (beatZero ∷ []) beats) ≤ max (length beats) 1
+    go : (t : Bool) → length (pick t (plusZero ∷ []) beats) ≤ max (length beats) 1
     go true = omega arith
     go false = omega arith

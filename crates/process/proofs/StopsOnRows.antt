@@ -9,6 +9,7 @@ use lib.IntN.{pos}
 use lib.Ieee.{Float, nan, inf, fin, binary32, ofInt, lt, add}
 use lib.Ieee.Fits.{div-fits, add-fits}
 use lib.Ieee.Scale.{finite}
+use Rattle.ieee.specs.Constants.{plusZero32}
 use Rattle.picks.specs.Pick.{pick}
 use Rattle.ieee.proofs.Narrow.{narrow-own}
 use Rattle.rows.specs.Rows.{row, quantized, quantized32, allowedBeat}
@@ -29,7 +30,7 @@ use Rattle.process_sm_machine.specs.declared.Warp.the-variants.{Closed, Open}
 use Rattle.process_sm_machine.specs.declared.State.{State}
 use Rattle.process_sm_machine.specs.declared.Written.{Written}
 use Rattle.process_sm_machine.specs.declared.Moved.{Moved}
-use Rattle.process_sm_machine.specs.Machine.{naught, fits, entryAt, openChart, owedAt, keepWarp, closeByTime, passInWarp, passBy, pass, tempoOutside, tempoBy, meetTempo, stopOutside, closeByStop, beginAgain, stopInWarp, stopBy, meetStop, beatAt, meet, passed, met, finishWarp, finishBy, finish}
+use Rattle.process_sm_machine.specs.Machine.{fits, entryAt, openChart, owedAt, keepWarp, closeByTime, passInWarp, passBy, pass, tempoOutside, tempoBy, meetTempo, stopOutside, closeByStop, beginAgain, stopInWarp, stopBy, meetStop, beatAt, meet, passed, met, finishWarp, finishBy, finish}
 use Rattle.process_sm_machine.proofs.Either.{either}
 use Rattle.process_sm_machine.proofs.Reached.{pass-reaches}
 use Rattle.process_sm_walk.specs.Chart.{listOf, walk, processed, openingTempo, openingPlaces}
@@ -64,16 +65,16 @@ none-in-passing state beat = go (state .warp)
   where
     go : (warp : Warp) → On (passBy warp (state .tempo) (state .beat) beat .stop)
     go Closed = tt
-    go (Open warp) = either (λ (m : Moved). On (m .stop)) (fits (state .tempo) && lt naught (owedAt (state .tempo) (state .beat) (warp .owed) beat)) _ _ tt tt
+    go (Open warp) = either (λ (m : Moved). On (m .stop)) (fits (state .tempo) && lt plusZero32 (owedAt (state .tempo) (state .beat) (warp .owed) beat)) _ _ tt tt
 
 stop-on : (state : State) (length : Float) → Beat (state .beat) → F32 length → On (meetStop state length .stop)
 unfolding meetStop stopOutside stopInWarp closeByStop beginAgain keepWarp
 stop-on state length b v = go (state .warp)
   where
     go : (warp : Warp) → On (stopBy warp (state .tempo) (state .beat) length .stop)
-    go Closed = either (λ (m : Moved). On (m .stop)) (lt length naught) _ _ tt (entry-on (state .beat) length b v)
+    go Closed = either (λ (m : Moved). On (m .stop)) (lt length plusZero32) _ _ tt (entry-on (state .beat) length b v)
     go (Open warp) =
-        either (λ (m : Moved). On (m .stop)) (lt naught length && lt naught (add binary32 (warp .owed) length)) _ _
+        either (λ (m : Moved). On (m .stop)) (lt plusZero32 length && lt plusZero32 (add binary32 (warp .owed) length)) _ _
         (either (λ (m : Moved). On (m .stop)) (fits (state .tempo)) _ _ (entry-on (state .beat) (add binary32 (warp .owed) length) b (add-fits binary32 (warp .owed) length)) (entry-on (state .beat) (add binary32 (warp .owed) length) b (add-fits binary32 (warp .owed) length))) tt
 
 none-at-tempo : (state : State) (tempo : Float) → On (meetTempo state tempo .stop)

@@ -10,6 +10,7 @@ use lib.IntN.{ℤ}
 use lib.Ieee.{Float, nan, inf, fin, binary32, binary64, ofInt, ofBits, lt, le, eq, neg, add, div, fits, up, down}
 use lib.Ieee.Bits.{is-true}
 use lib.Ieee.Scale.{finite}
+use Rattle.ieee.specs.Constants.{plusZero, plusZero32, sixty32}
 use Rattle.picks.specs.Pick.{pick}
 use Rattle.ieee.specs.Narrowing.{narrow}
 use Rattle.ieee.specs.Magnitude.{withinPower}
@@ -27,7 +28,7 @@ use Rattle.order.specs.Entries.{entries}
 use Rattle.order.specs.FloatKey.{floatKey}
 use Rattle.order.proofs.OrderedList.{Each}
 use Rattle.columns.specs.Kept.{kept}
-use Rattle.tidy_tempos.specs.TempoTidying.{beatKeyOf, beatZero}
+use Rattle.tidy_tempos.specs.TempoTidying.{beatKeyOf}
 use Rattle.process_ssc.specs.Ssc as ssc
 use Rattle.process_raw.specs.RawLists.{rawNumber}
 use Rattle.process_sm_changes.specs.SmChanges as changes
@@ -42,7 +43,7 @@ use Rattle.process_sm_machine.specs.declared.Written.{Written}
 use Rattle.process_sm_machine.specs.declared.Written.the-variants.{Nothing}
 use Rattle.process_sm_machine.specs.declared.Moved.{Moved}
 use Rattle.process_sm_machine.specs.Machine as machine
-use Rattle.process_sm_machine.specs.Machine.{naught, sixty, entryAt, tempoAfter, openChart, owedAt, keepWarp, closeByTime, passInWarp, passBy, pass, tempoOutside, tempoBy, meetTempo, stopOutside, closeByStop, beginAgain, stopInWarp, stopBy, meetStop, beatAt, meet, passed, met, finishWarp, finishBy, finish}
+use Rattle.process_sm_machine.specs.Machine.{entryAt, tempoAfter, openChart, owedAt, keepWarp, closeByTime, passInWarp, passBy, pass, tempoOutside, tempoBy, meetTempo, stopOutside, closeByStop, beginAgain, stopInWarp, stopBy, meetStop, beatAt, meet, passed, met, finishWarp, finishBy, finish}
 use Rattle.process_sm_machine.proofs.Either.{either}
 use Rattle.process_sm_walk.specs.Chart.{listOf, walk, processed, openingTempo, openingPlaces}
 use Rattle.process_sm_walk.specs.Changes.{left}
@@ -61,7 +62,7 @@ use Rattle.process.proofs.StopsOnRows.{OnItsRow, on-its-row}
 pub record OnGrid (Kind : Float → Type 0) (e : Float × Float) : Type 0 where
   pub onRow : quantized (e .0) ≡ e .0
   pub allowed : T (allowedBeat (e .0))
-  pub forth : floatKey binary64 beatZero ≤ floatKey binary64 (e .0)
+  pub forth : floatKey binary64 plusZero ≤ floatKey binary64 (e .0)
   pub tempo : Kind (e .1)
 
 -- one that the clock takes, narrowed or not
@@ -70,30 +71,30 @@ Narrowed v = inRange (rangeOf kind.Tempo) (narrow v) ≡ true
 
 -- ---- beats from 0 on
 
-pub zero-on-row : quantized beatZero ≡ beatZero
+pub zero-on-row : quantized plusZero ≡ plusZero
 unfolding div ofInt narrow
-zero-on-row = ap (λ (r : ℤ). beatOf binary32 r) (row-of-zero binary32 (narrow beatZero) (unfold eq in refl))
+zero-on-row = ap (λ (r : ℤ). beatOf binary32 r) (row-of-zero binary32 (narrow plusZero) (unfold eq in refl))
 
-pub zero-allowed : T (allowedBeat beatZero)
+pub zero-allowed : T (allowedBeat plusZero)
 unfolding withinPower le
 zero-allowed = tt
 
-zero-beat : Beat beatZero
+zero-beat : Beat plusZero
 unfolding fits
 zero-beat = record { held = tt; allowed = zero-allowed }
 
 -- a beat that is not before 0 is not before it on its row
-forth-of : (beat : Float) → T (allowedBeat beat) → T (le beatZero beat) → floatKey binary64 beatZero ≤ floatKey binary64 (quantized beat)
+forth-of : (beat : Float) → T (allowedBeat beat) → T (le plusZero beat) → floatKey binary64 plusZero ≤ floatKey binary64 (quantized beat)
 forth-of beat h l =
     let b : Beat (narrow beat) = record { held = narrow-fits beat; allowed = narrow-allowed beat h } in
-    let own : narrow beatZero ≡ beatZero = narrow-own beatZero (zero-beat .held) in
-    let less : T (le beatZero (narrow beat)) = subst (λ (x : Float). T (le x (narrow beat))) own (narrow-keeps-order beatZero beat l) in
-    let keys : at beatZero ≤ at (narrow beat) = leb-true (at beatZero) (at (narrow beat)) (sym (at-le beatZero (narrow beat) zero-beat b) ∙ is-true (le beatZero (narrow beat)) less) in
-    let on : quantized32 beatZero ≡ beatZero = ap (λ (x : Float). quantized32 x) (sym own) ∙ zero-on-row in
-    subst (λ (x : Float). floatKey binary64 x ≤ floatKey binary64 (quantized beat)) on (spot-mono beatZero (narrow beat) zero-beat b binary64 keys)
+    let own : narrow plusZero ≡ plusZero = narrow-own plusZero (zero-beat .held) in
+    let less : T (le plusZero (narrow beat)) = subst (λ (x : Float). T (le x (narrow beat))) own (narrow-keeps-order plusZero beat l) in
+    let keys : at plusZero ≤ at (narrow beat) = leb-true (at plusZero) (at (narrow beat)) (sym (at-le plusZero (narrow beat) zero-beat b) ∙ is-true (le plusZero (narrow beat)) less) in
+    let on : quantized32 plusZero ≡ plusZero = ap (λ (x : Float). quantized32 x) (sym own) ∙ zero-on-row in
+    subst (λ (x : Float). floatKey binary64 x ≤ floatKey binary64 (quantized beat)) on (spot-mono plusZero (narrow beat) zero-beat b binary64 keys)
 
-zero-row : quantized32 beatZero ≡ beatZero
-zero-row = ap (λ (x : Float). quantized32 x) (sym (narrow-own beatZero (zero-beat .held))) ∙ zero-on-row
+zero-row : quantized32 plusZero ≡ plusZero
+zero-row = ap (λ (x : Float). quantized32 x) (sym (narrow-own plusZero (zero-beat .held))) ∙ zero-on-row
 
 -- ---- SSC
 
@@ -103,7 +104,7 @@ four false b c d h = let z : _≡_ {A = ℕ} 0 1 = cc in absurd (omega arith)
 four true false c d h = let z : _≡_ {A = ℕ} 0 1 = cc in absurd (omega arith)
 four true true false d h = let z : _≡_ {A = ℕ} 0 1 = cc in absurd (omega arith)
 
-above-nothing : (value : Float) → lt beatZero value ≡ true → eq value beatZero ≡ false
+above-nothing : (value : Float) → lt plusZero value ≡ true → eq value plusZero ≡ false
 unfolding lt eq
 above-nothing nan h = refl
 above-nothing (inf s) h = refl
@@ -113,7 +114,7 @@ above-nothing (fin false m e) h = rw (ne-eqb (m * up e * 1) (0 * 1 * down e) (λ
 ssc-one : (beat value : Float) → ssc.staysSsc (beat, value) ≡ true → inRange (rangeOf RawBeat) beat ≡ true → inRange (rangeOf RawTempo) value ≡ true → OnGrid Narrowed (quantized beat, value)
 unfolding ssc.staysSsc
 ssc-one beat value h b v =
-    let says = four (finite beat) (finite value) (le ssc.zero beat) (lt ssc.zero value) h in
+    let says = four (finite beat) (finite value) (le plusZero beat) (lt plusZero value) h in
     let allowed : T (allowedBeat beat) = taken-within 16 beat (sym (finite-taken (upTo 16) beat (says .0)) ∙ b) in
     record { onRow = quantized-twice beat allowed; allowed = quantized-allowed beat allowed; forth = forth-of beat allowed (says .2); tempo = value-taken false value (says .1) (above-nothing value (says .3)) v }
 
@@ -150,16 +151,16 @@ module _ (n : ℕ) where
     where
       go : (warp : Warp) → WarpWithin n warp → On (passBy warp (state .tempo) (state .beat) beat .tempo)
       go Closed o = tt
-      go (Open warp) o = either (λ (m : Moved). On (m .tempo)) (machine.fits (state .tempo) && lt naught (owedAt (state .tempo) (state .beat) (warp .owed) beat)) _ _ (after-warp warp (state .tempo) (o .start)) tt
+      go (Open warp) o = either (λ (m : Moved). On (m .tempo)) (machine.fits (state .tempo) && lt plusZero32 (owedAt (state .tempo) (state .beat) (warp .owed) beat)) _ _ (after-warp warp (state .tempo) (o .start)) tt
 
   at-stop : (state : State) (length : Float) → Within n state → On (meetStop state length .tempo)
   unfolding meetStop stopOutside stopInWarp closeByStop beginAgain keepWarp
   at-stop state length w = go (state .warp) (w .warp)
     where
       go : (warp : Warp) → WarpWithin n warp → On (stopBy warp (state .tempo) (state .beat) length .tempo)
-      go Closed o = either (λ (m : Moved). On (m .tempo)) (lt length naught) _ _ tt tt
+      go Closed o = either (λ (m : Moved). On (m .tempo)) (lt length plusZero32) _ _ tt tt
       go (Open warp) o =
-          either (λ (m : Moved). On (m .tempo)) (lt naught length && lt naught (add binary32 (warp .owed) length)) _ _
+          either (λ (m : Moved). On (m .tempo)) (lt plusZero32 length && lt plusZero32 (add binary32 (warp .owed) length)) _ _
           (either (λ (m : Moved). On (m .tempo)) (machine.fits (state .tempo)) _ _ (after-warp warp (state .tempo) (o .start)) tt) tt
 
   at-tempo : (state : State) (tempo : Float) → Within n state → On (meetTempo state tempo .tempo)
@@ -191,7 +192,7 @@ module _ (n : ℕ) where
       (walk-on changes (met state change .state) (a .2))
 
 -- all that is said of each tempo
-together : (Kind : Float → Type 0) (list : List (Float × Float)) → Each (beatKey binary64) OnItsRow list → Each (beatKey binary64) (OneOf binary64 Kind) list → From (beatKey binary64) (floatKey binary64 beatZero) list → Each beatKeyOf (OnGrid Kind) list
+together : (Kind : Float → Type 0) (list : List (Float × Float)) → Each (beatKey binary64) OnItsRow list → Each (beatKey binary64) (OneOf binary64 Kind) list → From (beatKey binary64) (floatKey binary64 plusZero) list → Each beatKeyOf (OnGrid Kind) list
 together Kind [] a b f = tt
 together Kind (e ∷ list) a b f = (record { onRow = a .0; allowed = b .0 .0; forth = f .0; tempo = b .0 .1 }, together Kind list (a .1) (b .1) (f .1))
 
@@ -199,7 +200,7 @@ together Kind (e ∷ list) a b f = (record { onRow = a .0; allowed = b .0 .0; fo
 abbrev pub SmTempo : Float → Type 0
 SmTempo v = (inRange (rangeOf kind.Tempo) v ≡ true) × F32 v
 
-pub sixty-taken : SmTempo sixty
+pub sixty-taken : SmTempo sixty32
 unfolding inRange ofBits lt le neg eq fits
 sixty-taken = (refl, tt)
 
@@ -222,10 +223,10 @@ module _ (tempoBeats tempoValues stopBeats stopValues : List Float) (t : rawNumb
   on-rows =
       let states = all-states T′ S′ (changes-good tempoBeats tempoValues t) (in-order tempoBeats tempoValues t) (changes-good stopBeats stopValues s) (in-order stopBeats stopValues s) (changes-most tempoBeats tempoValues t) (changes-most stopBeats stopValues s) in
       each-append (beatKey binary64) OnItsRow (listOf (openChart (openingTempo T′) .tempo)) (walk (left T′ S′ (openingPlaces T′ S′)) (openChart (openingTempo T′) .state) .tempos)
-      (either On (machine.fits (openingTempo T′)) (entryAt naught (openingTempo T′)) Nothing (entry-on naught (openingTempo T′) naught-beat) tt)
+      (either On (machine.fits (openingTempo T′)) (entryAt plusZero32 (openingTempo T′)) Nothing (entry-on plusZero32 (openingTempo T′) naught-beat) tt)
       (walk-on 4096 (left T′ S′ (openingPlaces T′ S′)) (openChart (openingTempo T′) .state) states)
     where
-      naught-beat : Beat naught
+      naught-beat : Beat plusZero32
       naught-beat = zero-beat
 
   pub sm-grid : Each beatKeyOf (OnGrid SmTempo) (processed T′ S′ .tempos)
@@ -234,5 +235,5 @@ module _ (tempoBeats tempoValues stopBeats stopValues : List Float) (t : rawNumb
       let all = all-behind binary64 SmTempo T′ S′ (on-beats tempoBeats tempoValues t) (in-order tempoBeats tempoValues t) (on-beats stopBeats stopValues s) (in-order stopBeats stopValues s) sixty-taken (sm-tempos T′ (tempos-in tempoBeats tempoValues t) (changes-f32 tempoBeats tempoValues)) in
       together SmTempo (processed T′ S′ .tempos) on-rows (all .temposAre) (from-zero (processed T′ S′ .tempos) (all .tempoOrder .from))
     where
-      from-zero : (list : List (Float × Float)) → From (beatKey binary64) (spot binary64 naught) list → From (beatKey binary64) (floatKey binary64 beatZero) list
+      from-zero : (list : List (Float × Float)) → From (beatKey binary64) (spot binary64 plusZero32) list → From (beatKey binary64) (floatKey binary64 plusZero) list
       from-zero list f = subst (λ (x : Float). From (beatKey binary64) (floatKey binary64 x) list) zero-row f

@@ -5,6 +5,7 @@ use mathlib.Core.Bool.{Bool, true, false}
 use mathlib.Core.List.{List, [], _∷_, map}
 use native.Mathlib.Omega.{arith}
 use lib.Ieee.{Float, binary64, eq, ofBits}
+use Rattle.ieee.specs.Constants.{plusZero, sixty}
 use Rattle.picks.specs.Pick.{pick}
 use Rattle.rows.specs.Rows.{quantized}
 use Rattle.limits.proofs.ListTaken.{list-taken}
@@ -15,7 +16,7 @@ use Rattle.order.proofs.Columns.{entries-columns}
 use Rattle.order.proofs.OrderedList.{Each}
 use Rattle.order.proofs.EachEntry.{each-so, each-tidied}
 use Rattle.order.proofs.TidiedList.{tidied-rises}
-use Rattle.tidy_tempos.specs.TempoTidying.{beatKeyOf, beatZero, sixty, fromZero, changesAfter, changes, tidyTempos}
+use Rattle.tidy_tempos.specs.TempoTidying.{beatKeyOf, fromZero, changesAfter, changes, tidyTempos}
 use Rattle.process_raw.specs.RawLists.{rawNumbers}
 use Rattle.process_raw.proofs.BothTaken.{both-taken}
 use Rattle.process_ssc.specs.Ssc.{stayed}
@@ -68,14 +69,14 @@ module _ (Kind : Float → Type 0) where
       go true x y = x
       go false x y = (p .0, y)
 
-  at-zero : (tempo : Float) → Kind tempo → OnGrid Kind (beatZero, tempo)
+  at-zero : (tempo : Float) → Kind tempo → OnGrid Kind (plusZero, tempo)
   at-zero tempo v = record { onRow = zero-on-row; allowed = zero-allowed; forth = omega arith; tempo = v }
 
   from-zero : (list : List (Float × Float)) → Each beatKeyOf (OnGrid Kind) list → Rises beatKeyOf list → Tidied Kind (changes (fromZero list))
   unfolding changes fromZero
   from-zero [] p r = record { rising = tt; each = tt }
   from-zero (e ∷ list) p r =
-      let above = above-changes (floatKey binary64 beatZero) (e .1) list (lower-above (floatKey binary64 beatZero) (beatKeyOf e) list (p .0 .forth) (r .0)) in
+      let above = above-changes (floatKey binary64 plusZero) (e .1) list (lower-above (floatKey binary64 plusZero) (beatKeyOf e) list (p .0 .forth) (r .0)) in
       record { rising = (above, rises-changes (e .1) list (r .1)); each = (at-zero (e .1) (p .0 .tempo), each-changes (e .1) list (p .1)) }
 
   tempos-tidied : (beats values : List Float) → Kind sixty → Each beatKeyOf (OnGrid Kind) (entries beats values) → Tidied Kind (tidyTempos beats values)

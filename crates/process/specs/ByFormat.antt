@@ -4,10 +4,9 @@ use mathlib.Core.Bool.{Bool, false}
 use mathlib.Core.List.{List, [], _∷_}
 use lib.Dec.{eqb}
 use lib.ListN.{length}
-use lib.IntN.{pos}
-use lib.Ieee.{Float, fin}
+use lib.Ieee.{Float}
+use Rattle.ieee.specs.Constants.{plusZero, sixty}
 use Rattle.picks.specs.Pick.{pick}
-use Rattle.tidy_tempos.specs.TempoTidying.{beatZero, sixty}
 use Rattle.process_raw.specs.declared.Processed.{Processed}
 use Rattle.process_raw.specs.RawLists.{rawNumbers}
 use Rattle.process_ssc.specs.Ssc as ssc
@@ -23,7 +22,7 @@ abbrev pub noneGiven : List Float → List Float → Bool
 noneGiven beats values = pick (eqb (length beats) 0) (eqb (length values) 0) false
 
 unfoldable pub tempoBeatsOf : List Float → List Float → List Float
-tempoBeatsOf beats values = pick (noneGiven beats values) (beatZero ∷ []) beats
+tempoBeatsOf beats values = pick (noneGiven beats values) (plusZero ∷ []) beats
 
 unfoldable pub tempoValuesOf : List Float → List Float → List Float
 tempoValuesOf beats values = pick (noneGiven beats values) (sixty ∷ []) values
@@ -35,10 +34,6 @@ pub record Lists : Type 0 where
   pub stops : List (Float × Float)
   pub warps : List (Float × Float)
   pub offset : Float
-
--- beat 0 stays where it is
-abbrev pub unmoved : Float
-unmoved = fin false 0 (pos 0)
 
 -- SSC makes no warps, and leaves beat 0 where it is
 abbrev pub listsBy : TimingFormat → (tempoBeats tempoValues stopBeats stopValues : List Float) → Lists
@@ -52,7 +47,7 @@ listsBy Ssc tempoBeats tempoValues stopBeats stopValues = record {
   tempos = ssc.sscTempos tempoBeats tempoValues;
   stops = ssc.stayed stopBeats stopValues;
   warps = [];
-  offset = unmoved;
+  offset = plusZero;
 }
 
 unfoldable pub processedLists : TimingFormat → (tempoBeats tempoValues stopBeats stopValues : List Float) → Lists

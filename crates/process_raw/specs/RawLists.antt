@@ -3,9 +3,9 @@ use Prim.Native.Nat.{ℕ, min}
 use mathlib.Core.List.{List}
 use mathlib.Core.Bool.{Bool, true, false}
 use mathlib.Core.Path.{_≡_}
-use lib.IntN.{pos}
-use lib.Ieee.{Float, fin}
+use lib.Ieee.{Float}
 use lib.ListN.{length}
+use Rattle.ieee.specs.Constants.{plusZero}
 use Rattle.limits.specs.declared.Kind.the-variants.{RawBeat, RawTempo}
 use Rattle.limits.specs.Numbers.{rangeOf}
 use Rattle.limits.specs.Refusals.{lower, listNumber}
@@ -34,4 +34,4 @@ roomFor first second = min (length first) (length second)
 
 -- a refusal: nothing written, and no offset
 abbrev pub processedNothing : ℕ → Processed
-processedNothing number = record { number = number; tempos = 0; stops = 0; warps = 0; offset = fin false 0 (pos 0) }
+processedNothing number = record { number = number; tempos = 0; stops = 0; warps = 0; offset = plusZero }

@@ -6,6 +6,7 @@ use mathlib.Core.Logic.{⊎-elim}
 use native.Mathlib.Omega.{arith}
 use borrow.Author.Tests.{ltb-true, ltb-false, eq-eqb, ne-eqb}
 use lib.Ieee.Fits.{down-pos}
+use Rattle.ieee.specs.Constants.{plusZero}
 use Rattle.order.proofs.Compare.{same?}
 use lib.Dec.{T}
 use lib.IntN.{ℤ, pos, negsuc}
@@ -19,15 +20,15 @@ use Rattle.ieee.proofs.FloatOrder.{le-sizes}
 use Rattle.rows.specs.Rows.{allowedBeat}
 use Rattle.rows.proofs.Quantizing.{narrow-allowed}
 use Rattle.limits.specs.declared.Kind.the-variants.{RawBeat, RawTempo, TidyTempo}
-use Rattle.limits.specs.Numbers.{rangeOf, inRange, sizeOf, nothing, power, upTo, tempo}
+use Rattle.limits.specs.Numbers.{rangeOf, inRange, sizeOf, power, upTo, tempo}
 use Rattle.limits.proofs.TakenWithin.{taken-within, finite-taken}
-use Rattle.process_sm_changes.specs.SmChanges.{zero, staysSm}
+use Rattle.process_sm_changes.specs.SmChanges.{staysSm}
 
 -- ---- what stays
 pub record Stayed (beat value : Float) : Type 0 where
   pub beatFinite : T (finite beat)
   pub valueFinite : T (finite value)
-  pub other : eq value zero ≡ false
+  pub other : eq value plusZero ≡ false
 
 pub stays-says : (beat value : Float) → staysSm (beat, value) ≡ true → Stayed beat value
 unfolding staysSm
@@ -35,7 +36,7 @@ stays-says nan value h = let z : _≡_ {A = ℕ} 0 1 = cc in absurd (omega arith
 stays-says (inf s) value h = let z : _≡_ {A = ℕ} 0 1 = cc in absurd (omega arith)
 stays-says (fin s m e) nan h = let z : _≡_ {A = ℕ} 0 1 = cc in absurd (omega arith)
 stays-says (fin s m e) (inf t) h = let z : _≡_ {A = ℕ} 0 1 = cc in absurd (omega arith)
-stays-says (fin s m e) (fin t n d) h = record { beatFinite = tt; valueFinite = tt; other = go (eq (fin t n d) zero) h }
+stays-says (fin s m e) (fin t n d) h = record { beatFinite = tt; valueFinite = tt; other = go (eq (fin t n d) plusZero) h }
   where
     go : (b : Bool) → not b ≡ true → b ≡ false
     go false k = refl
@@ -47,19 +48,19 @@ beat-allowed beat f h = narrow-allowed beat (taken-within 16 beat (sym (finite-t
 -- ---- the size of a number that is not 0: its own, with the sign clear
 size-is : (s : Bool) (m : ℕ) (e : ℤ) → 0 < m * up e → sizeOf (fin s m e) ≡ fin false m e
 unfolding lt neg
-size-is s m e p = go s (lt (fin s m e) nothing) refl
+size-is s m e p = go s (lt (fin s m e) plusZero) refl
   where
-    go : (s t : Bool) → lt (fin s m e) nothing ≡ t → pick t (neg (fin s m e)) (fin s m e) ≡ fin false m e
+    go : (s t : Bool) → lt (fin s m e) plusZero ≡ t → pick t (neg (fin s m e)) (fin s m e) ≡ fin false m e
     go false true q = absurd (omega (arith, ltb-true (m * up e * 1) (0 * 1 * down e) q))
     go false false q = refl
     go true true q = refl
     go true false q = absurd (omega (arith, ltb-false 0 (m * up e * 1 + 0 * 1 * down e) q))
 
-some : (s : Bool) (m : ℕ) (e : ℤ) → eq (fin s m e) zero ≡ false → 0 < m * up e
+some : (s : Bool) (m : ℕ) (e : ℤ) → eq (fin s m e) plusZero ≡ false → 0 < m * up e
 unfolding eq
 some s m e h = ⊎-elim (λ z. absurd (none s z h)) (λ n. omega arith) (same? (m * up e) 0)
   where
-    none : (s : Bool) → m * up e ≡ 0 → eq (fin s m e) zero ≡ false → ⊥
+    none : (s : Bool) → m * up e ≡ 0 → eq (fin s m e) plusZero ≡ false → ⊥
     none true z k = let w = rw (eq-eqb (m * up e * 1) (0 * 1 * down e) (omega arith), eq-eqb (m * up e * 1) 0 (omega arith)) at k in let q : _≡_ {A = ℕ} 0 1 = cc in omega arith
     none false z k = let w = rw (eq-eqb (m * up e * 1) (0 * 1 * down e) (omega arith)) at k in let q : _≡_ {A = ℕ} 0 1 = cc in omega arith
 
@@ -93,14 +94,14 @@ taken-between m e p true false false beyond l h = let z : _≡_ {A = ℕ} 0 1 = 
 taken-between m e p false least level true l h = let z : _≡_ {A = ℕ} 0 1 = cc in absurd (omega arith)
 taken-between m e p false least level false l h = let z : _≡_ {A = ℕ} 0 1 = cc in absurd (omega arith)
 
-clear-other : (m : ℕ) (e : ℤ) → 0 < m * up e → eq (fin false m e) nothing ≡ false
+clear-other : (m : ℕ) (e : ℤ) → 0 < m * up e → eq (fin false m e) plusZero ≡ false
 unfolding eq
 clear-other m e p = rw (ne-eqb (m * up e * 1) (0 * 1 * down e) (λ z. omega arith))
 
 between : (s : Bool) (m : ℕ) (e : ℤ) → 0 < m * up e → inRange (rangeOf TidyTempo) (fin s m e) ≡ true → Between (fin false m e)
 unfolding inRange
 between s m e p h =
-    let both = taken-between m e p (le (fin false m e) (power (pos 30))) (le (power (negsuc 19)) (fin false m e)) (eq (fin false m e) nothing) (lt (fin false m e) (inf false)) (clear-other m e p) (rw (size-is s m e p) at h) in
+    let both = taken-between m e p (le (fin false m e) (power (pos 30))) (le (power (negsuc 19)) (fin false m e)) (eq (fin false m e) plusZero) (lt (fin false m e) (inf false)) (clear-other m e p) (rw (size-is s m e p) at h) in
     record { most = both .0; least = both .1 }
 
 signed : (s : Bool) (m : ℕ) (e : ℤ) → narrow (fin s m e) ≡ withSign s (narrow (fin false m e))
@@ -108,7 +109,7 @@ unfolding withSign
 signed s m e = narrow-signed s (fin false m e)
 
 -- a value that stays: one that tempo tidying takes, and one that is not 0
-pub value-taken : (zeroToo : Bool) (value : Float) → T (finite value) → eq value zero ≡ false → inRange (rangeOf RawTempo) value ≡ true → inRange (tempo zeroToo) (narrow value) ≡ true
+pub value-taken : (zeroToo : Bool) (value : Float) → T (finite value) → eq value plusZero ≡ false → inRange (rangeOf RawTempo) value ≡ true → inRange (tempo zeroToo) (narrow value) ≡ true
 value-taken zeroToo nan f o h = absurd f
 value-taken zeroToo (inf s) f o h = absurd f
 value-taken zeroToo (fin s m e) f o h =

@@ -3,10 +3,10 @@ use Prim.Native.Nat.{ℕ}
 use mathlib.Core.Bool.{Bool, false, not}
 use mathlib.Core.List.{List}
 use mathlib.Core.Path.{_≡_}
-use lib.IntN.{pos}
 use lib.ListN.{length}
-use lib.Ieee.{Float, fin, binary32, eq}
+use lib.Ieee.{Float, binary32, eq}
 use lib.Ieee.Scale.{finite}
+use Rattle.ieee.specs.Constants.{plusZero}
 use Rattle.picks.specs.Pick.{pick}
 use Rattle.ieee.specs.Narrowing.{narrow}
 use Rattle.order.specs.Order.{ordered}
@@ -17,12 +17,9 @@ use Rattle.columns.specs.Kept.{kept}
 use Rattle.columns.specs.Laying.{roomNumber, LaidList}
 use Rattle.process_raw.specs.RawLists.{rawNumber, roomFor}
 
-abbrev pub zero : Float
-zero = fin false 0 (pos 0)
-
 -- two finite numbers, and a value that is not 0
 unfoldable pub staysSm : Float × Float → Bool
-staysSm e = pick (finite (e .0)) (pick (finite (e .1)) (not (eq (e .1) zero)) false) false
+staysSm e = pick (finite (e .0)) (pick (finite (e .1)) (not (eq (e .1) plusZero)) false) false
 
 abbrev pub narrowed : Float × Float → Float × Float
 narrowed e = (narrow (e .0), narrow (e .1))

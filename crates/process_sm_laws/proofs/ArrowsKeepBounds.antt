@@ -8,6 +8,7 @@ use native.Mathlib.Omega.{arith}
 use lib.Dec.{T, lit≤}
 use lib.Ieee.{Float, binary32, add, sub, mul, div, lt, le, ofBits}
 use lib.Ieee.Scale.{finite}
+use Rattle.ieee.specs.Constants.{plusZero32, sixty32}
 use Rattle.picks.specs.Pick.{pick}
 use Rattle.ieee.proofs.Magnitude.{AtMost, Sized, sized}
 use Rattle.ieee.proofs.SizesAddUp.{OfFormat, power-of-format, digits-of-format, at-most-finite, at-most-wider, add-at-most, sub-at-most, mul-at-most, div-at-most}
@@ -22,7 +23,7 @@ use Rattle.process_sm_machine.specs.declared.Written.{Written}
 use Rattle.process_sm_machine.specs.declared.Written.the-variants.{Nothing, One}
 use Rattle.process_sm_machine.specs.declared.Moved.{Moved}
 use Rattle.process_sm_machine.proofs.Either.{either}
-use Rattle.process_sm_machine.specs.Machine.{naught, sixty, fastest, fits, entryAt, warpOver, still, openChart, owedAt, settledAt, keepWarp, closeByTime, passInWarp, passBy, pass, tempoOutside, tempoBy, meetTempo, stopOutside, closeByStop, beginAgain, stopInWarp, stopBy, meetStop, meet, endOf, finishWarp, finishBy, finish}
+use Rattle.process_sm_machine.specs.Machine.{fastest, fits, entryAt, warpOver, still, openChart, owedAt, settledAt, keepWarp, closeByTime, passInWarp, passBy, pass, tempoOutside, tempoBy, meetTempo, stopOutside, closeByStop, beginAgain, stopInWarp, stopBy, meetStop, meet, endOf, finishWarp, finishBy, finish}
 use Rattle.process_sm_laws.specs.Beats.{Beat}
 use Rattle.process_sm_laws.proofs.ChangesInOrder.{beat-naught}
 use Rattle.process_sm_laws.proofs.Sides.{On, zero, add-side, mul-side, div-side, sub-forward, below-on, not-above-on, above-if-not-below, rest-at-most}
@@ -82,15 +83,15 @@ unfolding warpOver
 warp-length start end = either (Said IsLength) (lt start end) _ _ (quantized-at-most (sub binary32 end start)) tt
 
 -- ---- numbers
-nothing-owed : (n : ℕ) → AtMost (spans n) naught
+nothing-owed : (n : ℕ) → AtMost (spans n) plusZero32
 unfolding ofBits
 nothing-owed n = record { negative = false; num = 0; den = 1; den-pos = zero-lt-suc 0; value = (refl, refl); small = omega arith }
 
-naught-not-above : (x : Float) → T (finite x) → lt naught x ≡ false → On true x
+naught-not-above : (x : Float) → T (finite x) → lt plusZero32 x ≡ false → On true x
 unfolding ofBits
 naught-not-above x F h = not-above-on x F h
 
-sixty-at-most : AtMost 60 sixty
+sixty-at-most : AtMost 60 sixty32
 unfolding ofBits
 sixty-at-most = record { negative = false; num = 60; den = 1; den-pos = zero-lt-suc 0; value = (refl, refl); small = lit≤ tt }
 
@@ -104,7 +105,7 @@ abbrev pub between : Float → Float → Float
 between last beat = sub binary32 beat last
 
 abbrev pub sixtyfold : Float → Float → Float
-sixtyfold last beat = mul binary32 (between last beat) sixty
+sixtyfold last beat = mul binary32 (between last beat) sixty32
 
 abbrev pub seconds : Float → Float → Float → Float
 seconds tempo last beat = div binary32 (sixtyfold last beat) tempo
@@ -114,17 +115,17 @@ module _ (tempo last beat : Float) (t : IsTempo tempo) (l : Beat last) (b : Beat
   between-at-most = sub-at-most binary32 (power-of-format binary32 17 (lit≤ tt)) beat last (sized 16 beat (b .allowed)) (sized 16 last (l .allowed)) (lit≤ tt)
 
   pub sixtyfold-at-most : AtMost (2 ^ 23) (sixtyfold last beat)
-  sixtyfold-at-most = mul-at-most binary32 (power-of-format binary32 23 (lit≤ tt)) (between last beat) sixty between-at-most sixty-at-most (lit≤ tt)
+  sixtyfold-at-most = mul-at-most binary32 (power-of-format binary32 23 (lit≤ tt)) (between last beat) sixty32 between-at-most sixty-at-most (lit≤ tt)
 
   pub seconds-at-most : AtMost (2 ^ 43) (seconds tempo last beat)
   seconds-at-most = div-at-most binary32 (power-of-format binary32 43 (lit≤ tt)) (sixtyfold last beat) tempo sixtyfold-at-most (tempo-at-least tempo t) (lit≤ tt)
 
   -- under a negative tempo they aren't above 0
-  seconds-not-above : T (le last beat) → lt naught tempo ≡ false → On true (seconds tempo last beat)
+  seconds-not-above : T (le last beat) → lt plusZero32 tempo ≡ false → On true (seconds tempo last beat)
   unfolding ofBits
   seconds-not-above forth h =
       let forward = sub-forward binary32 beat last (sized 16 beat (b .allowed)) (sized 16 last (l .allowed)) forth (at-most-finite between-at-most) in
-      let upward = mul-side (between last beat) sixty between-at-most sixty-at-most binary32 false false forward (inl refl) (at-most-finite sixtyfold-at-most) in
+      let upward = mul-side (between last beat) sixty32 between-at-most sixty-at-most binary32 false false forward (inl refl) (at-most-finite sixtyfold-at-most) in
       div-side binary32 (sixtyfold last beat) tempo sixtyfold-at-most (tempo-at-least tempo t) false true upward (not-above-on tempo (at-most-finite (tempo-at-most false tempo t)) h) (at-most-finite seconds-at-most)
 
   module _ (n : ℕ) (few : suc n < 2 ^ 24) (owed : Float) (o : AtMost (spans n) owed) where
@@ -135,7 +136,7 @@ module _ (tempo last beat : Float) (t : IsTempo tempo) (l : Beat last) (b : Beat
     unfolding owedAt
     owed-at-most = either (AtMost (spans (suc n))) (le tempo fastest) _ _ more-at-most (at-most-wider (omega arith) o)
 
-    owed-not-above : T (le last beat) → On true owed → lt naught tempo ≡ false → On true (owedAt tempo last owed beat)
+    owed-not-above : T (le last beat) → On true owed → lt plusZero32 tempo ≡ false → On true (owedAt tempo last owed beat)
     unfolding owedAt
     owed-not-above forth h k =
         either (On true) (le tempo fastest) _ _
@@ -165,9 +166,9 @@ module _ (n : ℕ) (few : suc n < 2 ^ 24) where
 
     in-warp : Kept (suc n) (passInWarp tempo last warp beat)
     unfolding passInWarp fits
-    in-warp = go (lt naught tempo) (le tempo fastest) (lt naught then) refl refl refl
+    in-warp = go (lt plusZero32 tempo) (le tempo fastest) (lt plusZero32 then) refl refl refl
       where
-        go : (a b c : Bool) → lt naught tempo ≡ a → le tempo fastest ≡ b → lt naught then ≡ c → Kept (suc n) (pick (a && b && c) (closeByTime tempo beat warp then) (keepWarp tempo beat warp then))
+        go : (a b c : Bool) → lt plusZero32 tempo ≡ a → le tempo fastest ≡ b → lt plusZero32 then ≡ c → Kept (suc n) (pick (a && b && c) (closeByTime tempo beat warp then) (keepWarp tempo beat warp then))
         go true true true p q r = is-over
         go true true false p q r = goes-on (naught-not-above then (at-most-finite (owed-at-most tempo last beat t l b n few (warp .owed) (o .owed))) r)
         go true false c p q r = goes-on (rw (owed-as-it-was tempo last beat t l b n few (warp .owed) (o .owed) q) (o .notAbove))
@@ -197,9 +198,9 @@ module _ (n : ℕ) (few : suc n < 2 ^ 24) where
 
     outside : Kept (suc n) (stopOutside tempo beat length)
     unfolding stopOutside ofBits
-    outside = go (lt length naught) refl
+    outside = go (lt length plusZero32) refl
       where
-        go : (a : Bool) → lt length naught ≡ a
+        go : (a : Bool) → lt length plusZero32 ≡ a
             → Kept (suc n) (pick a (still (record { tempo = tempo; beat = beat; warp = Open (record { start = beat; former = tempo; owed = length }) })) (record { state = record { tempo = tempo; beat = beat; warp = Closed }; tempo = Nothing; stop = entryAt beat length; warp = Nothing }))
         go true h = record { state = record { tempo = t; beat = b; warp = record { start = b; former = t; owed = at-most-wider (omega arith) (tempo-at-most false length s); notAbove = below-on length stop-finite h } }; stop = tt; warp = tt }
         go false h = record { state = record { tempo = t; beat = b; warp = tt }; stop = record { above = above-if-not-below length (tempo-at-least length s) h; small = tempo-at-most false length s }; warp = tt }
@@ -228,9 +229,9 @@ module _ (n : ℕ) (few : suc n < 2 ^ 24) where
 
       inside : Kept (suc n) (stopInWarp tempo beat warp length)
       unfolding stopInWarp ofBits
-      inside = go (lt naught length) (lt naught rest) refl refl
+      inside = go (lt plusZero32 length) (lt plusZero32 rest) refl refl
         where
-          go : (a c : Bool) → lt naught length ≡ a → lt naught rest ≡ c
+          go : (a c : Bool) → lt plusZero32 length ≡ a → lt plusZero32 rest ≡ c
               → Kept (suc n) (pick (a && c) (pick (fits tempo) (closeByStop tempo beat warp rest) (beginAgain tempo beat warp rest)) (keepWarp tempo beat warp rest))
           go true true p q = either (Kept (suc n)) (fits tempo) _ _ (closed-by q) (begun-again q)
           go true false p q = kept-by (not-above-on rest (at-most-finite rest-within) q)

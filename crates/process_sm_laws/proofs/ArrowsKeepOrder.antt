@@ -5,6 +5,7 @@ use mathlib.Core.List.{List}
 use native.Mathlib.Omega.{arith}
 use lib.Dec.{T}
 use lib.Ieee.{Float, Format, binary32, add, sub, lt, eq}
+use Rattle.ieee.specs.Constants.{plusZero32}
 use Rattle.picks.specs.Pick.{pick}
 use Rattle.rows.specs.Rows.{quantized32, allowedBeat}
 use Rattle.rows.proofs.Quantizing.{quantized32-allowed}
@@ -19,7 +20,7 @@ use Rattle.process_sm_machine.specs.declared.Written.{Written}
 use Rattle.process_sm_machine.specs.declared.Written.the-variants.{Nothing}
 use Rattle.process_sm_machine.specs.declared.Moved.{Moved}
 use Rattle.process_sm_machine.proofs.Either.{either}
-use Rattle.process_sm_machine.specs.Machine.{naught, fits, entryAt, warpOver, tempoAfter, still, openChart, owedAt, settledAt, keepWarp, closeByTime, passInWarp, passBy, pass, tempoOutside, tempoBy, meetTempo, stopOutside, closeByStop, beginAgain, stopInWarp, stopBy, meetStop, meet, endOf, finishWarp, finishBy, finish}
+use Rattle.process_sm_machine.specs.Machine.{fits, entryAt, warpOver, tempoAfter, still, openChart, owedAt, settledAt, keepWarp, closeByTime, passInWarp, passBy, pass, tempoOutside, tempoBy, meetTempo, stopOutside, closeByStop, beginAgain, stopInWarp, stopBy, meetStop, meet, endOf, finishWarp, finishBy, finish}
 use Rattle.process_sm_walk.specs.Chart.{listOf}
 use Rattle.process_sm_laws.specs.Beats.{Beat, beatKey, at, spot}
 use Rattle.process_sm_laws.proofs.BeatsOnRows.{spot-mono}
@@ -115,15 +116,15 @@ module _ (f : Format) (P : Float → Type 0) where
 
   -- ---- the opening
 
-  pub fair-opening : (tempo : Float) → Beat naught → P tempo → Fair (openChart tempo .state) (openChart tempo)
+  pub fair-opening : (tempo : Float) → Beat plusZero32 → P tempo → Fair (openChart tempo .state) (openChart tempo)
   unfolding openChart
   fair-opening tempo b p = record {
     good = record { beat = b; low = b; forth = omega arith; tempo = p };
     behind = record {
-      tempoOrder = or-none naught tempo b (spot f naught) (spot f naught) (omega arith) (omega arith) (fits tempo);
-      stopOrder = none-between (beatKey f) (spot f naught) (spot f naught) (omega arith);
-      warpOrder = none-between (beatKey f) (spot f naught) (spot f naught) (omega arith);
-      temposAre = either (λ (w : Written). Each (beatKey f) OneOf (listOf w)) (fits tempo) _ _ (entry-one-of naught tempo b (spot f naught) (spot f naught) (omega arith) (omega arith) p) tt;
+      tempoOrder = or-none plusZero32 tempo b (spot f plusZero32) (spot f plusZero32) (omega arith) (omega arith) (fits tempo);
+      stopOrder = none-between (beatKey f) (spot f plusZero32) (spot f plusZero32) (omega arith);
+      warpOrder = none-between (beatKey f) (spot f plusZero32) (spot f plusZero32) (omega arith);
+      temposAre = either (λ (w : Written). Each (beatKey f) OneOf (listOf w)) (fits tempo) _ _ (entry-one-of plusZero32 tempo b (spot f plusZero32) (spot f plusZero32) (omega arith) (omega arith) p) tt;
       stopsAre = tt;
       warpsAre = tt;
     };
@@ -162,7 +163,7 @@ module _ (f : Format) (P : Float → Type 0) where
   fair-pass-by Closed tempo last beat g b h =
       quiet _ _ (record { beat = b; low = b; forth = omega arith; tempo = g .tempo }) (spot-mono last beat (g .beat) b f h) (spot-mono last beat (g .beat) b f h)
   fair-pass-by (Open warp) tempo last beat g b h =
-      either (Fair (record { tempo = tempo; beat = last; warp = Open warp })) (fits tempo && lt naught (owedAt tempo last (warp .owed) beat)) _ _
+      either (Fair (record { tempo = tempo; beat = last; warp = Open warp })) (fits tempo && lt plusZero32 (owedAt tempo last (warp .owed) beat)) _ _
       (fair-close-by-time tempo last beat warp g b h (owedAt tempo last (warp .owed) beat))
       (fair-keep tempo last beat warp g b h (owedAt tempo last (warp .owed) beat))
 
@@ -230,7 +231,7 @@ module _ (f : Format) (P : Float → Type 0) where
       → Fair (record { tempo = tempo; beat = beat; warp = warp }) (stopBy warp tempo beat length)
   unfolding stopOutside stopInWarp
   fair-stop-by Closed tempo beat length g =
-      either (Fair (record { tempo = tempo; beat = beat; warp = Closed })) (lt length naught) _ _
+      either (Fair (record { tempo = tempo; beat = beat; warp = Closed })) (lt length plusZero32) _ _
       (quiet _ _ (record { beat = g .beat; low = g .beat; forth = omega arith; tempo = g .tempo }) (omega arith) (omega arith))
       (record {
         good = record { beat = g .beat; low = g .beat; forth = omega arith; tempo = g .tempo };
@@ -244,7 +245,7 @@ module _ (f : Format) (P : Float → Type 0) where
         };
       })
   fair-stop-by (Open warp) tempo beat length g =
-      either (Fair (record { tempo = tempo; beat = beat; warp = Open warp })) (lt naught length && lt naught (add binary32 (warp .owed) length)) _ _
+      either (Fair (record { tempo = tempo; beat = beat; warp = Open warp })) (lt plusZero32 length && lt plusZero32 (add binary32 (warp .owed) length)) _ _
       (either (Fair (record { tempo = tempo; beat = beat; warp = Open warp })) (fits tempo) _ _
       (fair-close-by-stop tempo beat warp g (add binary32 (warp .owed) length)) (fair-begin-again tempo beat warp g (add binary32 (warp .owed) length)))
       (fair-keep tempo beat beat warp g (g .beat) (omega arith) (add binary32 (warp .owed) length))

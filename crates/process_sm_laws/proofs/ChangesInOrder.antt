@@ -9,12 +9,13 @@ use lib.ListN.{drop}
 use lib.Dec.{leb, ltb}
 use lib.Ieee.{Float, binary32, le, lt, ofBits, fits}
 use borrow.Author.Tests.{leb-true, leb-false, ltb-false}
+use Rattle.ieee.specs.Constants.{plusZero32}
 use Rattle.picks.specs.Pick.{pick}
 use Rattle.ieee.specs.Magnitude.{withinPower}
 use Rattle.order.specs.Order.{From, NeverFalls}
 use Rattle.order.proofs.OrderedList.{Each, from-le}
 use Rattle.process_sm_machine.specs.declared.Change.{Change}
-use Rattle.process_sm_machine.specs.Machine.{naught, beatAt}
+use Rattle.process_sm_machine.specs.Machine.{beatAt}
 use Rattle.process_sm_walk.specs.Changes.{tempoOf, stopOf, weave, merged}
 use Rattle.process_sm_walk.specs.Chart.{temposBy0, stopsBefore}
 use Rattle.process_sm_laws.specs.Beats.{Beat, beatKey, at}
@@ -118,39 +119,39 @@ module _ {A : Type 0} (key : A → ℕ) where
 
 -- ---- after the opening
 
-pub beat-naught : Beat naught
+pub beat-naught : Beat plusZero32
 unfolding ofBits le fits withinPower
 beat-naught = record { held = tt; allowed = tt }
 
-stops-after : (stops : List (Float × Float)) → Beats stops → NeverFalls (beatKey binary32) stops → From (beatKey binary32) (at naught) (drop (stopsBefore stops) stops)
+stops-after : (stops : List (Float × Float)) → Beats stops → NeverFalls (beatKey binary32) stops → From (beatKey binary32) (at plusZero32) (drop (stopsBefore stops) stops)
 unfolding stopsBefore
 stops-after [] b r = tt
-stops-after (stop ∷ stops) b r = by (lt (stop .0) naught) (sym (at-lt (stop .0) naught (b .0) beat-naught)) (stops-after stops (b .1) (r .1))
+stops-after (stop ∷ stops) b r = by (lt (stop .0) plusZero32) (sym (at-lt (stop .0) plusZero32 (b .0) beat-naught)) (stops-after stops (b .1) (r .1))
   where
-    by : (t : Bool) → ltb (at (stop .0)) (at naught) ≡ t → From (beatKey binary32) (at naught) (drop (stopsBefore stops) stops) → From (beatKey binary32) (at naught) (drop (pick t (suc (stopsBefore stops)) 0) (stop ∷ stops))
+    by : (t : Bool) → ltb (at (stop .0)) (at plusZero32) ≡ t → From (beatKey binary32) (at plusZero32) (drop (stopsBefore stops) stops) → From (beatKey binary32) (at plusZero32) (drop (pick t (suc (stopsBefore stops)) 0) (stop ∷ stops))
     by true e rest = rest
     by false e rest =
-        let less : at naught ≤ at (stop .0) = ltb-false (at (stop .0)) (at naught) e in
-        (less, from-le (beatKey binary32) (at naught) (at (stop .0)) stops less (r .0))
+        let less : at plusZero32 ≤ at (stop .0) = ltb-false (at (stop .0)) (at plusZero32) e in
+        (less, from-le (beatKey binary32) (at plusZero32) (at (stop .0)) stops less (r .0))
 
-tempos-after : (tempos : List (Float × Float)) → Beats tempos → NeverFalls (beatKey binary32) tempos → From (beatKey binary32) (at naught) (drop (temposBy0 tempos) tempos)
+tempos-after : (tempos : List (Float × Float)) → Beats tempos → NeverFalls (beatKey binary32) tempos → From (beatKey binary32) (at plusZero32) (drop (temposBy0 tempos) tempos)
 unfolding temposBy0
 tempos-after [] b r = tt
-tempos-after (tempo ∷ tempos) b r = by (le (tempo .0) naught) (sym (at-le (tempo .0) naught (b .0) beat-naught)) (tempos-after tempos (b .1) (r .1))
+tempos-after (tempo ∷ tempos) b r = by (le (tempo .0) plusZero32) (sym (at-le (tempo .0) plusZero32 (b .0) beat-naught)) (tempos-after tempos (b .1) (r .1))
   where
-    by : (t : Bool) → leb (at (tempo .0)) (at naught) ≡ t → From (beatKey binary32) (at naught) (drop (temposBy0 tempos) tempos) → From (beatKey binary32) (at naught) (drop (pick t (suc (temposBy0 tempos)) 0) (tempo ∷ tempos))
+    by : (t : Bool) → leb (at (tempo .0)) (at plusZero32) ≡ t → From (beatKey binary32) (at plusZero32) (drop (temposBy0 tempos) tempos) → From (beatKey binary32) (at plusZero32) (drop (pick t (suc (temposBy0 tempos)) 0) (tempo ∷ tempos))
     by true e rest = rest
     by false e rest =
-        let more : at naught < at (tempo .0) = leb-false (at (tempo .0)) (at naught) e in
-        (omega arith, from-le (beatKey binary32) (at naught) (at (tempo .0)) tempos (omega arith) (r .0))
+        let more : at plusZero32 < at (tempo .0) = leb-false (at (tempo .0)) (at plusZero32) e in
+        (omega arith, from-le (beatKey binary32) (at plusZero32) (at (tempo .0)) tempos (omega arith) (r .0))
 
 -- the opening has used up one at least
 pub after-opening : (tempos stops : List (Float × Float)) → Beats tempos → NeverFalls (beatKey binary32) tempos → Beats stops → NeverFalls (beatKey binary32) stops
-    → From changeKey (at naught) (merged (drop (max (temposBy0 tempos) 1) tempos) (drop (stopsBefore stops) stops))
+    → From changeKey (at plusZero32) (merged (drop (max (temposBy0 tempos) 1) tempos) (drop (stopsBefore stops) stops))
 after-opening tempos stops b r q s =
-    from-merged (at naught) (drop (max (temposBy0 tempos) 1) tempos) (drop (stopsBefore stops) stops)
+    from-merged (at plusZero32) (drop (max (temposBy0 tempos) 1) tempos) (drop (stopsBefore stops) stops)
     (by (temposBy0 tempos) (tempos-after tempos b r)) (stops-after stops q s)
   where
-    by : (n : ℕ) → From (beatKey binary32) (at naught) (drop n tempos) → From (beatKey binary32) (at naught) (drop (max n 1) tempos)
-    by zero h = from-drop (beatKey binary32) (at naught) 1 tempos h
+    by : (n : ℕ) → From (beatKey binary32) (at plusZero32) (drop n tempos) → From (beatKey binary32) (at plusZero32) (drop (max n 1) tempos)
+    by zero h = from-drop (beatKey binary32) (at plusZero32) 1 tempos h
     by (suc n) h = rw (suc-max-suc n 0 ∙ ap suc (max-zero n)) h

@@ -7,10 +7,11 @@ use native.Mathlib.Omega.{arith}
 use lib.IntN.{pos, negsuc}
 use lib.ListN.{length, length-map}
 use lib.Ieee.{Float, inf, eq, le, lt}
+use Rattle.ieee.specs.Constants.{plusZero}
 use Rattle.picks.specs.Pick.{pick}
 use Rattle.ieee.proofs.Narrow.{narrow-fits}
 use Rattle.limits.specs.declared.Kind.the-variants.{RawBeat, RawTempo, TidyTempo, Tempo}
-use Rattle.limits.specs.Numbers.{rangeOf, inRange, allIn, every, sizeOf, power, nothing}
+use Rattle.limits.specs.Numbers.{rangeOf, inRange, allIn, every, sizeOf, power}
 use Rattle.limits.proofs.Every.{every-rest}
 use Rattle.limits.proofs.ListTaken.{list-taken}
 use Rattle.order.specs.Order.{NeverFalls}
@@ -38,7 +39,7 @@ IsTempo x = inRange (rangeOf Tempo) x ≡ true
 -- what is taken where 0 is not is taken where 0 is
 pub tempo-or-zero : (x : Float) → IsTempo x → inRange (rangeOf TidyTempo) x ≡ true
 unfolding inRange
-tempo-or-zero x h = go (le (sizeOf x) (power (pos 30))) (le (power (negsuc 19)) (sizeOf x)) (eq (sizeOf x) nothing) (lt (sizeOf x) (inf false)) h
+tempo-or-zero x h = go (le (sizeOf x) (power (pos 30))) (le (power (negsuc 19)) (sizeOf x)) (eq (sizeOf x) plusZero) (lt (sizeOf x) (inf false)) h
   where
     go : (most least level beyond : Bool) → pick most (pick least true (pick level false false)) (pick beyond false false) ≡ true → pick most (pick least true (pick level true false)) (pick beyond false false) ≡ true
     go true true level beyond k = refl

@@ -7,6 +7,7 @@ use lib.IntN.{pos}
 use lib.Dec.{T, lit≤, lit<}
 use lib.Ieee.{Float, binary32, add, sub, mul, div, ofInt, ofBits}
 use lib.Ieee.Scale.{finite}
+use Rattle.ieee.specs.Constants.{sixty32}
 use Rattle.ieee.proofs.Magnitude.{AtMost, Sized, sized}
 use Rattle.ieee.proofs.SizesAddUp.{AtLeast, power-of-format, at-most-finite, at-most-wider, sub-at-most, mul-at-most, div-at-most}
 use Rattle.limits.proofs.TempoSizes.{tempo-at-most}
@@ -21,7 +22,7 @@ use Rattle.process_sm_machine.specs.declared.Opened.{Opened}
 use Rattle.process_sm_machine.specs.declared.Warp.{Warp}
 use Rattle.process_sm_machine.specs.declared.Warp.the-variants.{Closed, Open}
 use Rattle.process_sm_machine.specs.declared.State.{State}
-use Rattle.process_sm_machine.specs.Machine.{sixty, endless, owedAt, settledAt, openChart, beatAt, passed, met}
+use Rattle.process_sm_machine.specs.Machine.{endless, owedAt, settledAt, openChart, beatAt, passed, met}
 use Rattle.process_sm_walk.specs.Changes.{left}
 use Rattle.process_sm_walk.specs.Chart.{openingTempo, openingPlaces}
 use Rattle.process_sm_laws.specs.Beats.{Beat}
@@ -40,7 +41,7 @@ pub record LengthReckoned (start end : Float) : Type 0 where
 -- where nothing was owed, and the warp up to there or without an end
 pub record EndReckoned (tempo beat : Float) (start owed : Float) : Type 0 where
   pub product : T (finite (mul binary32 owed tempo))
-  pub quotient : T (finite (div binary32 (mul binary32 owed tempo) sixty))
+  pub quotient : T (finite (div binary32 (mul binary32 owed tempo) sixty32))
   pub settled : T (finite (settledAt tempo beat owed))
   pub ended : LengthReckoned start (settledAt tempo beat owed)
   pub unended : LengthReckoned start endless
@@ -81,7 +82,7 @@ Reckoned (change ∷ changes) state =
     × Reckoned changes (met state change .state)
 
 -- ---- bounds
-sixty-at-least : AtLeast 0 sixty
+sixty-at-least : AtLeast 0 sixty32
 unfolding ofBits
 sixty-at-least = record { negative = false; num = 60; den = 1; den-pos = zero-lt-suc 0; value = (refl, refl); large = lit≤ tt }
 
@@ -102,11 +103,11 @@ module _ (tempo beat start owed : Float) (t : IsTempo tempo) (b : Beat beat) (s 
   product-at-most : Sized 86 (mul binary32 owed tempo)
   product-at-most = mul-at-most binary32 (power-of-format binary32 86 (lit≤ tt)) owed tempo o (tempo-at-most false tempo t) (lit≤ tt)
 
-  quotient-at-most : Sized 86 (div binary32 (mul binary32 owed tempo) sixty)
-  quotient-at-most = div-at-most binary32 (power-of-format binary32 86 (lit≤ tt)) (mul binary32 owed tempo) sixty product-at-most sixty-at-least (lit≤ tt)
+  quotient-at-most : Sized 86 (div binary32 (mul binary32 owed tempo) sixty32)
+  quotient-at-most = div-at-most binary32 (power-of-format binary32 86 (lit≤ tt)) (mul binary32 owed tempo) sixty32 product-at-most sixty-at-least (lit≤ tt)
 
   settled-at-most : Sized 90 (settledAt tempo beat owed)
-  settled-at-most = sub-at-most binary32 (power-of-format binary32 90 (lit≤ tt)) beat (div binary32 (mul binary32 owed tempo) sixty) (sized 16 beat (b .allowed)) quotient-at-most (lit≤ tt)
+  settled-at-most = sub-at-most binary32 (power-of-format binary32 90 (lit≤ tt)) beat (div binary32 (mul binary32 owed tempo) sixty32) (sized 16 beat (b .allowed)) quotient-at-most (lit≤ tt)
 
   pub end-reckoned : EndReckoned tempo beat start owed
   end-reckoned = record {

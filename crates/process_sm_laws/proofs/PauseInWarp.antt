@@ -3,6 +3,7 @@ use mathlib.Core.Bool.{false, _&&_}
 use mathlib.Core.List.{List, [], _∷_, _++_, append-assoc}
 use mathlib.Core.Path.{_≡_, refl, sym, ap, _∙_}
 use lib.Ieee.{binary32, add, lt}
+use Rattle.ieee.specs.Constants.{plusZero32}
 use Rattle.process_sm_machine.specs.declared.Entry.{Entry}
 use Rattle.process_sm_machine.specs.declared.Change.{Change}
 use Rattle.process_sm_machine.specs.declared.Change.the-variants.{Stop}
@@ -10,7 +11,7 @@ use Rattle.process_sm_machine.specs.declared.Opened.{Opened}
 use Rattle.process_sm_machine.specs.declared.Warp.the-variants.{Open}
 use Rattle.process_sm_machine.specs.declared.State.{State}
 use Rattle.process_sm_machine.specs.declared.Moved.{Moved}
-use Rattle.process_sm_machine.specs.Machine.{naught, fits, still, passed, met}
+use Rattle.process_sm_machine.specs.Machine.{fits, still, passed, met}
 use Rattle.process_sm_machine.specs.Fate.{owing, owedBy}
 use Rattle.process_sm_machine.proofs.EachArrow.{time-keeps}
 use Rattle.process_sm_machine.proofs.PauseKeeps.{pause-keeps}
@@ -29,8 +30,8 @@ walk-from (change ∷ before) after start =
     ∙ sym (joined-assoc (writtenAt start change) (writtenSoFar before (met start change .state)) (walk after (comeTo before (met start change .state))))
 
 -- one such stop: the walk is that over what comes after it
-module _ (state : State) (warp : Opened) (stop : Entry) (in-warp : state .warp ≡ Open warp) (not-by-time : fits (state .tempo) && lt naught (owedBy state warp (Stop stop)) ≡ false)
-    (not-by-stop : lt naught (add binary32 (owedBy state warp (Stop stop)) (stop .value)) ≡ false) where
+module _ (state : State) (warp : Opened) (stop : Entry) (in-warp : state .warp ≡ Open warp) (not-by-time : fits (state .tempo) && lt plusZero32 (owedBy state warp (Stop stop)) ≡ false)
+    (not-by-stop : lt plusZero32 (add binary32 (owedBy state warp (Stop stop)) (stop .value)) ≡ false) where
   abbrev there : State
   there = record { tempo = state .tempo; beat = stop .beat; warp = owing warp (owedBy state warp (Stop stop)) }
 

@@ -8,6 +8,7 @@ use borrow.Author.Tests.{le-leb}
 use lib.Dec.{T, lit<}
 use lib.ListN.{length, drop, length-drop, length-map}
 use lib.Ieee.{Float, binary32, le, lt, eq, neg, ofBits}
+use Rattle.ieee.specs.Constants.{sixty32}
 use Rattle.ieee.proofs.SizesAddUp.{at-most-wider}
 use Rattle.limits.specs.Numbers.{inRange}
 use Rattle.order.specs.Order.{From, NeverFalls}
@@ -20,7 +21,7 @@ use Rattle.process_sm_machine.specs.declared.State.{State}
 use Rattle.process_sm_machine.specs.declared.Written.{Written}
 use Rattle.process_sm_machine.specs.declared.Written.the-variants.{Nothing, One}
 use Rattle.process_sm_machine.specs.declared.Moved.{Moved}
-use Rattle.process_sm_machine.specs.Machine.{sixty, beatAt, openChart, passed, met, finish}
+use Rattle.process_sm_machine.specs.Machine.{beatAt, openChart, passed, met, finish}
 use Rattle.process_sm_machine.proofs.Either.{either}
 use Rattle.process_sm_machine.proofs.Reached.{pass-reaches, meet-stays}
 use Rattle.process_sm_walk.specs.Changes.{tempoOf, stopOf, weave, merged, left}
@@ -94,7 +95,7 @@ walk-within m few (change ∷ changes) state n h w e k r =
       lists = fine-then (fine-then (said-fine (passed state change) one) (said-fine (met state change) two)) (rest .lists);
     }
 
-pub sixty-taken : IsTempo sixty
+pub sixty-taken : IsTempo sixty32
 unfolding inRange ofBits lt le neg eq
 sixty-taken = refl
 

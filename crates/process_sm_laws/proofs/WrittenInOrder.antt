@@ -6,12 +6,13 @@ use mathlib.Core.List.{List, [], _∷_, _++_}
 use mathlib.Core.Path.{_≡_, _∙_}
 use lib.ListN.{drop}
 use lib.Ieee.{Float, Format, binary32, le}
+use Rattle.ieee.specs.Constants.{plusZero32, sixty32}
 use Rattle.picks.specs.Pick.{pick}
 use Rattle.order.specs.Order.{From, NeverFalls, ordered}
 use Rattle.order.proofs.OrderedList.{Each, ordered-still}
 use Rattle.process_sm_machine.specs.declared.Change.{Change}
 use Rattle.process_sm_machine.specs.declared.State.{State}
-use Rattle.process_sm_machine.specs.Machine.{naught, sixty, openChart, beatAt, passed, met, finish}
+use Rattle.process_sm_machine.specs.Machine.{openChart, beatAt, passed, met, finish}
 use Rattle.process_sm_machine.proofs.Reached.{pass-reaches, meet-stays}
 use Rattle.process_sm_walk.specs.Changes.{tempoOf, stopOf, left}
 use Rattle.process_sm_walk.specs.Chart.{walk, firstTempo, lastTempo, temposBy0, stopsBefore, openingTempo, openingPlaces, processed}
@@ -55,14 +56,14 @@ module _ (f : Format) (P : Float → Type 0) where
   abbrev Values : List (Float × Float) → Type 0
   Values list = Each (beatKey binary32) (λ (e : Float × Float). P (e .1)) list
 
-  pub first-in : (tempos : List (Float × Float)) → P sixty → Values tempos → P (firstTempo tempos)
+  pub first-in : (tempos : List (Float × Float)) → P sixty32 → Values tempos → P (firstTempo tempos)
   first-in [] s v = s
   first-in (tempo ∷ tempos) s v = v .0
 
   pub last-in : (tempos : List (Float × Float)) (other : Float) → P other → Values tempos → P (lastTempo other tempos)
   unfolding lastTempo
   last-in [] other p v = p
-  last-in (tempo ∷ tempos) other p v = by (le (tempo .0) naught) (last-in tempos (tempo .1) (v .0) (v .1))
+  last-in (tempo ∷ tempos) other p v = by (le (tempo .0) plusZero32) (last-in tempos (tempo .1) (v .0) (v .1))
     where
       by : (b : Bool) → P (lastTempo (tempo .1) tempos) → P (pick b (lastTempo (tempo .1) tempos) other)
       by true h = h
@@ -79,7 +80,7 @@ module _ (f : Format) (P : Float → Type 0) where
   -- ---- the whole
 
   module _ (tempos stops : List (Float × Float)) (tempoBeats : Beats tempos) (tempoOrder : NeverFalls (beatKey binary32) tempos)
-      (stopBeats : Beats stops) (stopOrder : NeverFalls (beatKey binary32) stops) (default : P sixty) (values : Values tempos) where
+      (stopBeats : Beats stops) (stopOrder : NeverFalls (beatKey binary32) stops) (default : P sixty32) (values : Values tempos) where
     abbrev first : State
     first = openChart (openingTempo tempos) .state
 

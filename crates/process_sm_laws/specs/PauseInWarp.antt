@@ -9,13 +9,14 @@ use mathlib.Core.Bool.{false, _&&_}
 use mathlib.Core.List.{List, [], _∷_, _++_}
 use mathlib.Core.Path.{_≡_}
 use lib.Ieee.{Float, binary32, add, lt}
+use Rattle.ieee.specs.Constants.{plusZero32}
 use Rattle.process_sm_machine.specs.declared.Entry.{Entry}
 use Rattle.process_sm_machine.specs.declared.Change.{Change}
 use Rattle.process_sm_machine.specs.declared.Change.the-variants.{Stop}
 use Rattle.process_sm_machine.specs.declared.Opened.{Opened}
 use Rattle.process_sm_machine.specs.declared.Warp.the-variants.{Open}
 use Rattle.process_sm_machine.specs.declared.State.{State}
-use Rattle.process_sm_machine.specs.Machine.{naught, fits, still, meetStop, met}
+use Rattle.process_sm_machine.specs.Machine.{fits, still, meetStop, met}
 use Rattle.process_sm_machine.specs.Fate.{owing, owedBy}
 use Rattle.process_sm_walk.specs.Chart.{Output, joined, writtenAt, walk}
 
@@ -36,12 +37,12 @@ comeTo (change ∷ changes) state = comeTo changes (met state change .state)
 
 pub record PauseKeepsWarp : Type 0 where
   -- of the machine, at the beat reached
-  pub machine : (state : State) (warp : Opened) (pause : Float) → state .warp ≡ Open warp → lt naught (add binary32 (warp .owed) pause) ≡ false
+  pub machine : (state : State) (warp : Opened) (pause : Float) → state .warp ≡ Open warp → lt plusZero32 (add binary32 (warp .owed) pause) ≡ false
       → meetStop state pause ≡ still (record { tempo = state .tempo; beat = state .beat; warp = owing warp (add binary32 (warp .owed) pause) })
   -- of the walk: a stop among changes, in a warp that time has not ended by its beat
   pub onTheWalk : (before after : List Change) (start : State) (warp : Opened) (stop : Entry) → comeTo before start .warp ≡ Open warp
-      → fits (comeTo before start .tempo) && lt naught (owedBy (comeTo before start) warp (Stop stop)) ≡ false
-      → lt naught (add binary32 (owedBy (comeTo before start) warp (Stop stop)) (stop .value)) ≡ false
+      → fits (comeTo before start .tempo) && lt plusZero32 (owedBy (comeTo before start) warp (Stop stop)) ≡ false
+      → lt plusZero32 (add binary32 (owedBy (comeTo before start) warp (Stop stop)) (stop .value)) ≡ false
       → walk (before ++ Stop stop ∷ after) start
       ≡ joined (writtenSoFar before start)
       (walk after (record { tempo = comeTo before start .tempo; beat = stop .beat; warp = owing warp (add binary32 (owedBy (comeTo before start) warp (Stop stop)) (stop .value)) }))

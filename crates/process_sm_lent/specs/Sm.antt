@@ -4,9 +4,9 @@ use mathlib.Core.Bool.{Bool, false}
 use mathlib.Core.List.{List, map}
 use mathlib.Core.Path.{_≡_}
 use lib.Dec.{eqb}
-use lib.IntN.{pos}
 use lib.ListN.{length}
-use lib.Ieee.{Float, fin}
+use lib.Ieee.{Float}
+use Rattle.ieee.specs.Constants.{plusZero}
 use Rattle.picks.specs.Pick.{pick}
 use Rattle.order.specs.Entries.{first, second}
 use Rattle.columns.specs.Laying.{roomNumber, LaidList}
@@ -15,9 +15,6 @@ use Rattle.process_raw.specs.declared.Processed.{Processed}
 use Rattle.process_raw.specs.RawLists.{roomFor}
 use Rattle.process_sm_changes.specs.SmChanges.{smChanges}
 use Rattle.process_sm_walk.specs.Chart.{Output, processed, offsetOf}
-
-abbrev pub zero : Float
-zero = fin false 0 (pos 0)
 
 -- what the walk writes of both lists, as changes in order. Its stops and warps are in order by beat already, which is proved of the walk
 abbrev pub written : (tempoBeats tempoValues stopBeats stopValues : List Float) → Output
@@ -38,7 +35,7 @@ pub record SmLaid (tests : ℕ) (tempos stops warps : List (Float × Float)) (of
   pub temposLaid : LaidList (outcome .number) tempos (outcome .tempos) tempoBeatsOld tempoBeatsNew tempoValuesOld tempoValuesNew
   pub stopsLaid : LaidList (outcome .number) stops (outcome .stops) stopBeatsOld stopBeatsNew stopValuesOld stopValuesNew
   pub warpsLaid : LaidList (outcome .number) warps (outcome .warps) warpBeatsOld warpBeatsNew warpLengthsOld warpLengthsNew
-  pub offsetIs : outcome .offset ≡ pick (eqb (outcome .number) 0) offset zero
+  pub offsetIs : outcome .offset ≡ pick (eqb (outcome .number) 0) offset plusZero
 
 -- the three lists and the offset of raw lists, under a number
 abbrev pub SmListsLaid : ℕ → (tempoBeats tempoValues stopBeats stopValues : List Float) → Processed

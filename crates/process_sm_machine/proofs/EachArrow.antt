@@ -2,6 +2,7 @@
 use mathlib.Core.Bool.{Bool, true, false, _&&_}
 use mathlib.Core.Path.{_≡_, refl}
 use lib.Ieee.{Float, binary32, add, lt}
+use Rattle.ieee.specs.Constants.{plusZero32}
 use Rattle.process_sm_machine.specs.declared.Opened.{Opened}
 use Rattle.process_sm_machine.specs.declared.Warp.{Warp}
 use Rattle.process_sm_machine.specs.declared.Warp.the-variants.{Closed, Open}
@@ -9,7 +10,7 @@ use Rattle.process_sm_machine.specs.declared.State.{State}
 use Rattle.process_sm_machine.specs.declared.Written.the-variants.{Nothing}
 use Rattle.process_sm_machine.specs.Fate.{owing}
 pub use Rattle.process_sm_machine.proofs.PauseKeeps.{pause-keeps}
-use Rattle.process_sm_machine.specs.Machine.{naught, fits, entryAt, warpOver, tempoAfter, still, openChart, owedAt, settledAt, keepWarp, closeByTime, passInWarp, pass, tempoOutside, meetTempo, stopOutside, closeByStop, beginAgain, stopInWarp, meetStop, endOf, finishWarp, finish}
+use Rattle.process_sm_machine.specs.Machine.{fits, entryAt, warpOver, tempoAfter, still, openChart, owedAt, settledAt, keepWarp, closeByTime, passInWarp, pass, tempoOutside, meetTempo, stopOutside, closeByStop, beginAgain, stopInWarp, meetStop, endOf, finishWarp, finish}
 
 abbrev at : Float → Float → Warp → State
 at tempo beat warp = record { tempo = tempo; beat = beat; warp = warp }
@@ -24,11 +25,11 @@ and-true a b h k = rw (h, k)
 -- ---- the opening
 
 module _ (tempo : Float) where
-  pub opening-written : fits tempo ≡ true → openChart tempo ≡ record { state = at tempo naught Closed; tempo = entryAt naught tempo; stop = Nothing; warp = Nothing }
+  pub opening-written : fits tempo ≡ true → openChart tempo ≡ record { state = at tempo plusZero32 Closed; tempo = entryAt plusZero32 tempo; stop = Nothing; warp = Nothing }
   unfolding openChart
   opening-written f = rw f
 
-  pub opening-unwritten : fits tempo ≡ false → openChart tempo ≡ still (at tempo naught Closed)
+  pub opening-unwritten : fits tempo ≡ false → openChart tempo ≡ still (at tempo plusZero32 Closed)
   unfolding openChart
   opening-unwritten f = rw f
 
@@ -48,15 +49,15 @@ module _ (state : State) (closed : state .warp ≡ Closed) where
   unfolding meetTempo tempoOutside
   tempo-written tempo f = rw (closed, f)
 
-  pub tempo-opens : (tempo : Float) → fits tempo ≡ false → meetTempo state tempo ≡ still (at tempo (state .beat) (starting (state .beat) (state .tempo) naught))
+  pub tempo-opens : (tempo : Float) → fits tempo ≡ false → meetTempo state tempo ≡ still (at tempo (state .beat) (starting (state .beat) (state .tempo) plusZero32))
   unfolding meetTempo tempoOutside
   tempo-opens tempo f = rw (closed, f)
 
-  pub stop-opens : (length : Float) → lt length naught ≡ true → meetStop state length ≡ still (at (state .tempo) (state .beat) (starting (state .beat) (state .tempo) length))
+  pub stop-opens : (length : Float) → lt length plusZero32 ≡ true → meetStop state length ≡ still (at (state .tempo) (state .beat) (starting (state .beat) (state .tempo) length))
   unfolding meetStop stopOutside
   stop-opens length h = rw (closed, h)
 
-  pub stop-written : (length : Float) → lt length naught ≡ false
+  pub stop-written : (length : Float) → lt length plusZero32 ≡ false
       → meetStop state length ≡ record { state = at (state .tempo) (state .beat) Closed; tempo = Nothing; stop = entryAt (state .beat) length; warp = Nothing }
   unfolding meetStop stopOutside
   stop-written length h = rw (closed, h)
@@ -72,12 +73,12 @@ module _ (state : State) (warp : Opened) (in-warp : state .warp ≡ Open warp) w
     abbrev owed : Float
     owed = owedAt (state .tempo) (state .beat) (warp .owed) beat
 
-    pub time-ends : fits (state .tempo) ≡ true → lt naught owed ≡ true
+    pub time-ends : fits (state .tempo) ≡ true → lt plusZero32 owed ≡ true
         → pass state beat ≡ record { state = at (state .tempo) beat Closed; tempo = tempoAfter warp (state .tempo); stop = Nothing; warp = warpOver (warp .start) (settledAt (state .tempo) beat owed) }
     unfolding pass passInWarp closeByTime
-    time-ends f h = rw (in-warp, and-true (fits (state .tempo)) (lt naught owed) f h)
+    time-ends f h = rw (in-warp, and-true (fits (state .tempo)) (lt plusZero32 owed) f h)
 
-    pub time-keeps : fits (state .tempo) && lt naught owed ≡ false → pass state beat ≡ still (at (state .tempo) beat (owing warp owed))
+    pub time-keeps : fits (state .tempo) && lt plusZero32 owed ≡ false → pass state beat ≡ still (at (state .tempo) beat (owing warp owed))
     unfolding pass passInWarp keepWarp
     time-keeps h = rw (in-warp, h)
 
@@ -89,17 +90,17 @@ module _ (state : State) (warp : Opened) (in-warp : state .warp ≡ Open warp) w
     abbrev rest : Float
     rest = add binary32 (warp .owed) length
 
-    pub stop-ends : lt naught length ≡ true → lt naught rest ≡ true → fits (state .tempo) ≡ true
+    pub stop-ends : lt plusZero32 length ≡ true → lt plusZero32 rest ≡ true → fits (state .tempo) ≡ true
         → meetStop state length ≡ record { state = at (state .tempo) (state .beat) Closed; tempo = tempoAfter warp (state .tempo); stop = entryAt (state .beat) rest; warp = warpOver (warp .start) (state .beat) }
     unfolding meetStop stopInWarp closeByStop
-    stop-ends h k f = rw (in-warp, and-true (lt naught length) (lt naught rest) h k, f)
+    stop-ends h k f = rw (in-warp, and-true (lt plusZero32 length) (lt plusZero32 rest) h k, f)
 
-    pub stop-begins-again : lt naught length ≡ true → lt naught rest ≡ true → fits (state .tempo) ≡ false
-        → meetStop state length ≡ record { state = at (state .tempo) (state .beat) (starting (state .beat) (warp .former) naught); tempo = Nothing; stop = entryAt (state .beat) rest; warp = warpOver (warp .start) (state .beat) }
+    pub stop-begins-again : lt plusZero32 length ≡ true → lt plusZero32 rest ≡ true → fits (state .tempo) ≡ false
+        → meetStop state length ≡ record { state = at (state .tempo) (state .beat) (starting (state .beat) (warp .former) plusZero32); tempo = Nothing; stop = entryAt (state .beat) rest; warp = warpOver (warp .start) (state .beat) }
     unfolding meetStop stopInWarp beginAgain
-    stop-begins-again h k f = rw (in-warp, and-true (lt naught length) (lt naught rest) h k, f)
+    stop-begins-again h k f = rw (in-warp, and-true (lt plusZero32 length) (lt plusZero32 rest) h k, f)
 
-    pub stop-keeps : lt naught length && lt naught rest ≡ false → meetStop state length ≡ still (at (state .tempo) (state .beat) (owing warp rest))
+    pub stop-keeps : lt plusZero32 length && lt plusZero32 rest ≡ false → meetStop state length ≡ still (at (state .tempo) (state .beat) (owing warp rest))
     unfolding meetStop stopInWarp keepWarp
     stop-keeps h = rw (in-warp, h)
 

@@ -6,6 +6,7 @@
 use mathlib.Core.Bool.{true, _&&_}
 use mathlib.Core.Path.{_≡_}
 use lib.Ieee.{Float, binary32, add, lt}
+use Rattle.ieee.specs.Constants.{plusZero32}
 use Rattle.process_sm_machine.specs.declared.Entry.{Entry}
 use Rattle.process_sm_machine.specs.declared.Change.{Change}
 use Rattle.process_sm_machine.specs.declared.Change.the-variants.{Tempo, Stop}
@@ -14,7 +15,7 @@ use Rattle.process_sm_machine.specs.declared.Warp.{Warp}
 use Rattle.process_sm_machine.specs.declared.Warp.the-variants.{Open}
 use Rattle.process_sm_machine.specs.declared.State.{State}
 use Rattle.process_sm_machine.specs.declared.Moved.{Moved}
-use Rattle.process_sm_machine.specs.Machine.{naught, fits, still, owedAt, beatAt}
+use Rattle.process_sm_machine.specs.Machine.{fits, still, owedAt, beatAt}
 
 -- the same warp, with this much owed
 abbrev pub owing : Opened → Float → Warp
@@ -38,6 +39,6 @@ pub data Fate (state : State) (warp : Opened) (change : Change) (passing meeting
   goesOn : passing ≡ still (record { tempo = state .tempo; beat = beatAt change; warp = owing warp (owedBy state warp change) })
       → meeting ≡ still (record { tempo = tempoFrom (state .tempo) change; beat = beatAt change; warp = owing warp (owedAfter (owedBy state warp change) change) })
       → Fate state warp change passing meeting
-  endedByTime : fits (state .tempo) && lt naught (owedBy state warp change) ≡ true → Fate state warp change passing meeting
-  endedByStop : (entry : Entry) → change ≡ Stop entry → lt naught (entry .value) && lt naught (add binary32 (owedBy state warp change) (entry .value)) ≡ true
+  endedByTime : fits (state .tempo) && lt plusZero32 (owedBy state warp change) ≡ true → Fate state warp change passing meeting
+  endedByStop : (entry : Entry) → change ≡ Stop entry → lt plusZero32 (entry .value) && lt plusZero32 (add binary32 (owedBy state warp change) (entry .value)) ≡ true
       → Fate state warp change passing meeting

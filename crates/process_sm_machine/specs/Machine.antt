@@ -22,6 +22,7 @@
 -- Every definition is a function with a case for each state and each outcome of its tests: one arrow leaves each state for each thing that comes.
 use mathlib.Core.Bool.{Bool, _&&_}
 use lib.Ieee.{Float, binary32, add, sub, mul, div, lt, le, eq, ofBits}
+use Rattle.ieee.specs.Constants.{plusZero32, sixty32}
 use Rattle.picks.specs.Pick.{pick}
 use Rattle.rows.specs.Rows.{quantized32}
 use Rattle.process_sm_machine.specs.declared.Change.{Change}
@@ -36,14 +37,6 @@ use Rattle.process_sm_machine.specs.declared.Moved.{Moved}
 
 -- ---- numbers
 
--- 0
-abbrev pub naught : Float
-naught = ofBits binary32 0
-
--- 60, seconds to a minute, and the tempo of a chart that has none
-abbrev pub sixty : Float
-sixty = ofBits binary32 0x4270_0000
-
 -- 9,999,999
 abbrev pub fastest : Float
 fastest = ofBits binary32 0x4B18_967F
@@ -54,7 +47,7 @@ endless = ofBits binary32 0x4CBE_BC20
 
 -- a tempo fits that is above 0 and not above 9,999,999
 unfoldable pub fits : Float → Bool
-fits tempo = lt naught tempo && le tempo fastest
+fits tempo = lt plusZero32 tempo && le tempo fastest
 
 -- ---- what an arrow writes: beats and lengths of warps on rows, values of tempos and stops as they are
 
@@ -77,8 +70,8 @@ still state = record { state = state; tempo = Nothing; stop = Nothing; warp = No
 
 unfoldable pub openChart : Float → Moved
 openChart tempo = record {
-  state = record { tempo = tempo; beat = naught; warp = Closed };
-  tempo = pick (fits tempo) (entryAt naught tempo) Nothing;
+  state = record { tempo = tempo; beat = plusZero32; warp = Closed };
+  tempo = pick (fits tempo) (entryAt plusZero32 tempo) Nothing;
   stop = Nothing;
   warp = Nothing;
 }
@@ -88,11 +81,11 @@ openChart tempo = record {
 -- what is owed then: more by the seconds that the beats take, which are negative under a negative tempo. A tempo above 9,999,999 takes none
 unfoldable pub owedAt : Float → Float → Float → Float → Float
 owedAt tempo last owed beat =
-    pick (le tempo fastest) (add binary32 owed (div binary32 (mul binary32 (sub binary32 beat last) sixty) tempo)) owed
+    pick (le tempo fastest) (add binary32 owed (div binary32 (mul binary32 (sub binary32 beat last) sixty32) tempo)) owed
 
 -- the beat at which nothing was owed, under a tempo that fits
 abbrev pub settledAt : Float → Float → Float → Float
-settledAt tempo beat owed = sub binary32 beat (div binary32 (mul binary32 owed tempo) sixty)
+settledAt tempo beat owed = sub binary32 beat (div binary32 (mul binary32 owed tempo) sixty32)
 
 -- the warp goes on, with this much owed
 unfoldable pub keepWarp : Float → Float → Opened → Float → Moved
@@ -109,7 +102,7 @@ closeByTime tempo beat warp owed = record {
 
 unfoldable pub passInWarp : Float → Float → Opened → Float → Moved
 passInWarp tempo last warp beat =
-    pick (fits tempo && lt naught (owedAt tempo last (warp .owed) beat))
+    pick (fits tempo && lt plusZero32 (owedAt tempo last (warp .owed) beat))
     (closeByTime tempo beat warp (owedAt tempo last (warp .owed) beat))
     (keepWarp tempo beat warp (owedAt tempo last (warp .owed) beat))
 
@@ -127,7 +120,7 @@ unfoldable pub tempoOutside : Float → Float → Float → Moved
 tempoOutside former beat tempo =
     pick (fits tempo)
     (record { state = record { tempo = tempo; beat = beat; warp = Closed }; tempo = entryAt beat tempo; stop = Nothing; warp = Nothing })
-    (still (record { tempo = tempo; beat = beat; warp = Open (record { start = beat; former = former; owed = naught }) }))
+    (still (record { tempo = tempo; beat = beat; warp = Open (record { start = beat; former = former; owed = plusZero32 }) }))
 
 -- in a warp it only comes into force
 abbrev pub tempoBy : Warp → Float → Float → Float → Moved
@@ -142,7 +135,7 @@ meetTempo state tempo = tempoBy (state .warp) (state .tempo) (state .beat) tempo
 -- in no warp: one below 0 opens a warp that owes it, any other is written
 unfoldable pub stopOutside : Float → Float → Float → Moved
 stopOutside tempo beat length =
-    pick (lt length naught)
+    pick (lt length plusZero32)
     (still (record { tempo = tempo; beat = beat; warp = Open (record { start = beat; former = tempo; owed = length }) }))
     (record { state = record { tempo = tempo; beat = beat; warp = Closed }; tempo = Nothing; stop = entryAt beat length; warp = Nothing })
 
@@ -158,7 +151,7 @@ closeByStop tempo beat warp owed = record {
 -- the same under a tempo that doesn't fit: another warp starts here, with the tempo before the first
 unfoldable pub beginAgain : Float → Float → Opened → Float → Moved
 beginAgain tempo beat warp owed = record {
-  state = record { tempo = tempo; beat = beat; warp = Open (record { start = beat; former = warp .former; owed = naught }) };
+  state = record { tempo = tempo; beat = beat; warp = Open (record { start = beat; former = warp .former; owed = plusZero32 }) };
   tempo = Nothing;
   stop = entryAt beat owed;
   warp = warpOver (warp .start) beat;
@@ -167,7 +160,7 @@ beginAgain tempo beat warp owed = record {
 -- in a warp: a stop above 0 that brings what is owed above 0 ends it. Whatever its size, a stop that doesn't bring it there ends nothing
 unfoldable pub stopInWarp : Float → Float → Opened → Float → Moved
 stopInWarp tempo beat warp length =
-    pick (lt naught length && lt naught (add binary32 (warp .owed) length))
+    pick (lt plusZero32 length && lt plusZero32 (add binary32 (warp .owed) length))
     (pick (fits tempo) (closeByStop tempo beat warp (add binary32 (warp .owed) length)) (beginAgain tempo beat warp (add binary32 (warp .owed) length)))
     (keepWarp tempo beat warp (add binary32 (warp .owed) length))
 

@@ -5,6 +5,7 @@ use mathlib.Core.Path.{_≡_, refl}
 use native.Mathlib.Omega.{arith}
 use lib.ListN.{length}
 use lib.Ieee.{Float, binary32, add, sub, mul, div, lt, eq}
+use Rattle.ieee.specs.Constants.{plusZero32, sixty32}
 use Rattle.process_sm_machine.specs.declared.Entry.{Entry}
 use Rattle.process_sm_machine.specs.declared.Change.{Change}
 use Rattle.process_sm_machine.specs.declared.Change.the-variants.{Tempo, Stop}
@@ -22,7 +23,7 @@ use Rattle.process_sm_walk.specs.declared.Places.{Places}
 use Rattle.process_sm_walk.specs.declared.Counts.{Counts}
 use Rattle.picks.specs.Pick.{pick}
 use Rattle.process_sm_machine.proofs.Either.{either}
-use Rattle.process_sm_machine.specs.Machine.{naught, sixty, fits, warpOver, tempoAfter, owedAt, keepWarp, closeByTime, passInWarp, passBy, pass, tempoOutside, tempoBy, meetTempo, stopOutside, closeByStop, beginAgain, stopInWarp, stopBy, meetStop, beatAt, meet, endOf, finishWarp, finishBy, finish}
+use Rattle.process_sm_machine.specs.Machine.{fits, warpOver, tempoAfter, owedAt, keepWarp, closeByTime, passInWarp, passBy, pass, tempoOutside, tempoBy, meetTempo, stopOutside, closeByStop, beginAgain, stopInWarp, stopBy, meetStop, beatAt, meet, endOf, finishWarp, finishBy, finish}
 use Rattle.process_sm_machine.specs.Machine.{passed, met}
 use Rattle.process_sm_walk.proofs.PlacedInColumns.{counted-more}
 
@@ -57,7 +58,7 @@ closed-by-time : (places : Places) (counts : Counts) (tempo last beat : Float) (
 unfolding closeByTime
 closed-by-time places counts tempo last beat warp owed w =
     let a = w .tempos in let b = w .stops in let d = w .warps in
-    record { number = w .number; tempos = omega (arith, tempo-after-length warp tempo); stops = omega arith; warps = omega (arith, warp-over-length (warp .start) (sub binary32 beat (div binary32 (mul binary32 owed tempo) sixty))) }
+    record { number = w .number; tempos = omega (arith, tempo-after-length warp tempo); stops = omega arith; warps = omega (arith, warp-over-length (warp .start) (sub binary32 beat (div binary32 (mul binary32 owed tempo) sixty32))) }
 
 pass-by : (places : Places) (counts : Counts) (warp : Warp) (tempo last beat : Float)
     → Within places (record { tempo = tempo; beat = last; warp = warp }) counts → After places counts (passBy warp tempo last beat)
@@ -66,7 +67,7 @@ pass-by places counts Closed tempo last beat w =
     let a = w .tempos in let b = w .stops in let d = w .warps in
     record { number = w .number; tempos = omega arith; stops = omega arith; warps = omega arith }
 pass-by places counts (Open warp) tempo last beat w =
-    either (After places counts) (fits tempo && lt naught (owedAt tempo last (warp .owed) beat)) _ _
+    either (After places counts) (fits tempo && lt plusZero32 (owedAt tempo last (warp .owed) beat)) _ _
     (closed-by-time places counts tempo last beat warp (owedAt tempo last (warp .owed) beat) w)
     (kept places counts tempo last beat warp (owedAt tempo last (warp .owed) beat) w)
 
@@ -89,7 +90,7 @@ tempo-by places counts Closed former beat tempo n w =
     let a = w .tempos in let b = w .stops in let d = w .warps in
     either (After (record { tempo = places .tempo + 1; stop = places .stop }) counts) (fits tempo) _ _
     (record { number = n; tempos = omega arith; stops = omega arith; warps = omega arith })
-    (record { number = n; tempos = omega (arith, pending-one (record { start = beat; former = former; owed = naught }) tempo); stops = omega arith; warps = omega arith })
+    (record { number = n; tempos = omega (arith, pending-one (record { start = beat; former = former; owed = plusZero32 }) tempo); stops = omega arith; warps = omega arith })
 tempo-by places counts (Open warp) former beat tempo n w =
     let a = w .tempos in let b = w .stops in let d = w .warps in
     record { number = n; tempos = omega (arith, pending-one warp tempo); stops = omega arith; warps = omega arith }
@@ -107,13 +108,13 @@ stop-by : (places : Places) (counts : Counts) (warp : Warp) (tempo beat pause : 
 unfolding stopOutside stopInWarp keepWarp closeByStop beginAgain
 stop-by places counts Closed tempo beat pause w =
     let a = w .tempos in let b = w .stops in let d = w .warps in
-    either (After (record { tempo = places .tempo; stop = places .stop + 1 }) counts) (lt pause naught) _ _
+    either (After (record { tempo = places .tempo; stop = places .stop + 1 }) counts) (lt pause plusZero32) _ _
     (record { number = w .number; tempos = omega (arith, none-pending (eq tempo tempo) (w .number)); stops = omega arith; warps = omega arith })
     (record { number = w .number; tempos = omega arith; stops = omega arith; warps = omega arith })
 stop-by places counts (Open warp) tempo beat pause w =
     let a = w .tempos in let b = w .stops in let d = w .warps in
     let k = tempo-after-length warp tempo in let l = warp-over-length (warp .start) beat in
-    either (After (record { tempo = places .tempo; stop = places .stop + 1 }) counts) (lt naught pause && lt naught (add binary32 (warp .owed) pause)) _ _
+    either (After (record { tempo = places .tempo; stop = places .stop + 1 }) counts) (lt plusZero32 pause && lt plusZero32 (add binary32 (warp .owed) pause)) _ _
     (either (After (record { tempo = places .tempo; stop = places .stop + 1 }) counts) (fits tempo) _ _
     (record { number = w .number; tempos = omega arith; stops = omega arith; warps = omega arith })
     (record { number = w .number; tempos = omega arith; stops = omega arith; warps = omega arith }))

@@ -6,6 +6,7 @@ use mathlib.Core.Path.{_≡_, refl, ap}
 use native.Mathlib.Omega.{arith}
 use lib.ListN.{length, drop}
 use lib.Ieee.{Float, le, lt}
+use Rattle.ieee.specs.Constants.{plusZero32}
 use Rattle.picks.specs.Pick.{pick}
 use Rattle.limits.specs.Numbers.{every}
 use Rattle.limits.proofs.Every.{every-rest}
@@ -13,7 +14,7 @@ use Rattle.order.specs.Entries.{entries}
 use Rattle.process_sm_machine.specs.declared.Change.{Change}
 use Rattle.process_sm_machine.specs.declared.State.{State}
 use Rattle.process_sm_machine.specs.declared.Warp.the-variants.{Closed}
-use Rattle.process_sm_machine.specs.Machine.{naught, fits}
+use Rattle.process_sm_machine.specs.Machine.{fits}
 use Rattle.process_sm_machine.proofs.EachArrow.{time-outside, tempo-written, stop-written, end-outside}
 use Rattle.process_sm_walk.specs.Changes.{tempoOf, stopOf, weave, merged, left}
 use Rattle.process_sm_walk.specs.Chart.{Output, walk}
@@ -47,7 +48,7 @@ not-below false h = refl
 walk-stop : (e : Float × Float) (changes : List Change) (state : State) → state .warp ≡ Closed → pauses (e .1) ≡ true
     → walk (stopOf e ∷ changes) state ≡ withStop e (walk changes (closedAt (state .tempo) (e .0)))
 unfolding walk
-walk-stop e changes state c h = rw (time-outside state c (e .0), stop-written (closedAt (state .tempo) (e .0)) refl (e .1) (not-below (lt (e .1) naught) h))
+walk-stop e changes state c h = rw (time-outside state c (e .0), stop-written (closedAt (state .tempo) (e .0)) refl (e .1) (not-below (lt (e .1) plusZero32) h))
 
 -- ---- all changes
 

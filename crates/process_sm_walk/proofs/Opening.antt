@@ -8,8 +8,8 @@ use native.Mathlib.Nat.{max-zero, suc-max-suc}
 use native.Mathlib.Numerals.{add-one}
 use lib.ListN.{length, drop, getD}
 use lib.Ieee.{Float, binary32, sub, lt, le, eq, nan}
+use Rattle.ieee.specs.Constants.{plusZero32, sixty32}
 use Rattle.picks.specs.Pick.{pick}
-use Rattle.process_sm_machine.specs.Machine.{naught, sixty}
 use Rattle.order.specs.Entries.{entries}
 use Rattle.process_sm_walk.specs.Chart.{takenOff, stopsBefore, firstValue, firstTempo, lastTempo, temposBy0}
 use Rattle.process_sm_walk.specs.Inside.{Numbers}
@@ -28,12 +28,12 @@ module _ (beats values : List Float) (same : length beats ≡ length values) (i 
 
   -- ---- tempos
 
-  pub tempo-on : (tempo : Float) → i < length beats → le (getD beats i nan) naught ≡ true
+  pub tempo-on : (tempo : Float) → i < length beats → le (getD beats i nan) plusZero32 ≡ true
       → lastTempo tempo (drop i (entries beats values)) ≡ lastTempo (getD values i nan) (drop (i + 1) (entries beats values))
   unfolding lastTempo
   tempo-on tempo h b = rw (from h, b)
 
-  pub tempo-off : (tempo : Float) → i < length beats → le (getD beats i nan) naught ≡ false → lastTempo tempo (drop i (entries beats values)) ≡ tempo
+  pub tempo-off : (tempo : Float) → i < length beats → le (getD beats i nan) plusZero32 ≡ false → lastTempo tempo (drop i (entries beats values)) ≡ tempo
   unfolding lastTempo
   tempo-off tempo h b = rw (from h, b)
 
@@ -41,11 +41,11 @@ module _ (beats values : List Float) (same : length beats ≡ length values) (i 
   unfolding lastTempo
   tempo-end tempo h = rw (entries-end beats values i h)
 
-  pub tempos-on : i < length beats → le (getD beats i nan) naught ≡ true → temposBy0 (drop i (entries beats values)) ≡ suc (temposBy0 (drop (i + 1) (entries beats values)))
+  pub tempos-on : i < length beats → le (getD beats i nan) plusZero32 ≡ true → temposBy0 (drop i (entries beats values)) ≡ suc (temposBy0 (drop (i + 1) (entries beats values)))
   unfolding temposBy0
   tempos-on h b = rw (from h, b)
 
-  pub tempos-off : i < length beats → le (getD beats i nan) naught ≡ false → temposBy0 (drop i (entries beats values)) ≡ 0
+  pub tempos-off : i < length beats → le (getD beats i nan) plusZero32 ≡ false → temposBy0 (drop i (entries beats values)) ≡ 0
   unfolding temposBy0
   tempos-off h b = rw (from h, b)
 
@@ -55,12 +55,12 @@ module _ (beats values : List Float) (same : length beats ≡ length values) (i 
 
   -- ---- stops
 
-  pub stop-on : (offset : Float) → i < length beats → lt (getD beats i nan) naught ≡ true
+  pub stop-on : (offset : Float) → i < length beats → lt (getD beats i nan) plusZero32 ≡ true
       → takenOff offset (drop i (entries beats values)) ≡ takenOff (sub binary32 offset (getD values i nan)) (drop (i + 1) (entries beats values))
   unfolding takenOff
   stop-on offset h b = rw (from h, b)
 
-  pub stop-off : (offset : Float) → i < length beats → lt (getD beats i nan) naught ≡ false → takenOff offset (drop i (entries beats values)) ≡ offset
+  pub stop-off : (offset : Float) → i < length beats → lt (getD beats i nan) plusZero32 ≡ false → takenOff offset (drop i (entries beats values)) ≡ offset
   unfolding takenOff
   stop-off offset h b = rw (from h, b)
 
@@ -68,11 +68,11 @@ module _ (beats values : List Float) (same : length beats ≡ length values) (i 
   unfolding takenOff
   stop-end offset h = rw (entries-end beats values i h)
 
-  pub stops-on : i < length beats → lt (getD beats i nan) naught ≡ true → stopsBefore (drop i (entries beats values)) ≡ suc (stopsBefore (drop (i + 1) (entries beats values)))
+  pub stops-on : i < length beats → lt (getD beats i nan) plusZero32 ≡ true → stopsBefore (drop i (entries beats values)) ≡ suc (stopsBefore (drop (i + 1) (entries beats values)))
   unfolding stopsBefore
   stops-on h b = rw (from h, b)
 
-  pub stops-off : i < length beats → lt (getD beats i nan) naught ≡ false → stopsBefore (drop i (entries beats values)) ≡ 0
+  pub stops-off : i < length beats → lt (getD beats i nan) plusZero32 ≡ false → stopsBefore (drop i (entries beats values)) ≡ 0
   unfolding stopsBefore
   stops-off h b = rw (from h, b)
 
@@ -85,7 +85,7 @@ module _ (beats values : List Float) (same : length beats ≡ length values) (i 
 pub fewer-tempos : (l : List (Float × Float)) → temposBy0 l ≤ length l
 unfolding temposBy0
 fewer-tempos [] = omega arith
-fewer-tempos (x ∷ l) = let h = fewer-tempos l in go (le (x .0) naught) h
+fewer-tempos (x ∷ l) = let h = fewer-tempos l in go (le (x .0) plusZero32) h
   where
     go : (b : Bool) → temposBy0 l ≤ length l → pick b (suc (temposBy0 l)) 0 ≤ suc (length l)
     go true h = omega arith
@@ -94,7 +94,7 @@ fewer-tempos (x ∷ l) = let h = fewer-tempos l in go (le (x .0) naught) h
 pub fewer-stops : (l : List (Float × Float)) → stopsBefore l ≤ length l
 unfolding stopsBefore
 fewer-stops [] = omega arith
-fewer-stops (x ∷ l) = let h = fewer-stops l in go (lt (x .0) naught) h
+fewer-stops (x ∷ l) = let h = fewer-stops l in go (lt (x .0) plusZero32) h
   where
     go : (b : Bool) → stopsBefore l ≤ length l → pick b (suc (stopsBefore l)) 0 ≤ suc (length l)
     go true h = omega arith
@@ -103,7 +103,7 @@ fewer-stops (x ∷ l) = let h = fewer-stops l in go (lt (x .0) naught) h
 pub last-number : (l : List (Float × Float)) (tempo : Float) → Numbers l → eq tempo tempo ≡ true → eq (lastTempo tempo l) (lastTempo tempo l) ≡ true
 unfolding lastTempo
 last-number [] tempo n e = e
-last-number (x ∷ l) tempo n e = go (le (x .0) naught) (last-number l (x .1) (n .1) (n .0))
+last-number (x ∷ l) tempo n e = go (le (x .0) plusZero32) (last-number l (x .1) (n .1) (n .0))
   where
     go : (b : Bool) → eq (lastTempo (x .1) l) (lastTempo (x .1) l) ≡ true → eq (pick b (lastTempo (x .1) l) tempo) (pick b (lastTempo (x .1) l) tempo) ≡ true
     go true h = h
@@ -113,7 +113,7 @@ pub max-one : (n : ℕ) → (n ≡ 0 → ⊥) → n ≡ max n 1
 max-one zero h = absurd (h refl)
 max-one (suc n) h = sym (suc-max-suc n 0 ∙ ap suc (max-zero n))
 
-pub first-empty : (l : List Float) → length l ≡ 0 → sixty ≡ firstValue l
+pub first-empty : (l : List Float) → length l ≡ 0 → sixty32 ≡ firstValue l
 first-empty [] h = refl
 first-empty (x ∷ l) h = absurd (omega arith)
 

@@ -9,6 +9,7 @@ use lib.Dec.{leb, eqb}
 use lib.ListN.{length, length-map}
 use lib.Ieee.{Float}
 use borrow.Author.Tests.{ne-eqb, eqb-true, leb-true}
+use Rattle.ieee.specs.Constants.{plusZero32}
 use Rattle.picks.specs.Pick.{pick}
 use Rattle.limits.specs.Numbers.{every}
 use Rattle.limits.proofs.Every.{every-rest}
@@ -16,7 +17,6 @@ use Rattle.order.specs.Order.{laid}
 use Rattle.order.specs.Entries.{entries, first, second}
 use Rattle.columns.specs.Laying.{given, columnLaid}
 use Rattle.columns.proofs.Rooms.{nothing-given}
-use Rattle.process_sm_machine.specs.Machine.{naught}
 use Rattle.process_sm_walk.specs.declared.Finished.{Finished}
 use Rattle.process_sm_walk.specs.Chart.{processed, offsetOf}
 use Rattle.process_sm_walk.specs.Columns.{Columns, most}
@@ -41,7 +41,7 @@ none-laid : (field : Float × Float → Float) (n : ℕ) (list : List (Float × 
 unfolding laid
 none-laid field n list old h = rw (nothing-given list n h)
 
-pub refused-laid : (tempos stops : List (Float × Float)) (n : ℕ) (old : Columns) → (n ≡ 0 → ⊥) → WalkLaid tempos stops n (record { number = n; tempos = 0; stops = 0; warps = 0; offset = naught }) old old
+pub refused-laid : (tempos stops : List (Float × Float)) (n : ℕ) (old : Columns) → (n ≡ 0 → ⊥) → WalkLaid tempos stops n (record { number = n; tempos = 0; stops = 0; warps = 0; offset = plusZero32 }) old old
 refused-laid tempos stops n old h =
     let out = processed tempos stops in
     record {

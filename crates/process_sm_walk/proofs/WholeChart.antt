@@ -7,6 +7,7 @@ use native.Mathlib.Omega.{arith}
 use native.Mathlib.Nat.{le-max-left, le-max-right, max-le}
 use lib.ListN.{length}
 use lib.Ieee.{Float, eq, ofBits}
+use Rattle.ieee.specs.Constants.{sixty32}
 use Rattle.process_sm_machine.specs.declared.Written.{Written}
 use Rattle.process_sm_machine.specs.declared.Moved.{Moved}
 use Rattle.order.specs.Entries.{entries}
@@ -20,7 +21,7 @@ use Rattle.process_sm_walk.specs.declared.Counts.{Counts}
 use Rattle.process_sm_walk.specs.declared.Opener.{Opener}
 use Rattle.process_sm_walk.specs.declared.Early.{Early}
 use Rattle.process_sm_walk.specs.declared.Finished.{Finished}
-use Rattle.process_sm_machine.specs.Machine.{fits, sixty}
+use Rattle.process_sm_machine.specs.Machine.{fits}
 use Rattle.order.proofs.Columns.{length-entries}
 use Rattle.process_sm_walk.proofs.PlacedInColumns.{written-more, counted-more}
 use Rattle.process_sm_machine.proofs.Either.{either}
@@ -31,7 +32,7 @@ opening-one : (tempo : Float) → length (listOf (openChart tempo .tempo)) ≤ 1
 unfolding openChart
 opening-one tempo = either (λ (w : Written). length (listOf w) ≤ 1) (fits tempo) _ _ (omega arith) (omega arith)
 
-sixty-number : eq sixty sixty ≡ true
+sixty-number : eq sixty32 sixty32 ≡ true
 unfolding eq ofBits
 sixty-number = refl
 

@@ -2,8 +2,9 @@
 use Prim.Native.Nat.{ℕ, suc, _+_, max}
 use mathlib.Core.List.{List, [], _∷_, _++_}
 use lib.Ieee.{Float, binary32, sub, lt, le}
+use Rattle.ieee.specs.Constants.{plusZero32, sixty32}
 use Rattle.picks.specs.Pick.{pick}
-use Rattle.process_sm_machine.specs.Machine.{naught, sixty, openChart, passed, met, finish}
+use Rattle.process_sm_machine.specs.Machine.{openChart, passed, met, finish}
 use Rattle.process_sm_machine.specs.declared.Change.{Change}
 use Rattle.process_sm_machine.specs.declared.State.{State}
 use Rattle.process_sm_machine.specs.declared.Written.{Written}
@@ -50,28 +51,28 @@ walk (change ∷ changes) state = joined (writtenAt state change) (walk changes 
 -- stops before beat 0 are no changes: the offset of beat 0 is less by each
 unfoldable pub takenOff : Float → List (Float × Float) → Float
 takenOff offset [] = offset
-takenOff offset (stop ∷ stops) = pick (lt (stop .0) naught) (takenOff (sub binary32 offset (stop .1)) stops) offset
+takenOff offset (stop ∷ stops) = pick (lt (stop .0) plusZero32) (takenOff (sub binary32 offset (stop .1)) stops) offset
 
 unfoldable pub stopsBefore : List (Float × Float) → ℕ
 stopsBefore [] = 0
-stopsBefore (stop ∷ stops) = pick (lt (stop .0) naught) (suc (stopsBefore stops)) 0
+stopsBefore (stop ∷ stops) = pick (lt (stop .0) plusZero32) (suc (stopsBefore stops)) 0
 
 -- the tempo at the opening: of those up to beat 0 the last; where there is none the first of all; where there is none at all 60
 abbrev pub firstValue : List Float → Float
-firstValue [] = sixty
+firstValue [] = sixty32
 firstValue (value ∷ values) = value
 
 abbrev pub firstTempo : List (Float × Float) → Float
-firstTempo [] = sixty
+firstTempo [] = sixty32
 firstTempo (tempo ∷ tempos) = tempo .1
 
 unfoldable pub lastTempo : Float → List (Float × Float) → Float
 lastTempo other [] = other
-lastTempo other (tempo ∷ tempos) = pick (le (tempo .0) naught) (lastTempo (tempo .1) tempos) other
+lastTempo other (tempo ∷ tempos) = pick (le (tempo .0) plusZero32) (lastTempo (tempo .1) tempos) other
 
 unfoldable pub temposBy0 : List (Float × Float) → ℕ
 temposBy0 [] = 0
-temposBy0 (tempo ∷ tempos) = pick (le (tempo .0) naught) (suc (temposBy0 tempos)) 0
+temposBy0 (tempo ∷ tempos) = pick (le (tempo .0) plusZero32) (suc (temposBy0 tempos)) 0
 
 abbrev pub openingTempo : List (Float × Float) → Float
 openingTempo tempos = lastTempo (firstTempo tempos) tempos
@@ -87,4 +88,4 @@ processed tempos stops =
     joined (writtenBy (openChart (openingTempo tempos))) (walk (left tempos stops (openingPlaces tempos stops)) (openChart (openingTempo tempos) .state))
 
 abbrev pub offsetOf : List (Float × Float) → Float
-offsetOf stops = takenOff naught stops
+offsetOf stops = takenOff plusZero32 stops

@@ -5,11 +5,12 @@ use mathlib.Core.Bool.{Bool, true, not}
 use mathlib.Core.Path.{_≡_}
 use lib.ListN.{length, set, drop}
 use lib.Ieee.{Float, eq, lt}
+use Rattle.ieee.specs.Constants.{plusZero32}
 use Rattle.picks.specs.Pick.{pick}
 use Rattle.limits.specs.Numbers.{every}
 use Rattle.rows.specs.Rows.{quantized32}
 use Rattle.order.specs.Entries.{entries, first, second}
-use Rattle.process_sm_machine.specs.Machine.{naught, fits}
+use Rattle.process_sm_machine.specs.Machine.{fits}
 use Rattle.process_sm_machine.specs.declared.State.{State}
 use Rattle.process_sm_machine.specs.declared.Warp.{Warp}
 use Rattle.process_sm_machine.specs.declared.Warp.the-variants.{Closed, Open}
@@ -92,7 +93,7 @@ pub record Reached (tempos stops : ℕ) (places : Places) : Type 0 where
 
 -- a stop that is written as it is
 abbrev pub pauses : Float → Bool
-pauses length = not (lt length naught)
+pauses length = not (lt length plusZero32)
 
 -- no warp is open, and neither a tempo nor a stop from these places on opens one
 pub record NoWarp (tempoValues stopValues : List Float) (places : Places) (state : State) : Type 0 where

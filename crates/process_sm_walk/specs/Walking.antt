@@ -6,11 +6,11 @@ use mathlib.Core.Path.{_≡_}
 use lib.Dec.{leb, eqb}
 use lib.ListN.{length}
 use lib.Ieee.{Float, eq}
+use Rattle.ieee.specs.Constants.{plusZero32}
 use Rattle.picks.specs.Pick.{pick}
 use Rattle.limits.specs.Numbers.{every}
 use Rattle.order.specs.Entries.{first, second}
 use Rattle.columns.specs.Laying.{given, columnLaid}
-use Rattle.process_sm_machine.specs.Machine.{naught}
 use Rattle.process_sm_walk.specs.declared.Counts.{Counts}
 use Rattle.process_sm_walk.specs.declared.Walked.{Walked}
 use Rattle.process_sm_walk.specs.Chart.{processed, offsetOf}
@@ -54,7 +54,7 @@ pub record WalkLaid (givenTempos givenStops : List (Float × Float)) (refusal : 
   pub tempos : outcome .tempos ≡ length (given refusal (processed givenTempos givenStops .tempos))
   pub stops : outcome .stops ≡ length (given refusal (processed givenTempos givenStops .stops))
   pub warps : outcome .warps ≡ length (given refusal (processed givenTempos givenStops .warps))
-  pub offset : outcome .offset ≡ pick (eqb refusal 0) (offsetOf givenStops) naught
+  pub offset : outcome .offset ≡ pick (eqb refusal 0) (offsetOf givenStops) plusZero32
   pub tempoBeats : new .tempoBeats ≡ columnLaid first refusal (processed givenTempos givenStops .tempos) (old .tempoBeats)
   pub tempoValues : new .tempoValues ≡ columnLaid second refusal (processed givenTempos givenStops .tempos) (old .tempoValues)
   pub stopBeats : new .stopBeats ≡ columnLaid first refusal (processed givenTempos givenStops .stops) (old .stopBeats)

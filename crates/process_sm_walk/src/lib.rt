@@ -11,9 +11,10 @@ ghost use mathlib.Core.List.{map};
 ghost use Prim.Native.Nat.{_<_, _+_, _≤_, _^_, max};
 ghost use lib.ListN.{length, getD, drop};
 ghost use lib.Ieee.{nan};
+ghost use Rattle.ieee.specs.Constants.{plusZero32};
 ghost use Rattle.limits.specs.Numbers.{every};
 ghost use Rattle.order.specs.Entries.{entries, first, second};
-ghost use Rattle.process_sm_machine.specs.Machine.{naught, fits, met};
+ghost use Rattle.process_sm_machine.specs.Machine.{fits, met};
 ghost use Rattle.process_sm_walk.specs.Changes.{headOf, left, advanced};
 ghost use Rattle.process_sm_walk.specs.Chart.{listOf, writtenBy, writtenAt, walk, stopsBefore, offsetOf, temposBy0, firstValue, openingTempo, processed};
 ghost use Rattle.process_sm_walk.specs.Columns.{columns, most};
@@ -645,7 +646,7 @@ fn walk_number(
 }
 
 fn refused(number: u32) -> Walked
-    ensures { λ r. ⌜ r ≡ record { number = number; tempos = 0; stops = 0; warps = 0; offset = naught } ⌝ }
+    ensures { λ r. ⌜ r ≡ record { number = number; tempos = 0; stops = 0; warps = 0; offset = plusZero32 } ⌝ }
 {
     Walked {
         number,

@@ -11,15 +11,16 @@ use lib.ListN.{length}
 use lib.Ieee.{Float, nan, inf, fin, up, down, lt, le, eq}
 use lib.Ieee.Fits.{down-pos}
 use lib.Ieee.Scale.{finite}
+use Rattle.ieee.specs.Constants.{plusZero}
 use Rattle.picks.specs.Pick.{pick}
 use Rattle.ieee.proofs.FloatOrder.{lt-or-le, lt-le, lt-not-le, le-sizes}
 use Rattle.limits.specs.declared.Kind.the-variants.{RawBeat, RawTempo}
-use Rattle.limits.specs.Numbers.{rangeOf, inRange, sizeOf, nothing, every}
+use Rattle.limits.specs.Numbers.{rangeOf, inRange, sizeOf, every}
 use Rattle.limits.proofs.ListTaken.{list-passes}
 use Rattle.limits.proofs.Every.{every-rest, every-more}
 use Rattle.order.specs.Entries.{entries}
 use Rattle.columns.specs.Kept.{kept}
-use Rattle.process_ssc.specs.Ssc.{zero, staysSsc, stayed}
+use Rattle.process_ssc.specs.Ssc.{staysSsc, stayed}
 use Rattle.process_ssc.specs.Tests.{beatStays, valueStays}
 use Rattle.process_raw.specs.RawLists.{Whole}
 
@@ -53,37 +54,37 @@ finite-value (fin s m e) h = refl
 abbrev least : Float
 least = fin false 1 (negsuc 19)
 
-beat-ends : (b : Float) → beatStays b ≡ true → (le zero b ≡ true) × (le b (fin false 1 (pos 16)) ≡ true)
+beat-ends : (b : Float) → beatStays b ≡ true → (le plusZero b ≡ true) × (le b (fin false 1 (pos 16)) ≡ true)
 unfolding beatStays
-beat-ends b h = both (le zero b) (le b (fin false 1 (pos 16))) h
+beat-ends b h = both (le plusZero b) (le b (fin false 1 (pos 16))) h
 
 value-ends : (v : Float) → valueStays v ≡ true → (le least v ≡ true) × (le v (fin false 1 (pos 30)) ≡ true)
 unfolding valueStays
 value-ends v h = both (le least v) (le v (fin false 1 (pos 30))) h
 
-not-below : (x : Float) → T (finite x) → le zero x ≡ true → lt x zero ≡ false
-not-below x f h = go (lt x zero) refl
+not-below : (x : Float) → T (finite x) → le plusZero x ≡ true → lt x plusZero ≡ false
+not-below x f h = go (lt x plusZero) refl
   where
-    go : (t : Bool) → lt x zero ≡ t → lt x zero ≡ false
-    go true q = absurd (lt-not-le x zero f tt (subst T (sym q) tt) (subst T (sym h) tt))
+    go : (t : Bool) → lt x plusZero ≡ t → lt x plusZero ≡ false
+    go true q = absurd (lt-not-le x plusZero f tt (subst T (sym q) tt) (subst T (sym h) tt))
     go false q = q
 
 -- neither 0 nor below it
-above : (v : Float) → T (finite v) → le least v ≡ true → lt zero v ≡ true
+above : (v : Float) → T (finite v) → le least v ≡ true → lt plusZero v ≡ true
 above nan f h = absurd f
 above (inf s) f h = absurd f
-above (fin s m e) f h = go s (lt zero (fin s m e)) refl (subst T (sym h) tt)
+above (fin s m e) f h = go s (lt plusZero (fin s m e)) refl (subst T (sym h) tt)
   where
-    go : (s t : Bool) → lt zero (fin s m e) ≡ t → T (le least (fin s m e)) → t ≡ true
+    go : (s t : Bool) → lt plusZero (fin s m e) ≡ t → T (le least (fin s m e)) → t ≡ true
     go s true q l = refl
-    go s false q l = absurd (elim (lt-or-le zero (fin s m e) tt tt) [ inl k ↦ no (sym q ∙ yes (lt zero (fin s m e)) k) | inr k ↦ none s k l ])
+    go s false q l = absurd (elim (lt-or-le plusZero (fin s m e) tt tt) [ inl k ↦ no (sym q ∙ yes (lt plusZero (fin s m e)) k) | inr k ↦ none s k l ])
       where
-        none : (s : Bool) → T (le (fin s m e) zero) → T (le least (fin s m e)) → ⊥
+        none : (s : Bool) → T (le (fin s m e) plusZero) → T (le least (fin s m e)) → ⊥
         none true k l = let D = down-pos e in let sizes = le-sizes least (fin true m e) false true 1 (2 ^ 20) (m * up e) (down e) (refl, refl) (refl, refl) l in omega (arith, sizes .0)
         none false k l =
             let D = down-pos e in
             let low : 1 * down e ≤ m * up e * 2 ^ 20 = le-sizes least (fin false m e) false false 1 (2 ^ 20) (m * up e) (down e) (refl, refl) (refl, refl) l in
-            let high : m * up e * 1 ≤ 0 * down e = le-sizes (fin false m e) zero false false (m * up e) (down e) 0 1 (refl, refl) (refl, refl) k in
+            let high : m * up e * 1 ≤ 0 * down e = le-sizes (fin false m e) plusZero false false (m * up e) (down e) 0 1 (refl, refl) (refl, refl) k in
             omega arith
 
 entry-stays : (b v : Float) → beatStays b ≡ true → valueStays v ≡ true → staysSsc (b, v) ≡ true
@@ -105,8 +106,8 @@ beat-taken : (b : Float) → beatStays b ≡ true → inRange (rangeOf RawBeat) 
 unfolding inRange
 beat-taken b h = let ends = beat-ends b h in rw (not-below b (subst T (sym (finite-beat b h)) tt) (ends .0), ends .1, ends .0)
 
-from-zero : (v : Float) → lt zero v ≡ true → le zero v ≡ true
-from-zero v h = yes (le zero v) (lt-le zero v (subst T (sym h) tt))
+from-zero : (v : Float) → lt plusZero v ≡ true → le plusZero v ≡ true
+from-zero v h = yes (le plusZero v) (lt-le plusZero v (subst T (sym h) tt))
 
 value-taken : (v : Float) → valueStays v ≡ true → inRange (rangeOf RawTempo) v ≡ true
 unfolding inRange

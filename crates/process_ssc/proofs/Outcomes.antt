@@ -5,13 +5,14 @@ use mathlib.Core.List.{List, map}
 use native.Mathlib.Omega.{arith}
 use lib.ListN.{length}
 use lib.Ieee.{Float}
+use Rattle.ieee.specs.Constants.{plusZero}
 use Rattle.order.specs.Order.{laid}
 use Rattle.order.specs.Entries.{first, second}
 use Rattle.columns.specs.declared.Outcome.{Outcome}
 use Rattle.columns.specs.Laying.{roomNumber, LaidPair}
 use Rattle.columns.proofs.Rooms.{number-of-tests, number-no-room, number-taken, list-refused, list-laid, list-of-pair, pair-fits, pair-short, pair-untouched}
 use Rattle.process_raw.specs.RawLists.{rawNumbers, roomFor, processedNothing}
-use Rattle.process_ssc.specs.Ssc.{zero, stayed, sscTempos, SscProcessed}
+use Rattle.process_ssc.specs.Ssc.{stayed, sscTempos, SscProcessed}
 
 module _ {tempoBeats tempoValues stopBeats stopValues tempoBeatsOld tempoValuesOld stopBeatsOld stopValuesOld : List Float} where
   refused : {number : ℕ} → (number ≡ 0 → ⊥)
@@ -41,7 +42,7 @@ module _ {tempoBeats tempoValues stopBeats stopValues tempoBeatsOld tempoValuesO
 
       pub taken : (count : ℕ) {stopBeatsNew stopValuesNew : List Float} → outcome .number ≡ 0 → count ≡ length (stayed stopBeats stopValues)
           → stopBeatsNew ≡ laid (map first (stayed stopBeats stopValues)) stopBeatsOld → stopValuesNew ≡ laid (map second (stayed stopBeats stopValues)) stopValuesOld
-          → SscProcessed tempoBeats tempoValues stopBeats stopValues (record { number = 0; tempos = outcome .count; stops = count; warps = 0; offset = zero }) tempoBeatsOld tempoBeatsNew tempoValuesOld tempoValuesNew stopBeatsOld stopBeatsNew stopValuesOld stopValuesNew
+          → SscProcessed tempoBeats tempoValues stopBeats stopValues (record { number = 0; tempos = outcome .count; stops = count; warps = 0; offset = plusZero }) tempoBeatsOld tempoBeatsNew tempoValuesOld tempoValuesNew stopBeatsOld stopBeatsNew stopValuesOld stopValuesNew
       taken count h c a b = record {
         number = number-taken _ _ _ (sym (number-taken _ _ _ passed fits)) (pair-fits laid-tempos h);
         tempos = list-of-pair laid-tempos h;

@@ -3,10 +3,10 @@ use Prim.Native.Nat.{ℕ}
 use mathlib.Core.Bool.{Bool, false}
 use mathlib.Core.List.{List, map}
 use mathlib.Core.Path.{_≡_}
-use lib.IntN.{pos}
 use lib.ListN.{length}
-use lib.Ieee.{Float, fin, lt, le}
+use lib.Ieee.{Float, lt, le}
 use lib.Ieee.Scale.{finite}
+use Rattle.ieee.specs.Constants.{plusZero}
 use Rattle.picks.specs.Pick.{pick}
 use Rattle.rows.specs.Rows.{quantized}
 use Rattle.order.specs.Entries.{entries, first, second}
@@ -16,12 +16,9 @@ use Rattle.tidy_tempos.specs.TempoTidying.{tidyTempos}
 use Rattle.process_raw.specs.declared.Processed.{Processed}
 use Rattle.process_raw.specs.RawLists.{rawNumbers, roomFor}
 
-abbrev pub zero : Float
-zero = fin false 0 (pos 0)
-
 -- two finite numbers, the beat not below 0 and the value above it
 unfoldable pub staysSsc : Float × Float → Bool
-staysSsc e = pick (finite (e .0)) (pick (finite (e .1)) (pick (le zero (e .0)) (lt zero (e .1)) false) false) false
+staysSsc e = pick (finite (e .0)) (pick (finite (e .1)) (pick (le plusZero (e .0)) (lt plusZero (e .1)) false) false) false
 
 -- the beat on its row
 abbrev pub onRow : Float × Float → Float × Float
@@ -46,4 +43,4 @@ pub record SscProcessed (tempoBeats tempoValues stopBeats stopValues : List Floa
   pub tempos : LaidList (outcome .number) (sscTempos tempoBeats tempoValues) (outcome .tempos) tempoBeatsOld tempoBeatsNew tempoValuesOld tempoValuesNew
   pub stops : LaidList (outcome .number) (stayed stopBeats stopValues) (outcome .stops) stopBeatsOld stopBeatsNew stopValuesOld stopValuesNew
   pub warps : outcome .warps ≡ 0
-  pub offset : outcome .offset ≡ zero
+  pub offset : outcome .offset ≡ plusZero

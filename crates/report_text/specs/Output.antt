@@ -4,8 +4,8 @@ use mathlib.Core.List.{List, [], _∷_, _++_}
 use lib.Dec.{ltb}
 use lib.IntN.{ℤ, pos, negsuc}
 use lib.Ieee.{Float, toBits, binary32, binary64, lt}
+use Rattle.ieee.specs.Constants.{plusZero}
 use Rattle.picks.specs.Pick.{pick}
-use Rattle.limits.specs.Numbers.{nothing}
 use Rattle.rows.specs.Rows.{row}
 use Rattle.ieee_patterns.specs.Hex.{hexText}
 use Rattle.report_form.specs.Text.{Pair, bpm, stop, delay, warp, scroll, fake, pairWord, speedWord}
@@ -63,7 +63,7 @@ size (pos n) = n
 size (negsuc n) = 0
 
 unfoldable pub lengthRows : Float → ℕ
-lengthRows length = pick (lt nothing length) (size (row binary64 length)) 0
+lengthRows length = pick (lt plusZero length) (size (row binary64 length)) 0
 
 unfoldable pub warpedRows : List Float → ℕ
 warpedRows [] = 0

@@ -10,8 +10,8 @@ use lib.Dec.{ltb, eqb}
 use lib.ListN.{length, getD, take, replicate, length-replicate, length-map, getD-replicate}
 use lib.Seq.{take-at, ext-getD}
 use lib.Ieee.{Float, ofBits, binary64}
+use Rattle.ieee.specs.Constants.{plusZero}
 use Rattle.picks.specs.Pick.{pick}
-use Rattle.limits.specs.Numbers.{nothing}
 use Rattle.order.specs.Order.{laid}
 use Rattle.columns.specs.Each.{laidEach}
 use Rattle.columns.proofs.EachOverFront.{each-over-front}
@@ -160,7 +160,7 @@ module _ (ssc : Bool) (entries : List Entry) (o : Orderly 1 entries) where
       record { tempos = t .0; stops = s .0; delays = d .0; warps = w .0; speeds = v .0; scrolls = c .0; fakes = f .0 }
 
   floats : (list part : ℕ) → 2 ≤ list → list < 9 → 1 ≤ part → part ≤ widthOf list → entriesOf list entries ≤ 256 → take (countOf (countsRead input) list) (numbersRead list part input) ≡ floatsOf list part entries
-  floats list part low high first last few = column (ofBits binary64) list part nothing low high first last few
+  floats list part low high first last few = column (ofBits binary64) list part plusZero low high first last few
 
   taken : Few
       → takenText (formatRead (after start input .ssc))

@@ -5,8 +5,8 @@ use mathlib.Core.List.{List}
 use lib.Dec.{eqb}
 use lib.ListN.{length, getD, take, replicate}
 use lib.Ieee.{Float}
+use Rattle.ieee.specs.Constants.{plusZero}
 use Rattle.picks.specs.Pick.{pick}
-use Rattle.limits.specs.Numbers.{nothing}
 use Rattle.chart.specs.declared.TimingFormat.{TimingFormat}
 use Rattle.chart.specs.declared.TimingFormat.the-variants.{Sm, Ssc}
 use Rattle.report_form.specs.declared.Reading.{Reading}
@@ -39,7 +39,7 @@ reportText reading counts tempoBeats tempoValues stopBeats stopValues delayBeats
 
 -- ---- of an input's bytes, which are read into columns of 256 zeros
 abbrev pub numbersRead : ℕ → ℕ → List ℕ → List Float
-numbersRead list part input = columnAfter (numberIn list part) start input (replicate 256 nothing)
+numbersRead list part input = columnAfter (numberIn list part) start input (replicate 256 plusZero)
 
 abbrev pub unitsRead : List ℕ → List ℕ
 unitsRead input = columnAfter (unitIn 6 4) start input (replicate 256 0)

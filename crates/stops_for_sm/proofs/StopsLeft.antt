@@ -9,9 +9,10 @@ use lib.Dec.{ltb}
 use lib.ListN.{length, take, drop, getD, length-append}
 use lib.Seq.{drop-drop, length-take-le}
 use lib.Ieee.{Float, nan, binary32, add}
+use Rattle.ieee.specs.Constants.{plusZero}
 use Rattle.order.specs.Order.{laid}
 use Rattle.order.proofs.LaidOverFront.{Laying}
-use Rattle.stops_for_sm.specs.Merging.{Sources, Heads, none, lesser, leastBeat, meets, turn, isOver, left, written, mergedWithin, merged}
+use Rattle.stops_for_sm.specs.Merging.{Sources, Heads, lesser, leastBeat, meets, turn, isOver, left, written, mergedWithin, merged}
 use Rattle.stops_for_sm.specs.InHand.{alone, atStop}
 use Rattle.stops_for_sm.specs.Plain.{Numbers, Plain}
 
@@ -35,7 +36,7 @@ module _ (stops : List Float) (place : ℕ) where
   unfolding isOver
   alone-over h = rw (le-ltb place (length stops) h)
 
-  pub alone-turn : Numbers stops → place < length stops → record { heads = atStop (place + 2); beat = getD stops place nan; value = add binary32 none (getD stops (place + 1) nan) } ≡ turn (alone stops) (atStop place)
+  pub alone-turn : Numbers stops → place < length stops → record { heads = atStop (place + 2); beat = getD stops place nan; value = add binary32 plusZero (getD stops (place + 1) nan) } ≡ turn (alone stops) (atStop place)
   unfolding turn leastBeat lesser meets
   alone-turn n h = rw (lt-ltb place (length stops) h, n .below place h, n .same place h)
 

@@ -6,9 +6,10 @@ use mathlib.Core.Path.{_≡_, refl, ap, _∙_, subst}
 use native.Mathlib.Omega.{arith}
 use lib.ListN.{length, drop, getD, set, length-append, length-drop}
 use lib.Ieee.{Float, nan, inf, le, ne}
+use Rattle.ieee.specs.Constants.{plusZero}
 use Rattle.picks.specs.Pick.{pick}
 use Rattle.order.proofs.LaidOverFront.{Laying, laying-more, laying-room}
-use Rattle.stops_for_sm.specs.Merging.{Sources, Heads, Turned, none, lesser, leastBeat, meets, plus, less, onward, leading, forward, tempoPlace, beatHere, stopMet, delayMet, warpMet, turn, isOver, left, written, mergedWithin, merged, atFirst}
+use Rattle.stops_for_sm.specs.Merging.{Sources, Heads, Turned, lesser, leastBeat, meets, plus, less, onward, leading, forward, tempoPlace, beatHere, stopMet, delayMet, warpMet, turn, isOver, left, written, mergedWithin, merged, atFirst}
 use Rattle.stops_for_sm.specs.Filling.{flat}
 use Rattle.stops_for_sm.specs.Plain.{Plain}
 use Rattle.stops_for_sm.proofs.EveryTurnMeets.{here, merged-on}
@@ -68,7 +69,7 @@ module _ (s : Sources) (h : Heads) (plain : Plain s) (more : isOver s h ≡ fals
 module _ (s : Sources) (h : Heads) (beat : Float) (least : beat ≡ lesser (lesser (lesser (inf false) (s .stops) (h .stop)) (s .delayBeats) (h .delay)) (s .warpBeats) (h .warp)) where
   pub list-by-list : (stop delay tempo warp : ℕ) (stopped delayed value : Float)
       → stop ≡ onward (meets (s .stops) (h .stop) beat) (h .stop) 2
-      → stopped ≡ plus (meets (s .stops) (h .stop) beat) none (getD (s .stops) (h .stop + 1) nan)
+      → stopped ≡ plus (meets (s .stops) (h .stop) beat) plusZero (getD (s .stops) (h .stop + 1) nan)
       → delay ≡ onward (meets (s .delayBeats) (h .delay) beat) (h .delay) 1
       → delayed ≡ plus (meets (s .delayBeats) (h .delay) beat) stopped (getD (s .delayValues) (h .delay) nan)
       → tempo ≡ tempoPlace (meets (s .warpBeats) (h .warp) beat) (s .tempoBeats) (h .tempo) beat
@@ -79,9 +80,9 @@ module _ (s : Sources) (h : Heads) (beat : Float) (least : beat ≡ lesser (less
   list-by-list stop delay tempo warp stopped delayed value a b c d e f g = rw (g, f, e, d, c, b, a, least)
 
 -- ---- counting
-written-count : (t : Turned) → pick (ne (t .value) none) 1 0 ≡ length (written t)
+written-count : (t : Turned) → pick (ne (t .value) plusZero) 1 0 ≡ length (written t)
 unfolding written
-written-count t = go (ne (t .value) none)
+written-count t = go (ne (t .value) plusZero)
   where
     go : (x : Bool) → pick x 1 0 ≡ length {A = Float × Float} (pick x ((t .beat, t .value) ∷ []) [])
     go true = refl
@@ -93,7 +94,7 @@ unfolding mergedWithin
 within-left zero b s h = omega arith
 within-left (suc f) true s h = omega arith
 within-left (suc f) false s h =
-    omega (arith, length-append (written (turn s h)) (mergedWithin f (isOver s (turn s h .heads)) s (turn s h .heads)), within-left f (isOver s (turn s h .heads)) s (turn s h .heads), one-at-most (ne (turn s h .value) none), written-count (turn s h))
+    omega (arith, length-append (written (turn s h)) (mergedWithin f (isOver s (turn s h .heads)) s (turn s h .heads)), within-left f (isOver s (turn s h .heads)) s (turn s h .heads), one-at-most (ne (turn s h .value) plusZero), written-count (turn s h))
   where
     one-at-most : (x : Bool) → pick x 1 0 ≤ 1
     one-at-most true = omega arith
@@ -109,29 +110,29 @@ unfolding flat
 flat-length [] = refl
 flat-length (e ∷ l) = omega (arith, flat-length l)
 
-flat-written : (t : Turned) (rest : List (Float × Float)) (x : Bool) → ne (t .value) none ≡ x → flat (written t ++ rest) ≡ pick x (t .beat ∷ t .value ∷ flat rest) (flat rest)
+flat-written : (t : Turned) (rest : List (Float × Float)) (x : Bool) → ne (t .value) plusZero ≡ x → flat (written t ++ rest) ≡ pick x (t .beat ∷ t .value ∷ flat rest) (flat rest)
 unfolding flat written
 flat-written t rest true e = rw e
 flat-written t rest false e = rw e
 
 module _ (s : Sources) (h : Heads) (plain : Plain s) (new old out : List Float) (at : ℕ) (laying : Laying new old out (flat (merged s h)) at) (few : length new ≤ length old) where
   module _ (more : isOver s h ≡ false) (t : Turned) (is : t ≡ turn s h) where
-    next : (x : Bool) → ne (t .value) none ≡ x → flat (merged s h) ≡ pick x (t .beat ∷ t .value ∷ flat (merged s (t .heads))) (flat (merged s (t .heads)))
+    next : (x : Bool) → ne (t .value) plusZero ≡ x → flat (merged s h) ≡ pick x (t .beat ∷ t .value ∷ flat (merged s (t .heads))) (flat (merged s (t .heads)))
     next x e = rw is (ap flat (merged-on s plain h more) ∙ flat-written (turn s h) (merged s (turn s h .heads)) x (rw is at e))
 
     -- room for a sum that is written
-    pub sum-room : ne (t .value) none ≡ true → at + 2 ≤ length out
+    pub sum-room : ne (t .value) plusZero ≡ true → at + 2 ≤ length out
     sum-room e =
         let first = laying-room new old out (flat (merged s h)) at laying (t .beat) (t .value ∷ flat (merged s (t .heads))) (next true e) few in
         let one = laying-more new old out (flat (merged s h)) at laying (t .beat) (t .value ∷ flat (merged s (t .heads))) (next true e) first in
         let second = laying-room new old (set out at (t .beat)) (t .value ∷ flat (merged s (t .heads))) (at + 1) one (t .value) (flat (merged s (t .heads))) refl few in
         omega (arith, second, one .size, laying .size)
 
-    pub laid-turn : (at′ : ℕ) (out′ : List Float) → at′ ≡ pick (ne (t .value) none) (at + 2) at → out′ ≡ pick (ne (t .value) none) (set (set out at (t .beat)) (at + 1) (t .value)) out
+    pub laid-turn : (at′ : ℕ) (out′ : List Float) → at′ ≡ pick (ne (t .value) plusZero) (at + 2) at → out′ ≡ pick (ne (t .value) plusZero) (set (set out at (t .beat)) (at + 1) (t .value)) out
         → Laying new old out′ (flat (merged s (t .heads))) at′
-    laid-turn at′ out′ p q = rw (p, q) (go (ne (t .value) none) refl)
+    laid-turn at′ out′ p q = rw (p, q) (go (ne (t .value) plusZero) refl)
       where
-        go : (x : Bool) → ne (t .value) none ≡ x → Laying new old (pick x (set (set out at (t .beat)) (at + 1) (t .value)) out) (flat (merged s (t .heads))) (pick x (at + 2) at)
+        go : (x : Bool) → ne (t .value) plusZero ≡ x → Laying new old (pick x (set (set out at (t .beat)) (at + 1) (t .value)) out) (flat (merged s (t .heads))) (pick x (at + 2) at)
         go true e =
             let first = laying-room new old out (flat (merged s h)) at laying (t .beat) (t .value ∷ flat (merged s (t .heads))) (next true e) few in
             let one = laying-more new old out (flat (merged s h)) at laying (t .beat) (t .value ∷ flat (merged s (t .heads))) (next true e) first in

@@ -5,8 +5,9 @@ use mathlib.Core.Bool.{false}
 use lib.Dec.{ltb}
 use lib.ListN.{length, getD}
 use lib.Ieee.{Float, nan, inf, binary32, div}
+use Rattle.ieee.specs.Constants.{sixty}
 use Rattle.picks.specs.Pick.{pick}
-use Rattle.stops_for_sm.specs.Merging.{Sources, Heads, sources, sixty}
+use Rattle.stops_for_sm.specs.Merging.{Sources, Heads, sources}
 
 -- the beat of a list's head, and infinity where none is left
 unfoldable pub headAt : List Float → ℕ → Float

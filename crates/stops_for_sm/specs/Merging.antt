@@ -4,15 +4,9 @@ use mathlib.Core.List.{List, [], _∷_, _++_}
 use mathlib.Core.Bool.{Bool, true, false}
 use lib.ListN.{length, getD, drop}
 use lib.Dec.{ltb}
-use lib.IntN.{pos}
-use lib.Ieee.{Float, nan, inf, fin, binary32, add, sub, mul, div, lt, le, eq, ne}
+use lib.Ieee.{Float, nan, inf, binary32, add, sub, mul, div, lt, le, eq, ne}
+use Rattle.ieee.specs.Constants.{plusZero, sixty}
 use Rattle.picks.specs.Pick.{pick}
-
-abbrev pub none : Float
-none = fin false 0 (pos 0)
-
-abbrev pub sixty : Float
-sixty = fin false 15 (pos 2)
 
 -- the lists; stops are flat, a beat and then its value
 pub record Sources : Type 0 where
@@ -103,7 +97,7 @@ module _ (s : Sources) (h : Heads) where
   tempoHere = tempoPlace warpMet (s .tempoBeats) (h .tempo) beatHere
 
   abbrev pub pauses : Float
-  pauses = plus delayMet (plus stopMet none (getD (s .stops) (h .stop + 1) nan)) (getD (s .delayValues) (h .delay) nan)
+  pauses = plus delayMet (plus stopMet plusZero (getD (s .stops) (h .stop + 1) nan)) (getD (s .delayValues) (h .delay) nan)
 
   unfoldable pub turn : Turned
   turn = record {
@@ -127,7 +121,7 @@ module _ (s : Sources) (h : Heads) where
 
 -- a sum of zero is dropped
 unfoldable pub written : Turned → List (Float × Float)
-written turned = pick (ne (turned .value) none) ((turned .beat, turned .value) ∷ []) []
+written turned = pick (ne (turned .value) plusZero) ((turned .beat, turned .value) ∷ []) []
 
 -- with so many turns at most; the flag says whether it is over
 unfoldable pub mergedWithin : ℕ → Bool → Sources → Heads → List (Float × Float)

@@ -7,10 +7,11 @@ ghost use lib.Dec.{ltb, leb, eqb};
 ghost use lib.ListN.{length, take, getD, set};
 ghost use mathlib.Core.List.{_++_};
 ghost use lib.Ieee.{nan, inf, ne, lt};
+ghost use Rattle.ieee.specs.Constants.{plusZero};
 ghost use Rattle.picks.specs.Pick.{pick};
 ghost use Rattle.limits.specs.Numbers.{rangeOf};
 ghost use Rattle.order.specs.Order.{laid};
-ghost use Rattle.stops_for_sm.specs.Merging.{sources, none, meets, plus, forward, tempoPlace, less, onward, merged, atFirst};
+ghost use Rattle.stops_for_sm.specs.Merging.{sources, meets, plus, forward, tempoPlace, less, onward, merged, atFirst};
 ghost use Rattle.stops_for_sm.specs.InHand.{headAt, secondsAt, alone, atStop};
 ghost use Rattle.stops_for_sm.specs.Plain.{Numbers, Plain};
 ghost use Rattle.stops_for_sm.specs.Filling.{beatsIn, valuesIn, isEven, flatNumber, flat, listsNumber, StopsFilled, chosen};
@@ -74,7 +75,7 @@ struct Passed {
 fn pass_stop(stops: &[f32], place: usize, head: f32, beat: f32) -> Passed
     requires { ⌜ (place < 2 ^ 63) × (place % 2 ≡ 0) × (length (now stops) % 2 ≡ 0) ⌝ }
     requires { ⌜ (head ≡ headAt (now stops) place) × (lt beat (inf false) ≡ true) ⌝ }
-    ensures { λ r. ⌜ (r .place ≡ onward (meets (now (stops .entry)) place beat) place 2) × (r .sum ≡ plus (meets (now (stops .entry)) place beat) none (getD (now (stops .entry)) (place + 1) nan)) × (r .head ≡ headAt (now (stops .entry)) (r .place)) ⌝ }
+    ensures { λ r. ⌜ (r .place ≡ onward (meets (now (stops .entry)) place beat) place 2) × (r .sum ≡ plus (meets (now (stops .entry)) place beat) plusZero (getD (now (stops .entry)) (place + 1) nan)) × (r .head ≡ headAt (now (stops .entry)) (r .place)) ⌝ }
 {
     if head == beat {
         return Passed {
@@ -220,10 +221,10 @@ fn pass_warp(
 
 // A sum that is not zero, behind those that are laid; the place behind it.
 fn lay_sum(work: &mut [f32], at: usize, beat: f32, value: f32) -> usize
-    requires { ⌜ (ne value none ≡ true → at + 2 ≤ length (now work)) ⌝ }
+    requires { ⌜ (ne value plusZero ≡ true → at + 2 ≤ length (now work)) ⌝ }
     requires { ⌜ at < 2 ^ 63 ⌝ }
-    ensures { λ r. ⌜ r ≡ pick (ne value none) (at + 2) at ⌝ }
-    ensures { λ _. ⌜ now (work .exit) ≡ pick (ne value none) (set (set (now (work .entry)) at beat) (at + 1) value) (now (work .entry)) ⌝ }
+    ensures { λ r. ⌜ r ≡ pick (ne value plusZero) (at + 2) at ⌝ }
+    ensures { λ _. ⌜ now (work .exit) ≡ pick (ne value plusZero) (set (set (now (work .entry)) at beat) (at + 1) value) (now (work .entry)) ⌝ }
 {
     if value != 0.0 {
         work[at] = beat;

@@ -1,8 +1,8 @@
 -- What the pass over entries in order holds, and what it writes. Definitions only.
 use mathlib.Core.Bool.{false}
 use mathlib.Core.List.{List, map}
-use lib.IntN.{pos}
-use lib.Ieee.{Float, fin, nan}
+use lib.Ieee.{Float, nan}
+use Rattle.ieee.specs.Constants.{plusZero}
 use Rattle.tidy_rows.specs.RowTidying.{rowKeyAt, onItsRow}
 use Rattle.tidy_kept.specs.Near.{nearTo}
 use Rattle.tidy_kept.specs.Passing.{Waiting, written}
@@ -13,7 +13,7 @@ waiting s = record { before = s .before; waits = s .waits; row = s .row; beat = 
 
 -- before the first entry: no value is near a NaN
 abbrev pub unheld : Waiting Float Float
-unheld = record { before = nan; waits = false; row = 0; beat = fin false 0 (pos 0); value = fin false 0 (pos 0) }
+unheld = record { before = nan; waits = false; row = 0; beat = plusZero; value = plusZero }
 
 -- what the pass writes from a state on
 abbrev pub writtenFrom : Waiting Float Float → List (Float × Float) → List (Float × Float)

@@ -2,8 +2,8 @@
 use Prim.Native.Nat.{ℕ}
 use mathlib.Core.Bool.{false}
 use mathlib.Core.List.{List, map}
-use lib.IntN.{pos}
-use lib.Ieee.{Float, fin}
+use lib.Ieee.{Float}
+use Rattle.ieee.specs.Constants.{plusZero}
 use Rattle.tidy_rows.specs.RowTidying.{rowKeyAt}
 use Rattle.tidy_kept.specs.Passing.{Waiting, written}
 use Rattle.columns.specs.declared.Outcome.{Outcome}
@@ -16,7 +16,7 @@ waiting s = record { before = valueOf (s .before); waits = s .waits; row = s .ro
 
 -- before the first entry
 abbrev pub unheld : Waiting Float SpeedValue
-unheld = record { before = noSpeed; waits = false; row = 0; beat = fin false 0 (pos 0); value = noSpeed }
+unheld = record { before = noSpeed; waits = false; row = 0; beat = plusZero; value = noSpeed }
 
 -- what is written, as it was given
 abbrev pub keptSpeeds : List SpeedEntry → List SpeedEntry

@@ -6,10 +6,11 @@ use mathlib.Core.List.{List, [], _∷_, map}
 use native.Mathlib.Omega.{arith}
 use lib.ListN.{length, set}
 use lib.Ieee.{Float, nan, inf, fin, eq, ne}
+use Rattle.ieee.specs.Constants.{plusZero}
 use Rattle.picks.specs.Pick.{pick}
 use Rattle.order.specs.Order.{laid}
 use Rattle.order.specs.Entries.{first, second}
-use Rattle.tidy_tempos.specs.TempoTidying.{beatZero, fromZero}
+use Rattle.tidy_tempos.specs.TempoTidying.{fromZero}
 use Rattle.tidy_tempos.specs.Keeping.{isLast, keptAfter}
 
 pub from-zero-length : (list : List (Float × Float)) → length (fromZero list) ≡ length list
@@ -22,7 +23,7 @@ unfolding fromZero
 from-zero-second [] = refl
 from-zero-second (e ∷ list) = refl
 
-pub from-zero-first : (list : List (Float × Float)) (old : List Float) → 0 < length list → set (laid (map first list) old) 0 beatZero ≡ laid (map first (fromZero list)) old
+pub from-zero-first : (list : List (Float × Float)) (old : List Float) → 0 < length list → set (laid (map first list) old) 0 plusZero ≡ laid (map first (fromZero list)) old
 unfolding fromZero laid
 from-zero-first [] old h = absurd (omega arith)
 from-zero-first (e ∷ list) old h = refl

@@ -2,8 +2,8 @@
 use Prim.Native.Nat.{ℕ}
 use mathlib.Core.Bool.{false}
 use mathlib.Core.List.{List, [], _∷_}
-use lib.IntN.{pos}
-use lib.Ieee.{Float, fin, binary64, eq}
+use lib.Ieee.{Float, binary64, eq}
+use Rattle.ieee.specs.Constants.{plusZero, sixty}
 use Rattle.picks.specs.Pick.{pick}
 use Rattle.order.specs.Order.{tidied}
 use Rattle.order.specs.Entries.{entries}
@@ -13,21 +13,14 @@ use Rattle.order.specs.FloatKey.{floatKey}
 abbrev pub beatKeyOf : Float × Float → ℕ
 beatKeyOf e = floatKey binary64 (e .0)
 
-abbrev pub beatZero : Float
-beatZero = fin false 0 (pos 0)
-
--- 60, the tempo where there is none
-abbrev pub sixty : Float
-sixty = fin false 15 (pos 2)
-
 -- a list without a tempo counts as this one
 abbrev pub noTempo : List (Float × Float)
-noTempo = (beatZero, sixty) ∷ []
+noTempo = (plusZero, sixty) ∷ []
 
 -- the first entry moved to beat 0
 unfoldable pub fromZero : List (Float × Float) → List (Float × Float)
 fromZero [] = []
-fromZero (e ∷ l) = (beatZero, e .1) ∷ l
+fromZero (e ∷ l) = (plusZero, e .1) ∷ l
 
 -- without each entry whose value equals that of the last kept one
 unfoldable pub changesAfter : Float → List (Float × Float) → List (Float × Float)

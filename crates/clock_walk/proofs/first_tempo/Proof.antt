@@ -1,7 +1,7 @@
 -- `clock_walk::first_tempo` meets its contract. Assumes nothing.
-use Rattle.clock_walk.specs.Passing.{sixty}
 use mathlib.Core.Path.{_∙_}
 use lib.Ieee.{ofBits}
+use Rattle.ieee.specs.Constants.{sixty}
 use Rattle.clock_walk.proofs.LastUpTo.{first-none, first-some}
 use borrow.Author.Needs.{needs}
 use Rattle.clock_walk.proofs.first_tempo.Statement.{statement}

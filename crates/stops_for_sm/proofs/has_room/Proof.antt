@@ -1,7 +1,8 @@
 -- `stops_for_sm::has_room` lays the sums elsewhere, where it must, and counts them. Assumes nothing.
+use Rattle.ieee.specs.Constants.{plusZero}
 use Rattle.stops_for_sm.proofs.TurnByTurn.{at-most-left, flat-length}
 use Rattle.stops_for_sm.specs.Filling.{flat}
-use Rattle.stops_for_sm.specs.Merging.{Sources, sources, merged, atFirst, none}
+use Rattle.stops_for_sm.specs.Merging.{Sources, sources, merged, atFirst}
 use lib.Dec.{leb}
 use Prim.Native.Nat.{ℕ, _/_}
 use lib.ListN.{length, replicate, length-replicate}
@@ -34,7 +35,7 @@ lay-stops-requires : tie.Need-lay-stops-requires
 lay-stops-requires c κs =
     let a = c .before .before .before .before .before .before .before .before .before .args in
     let s : Sources = sources (a .tempo-beats .now) (a .tempo-values .now) (a .stops .now) (a .delay-beats .now) (a .delay-values .now) (a .warp-beats .now) (a .warp-lengths .now) in
-    (c .before .before .before .before .before .before .before .before .before .pre .0, omega (arith, at-most-left s atFirst, flat-length (merged s atFirst), c .before .before .before .before .before .before .before .before .before .pre .1 .0, c .before .before .before .before .before .before .before .before .before .pre .1 .1, c .before .before .before .before .before .before .before .before .before .pre .1 .2, length-replicate 6144 none))
+    (c .before .before .before .before .before .before .before .before .before .pre .0, omega (arith, at-most-left s atFirst, flat-length (merged s atFirst), c .before .before .before .before .before .before .before .before .before .pre .1 .0, c .before .before .before .before .before .before .before .before .before .pre .1 .1, c .before .before .before .before .before .before .before .before .before .pre .1 .2, length-replicate 6144 plusZero))
 
 returns-2 : tie.Need-returns-2
 returns-2 c =

@@ -6,8 +6,9 @@ use native.Mathlib.Omega.{arith}
 use lib.ListN.{length, take, getD, length-append}
 use lib.Seq.{length-take-le}
 use lib.Ieee.{nan, binary32, add, ofBits}
+use Rattle.ieee.specs.Constants.{plusZero}
 use Rattle.order.proofs.LaidOverFront.{Laying, laying-count, laying-all}
-use Rattle.stops_for_sm.specs.Merging.{Turned, none, turn, merged}
+use Rattle.stops_for_sm.specs.Merging.{Turned, turn, merged}
 use Rattle.stops_for_sm.specs.Filling.{flat}
 use Rattle.stops_for_sm.specs.InHand.{alone, atStop}
 use Rattle.stops_for_sm.specs.Plain.{Plain}
@@ -40,7 +41,7 @@ abbrev made : tie.In-loop Inv-loop μ-loop → Turned
 made c =
     let stops = c .before .before .before .before .args .stops .now in
     let stop = c .before .loop .stop in
-    record { heads = atStop (stop + 2); beat = getD stops stop nan; value = add binary32 none (getD stops (stop + 1) nan) }
+    record { heads = atStop (stop + 2); beat = getD stops stop nan; value = add binary32 plusZero (getD stops (stop + 1) nan) }
 
 is : (c : tie.In-loop Inv-loop μ-loop) → made c ≡ turn (alone (c .before .before .before .before .args .stops .now)) (atStop (c .before .loop .stop))
 is c = alone-turn (c .before .before .before .before .args .stops .now) (c .before .loop .stop) (c .before .before .before .before .pre .0 .0) (c .loop-test .taken)
@@ -102,8 +103,8 @@ returns c =
     let l = c .before .loop in
     let new = take (a .count) (a .work .now) ++ flat (merged (alone stops) (atStop (a .from))) in
     let left = flat (merged (alone stops) (atStop (l .stop))) in
-    let none = ap flat (merged-end (alone stops) (plain (c .before)) (atStop (l .stop)) (alone-over stops (l .stop) (c .loop-test .left))) in
-    (laying-count new (a .work .now) (l .work) left (l .at) (l .inv .0) none ∙ whole (c .before), laying-all new (a .work .now) (l .work) left (l .at) (l .inv .0) none)
+    let plusZero = ap flat (merged-end (alone stops) (plain (c .before)) (atStop (l .stop)) (alone-over stops (l .stop) (c .loop-test .left))) in
+    (laying-count new (a .work .now) (l .work) left (l .at) (l .inv .0) plusZero ∙ whole (c .before), laying-all new (a .work .now) (l .work) left (l .at) (l .inv .0) plusZero)
 
 pub lay-rest-spec : {M : Type 1} → statement M
 lay-rest-spec =
