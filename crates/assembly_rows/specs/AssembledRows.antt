@@ -5,6 +5,7 @@ use mathlib.Core.List.{List, map}
 use lib.Dec.{leb, eqb}
 use lib.ListN.{length, take}
 use lib.Ieee.{Float, lt}
+use Rattle.limits.specs.Table.{uneven, mostEntries}
 use Rattle.picks.specs.Pick.{pick}
 use Rattle.ieee.specs.Narrowing.{narrow}
 use Rattle.rows.specs.Rows.{quantized}
@@ -49,11 +50,11 @@ eachByItself whole quantised values = entries quantised (map (λ (value : Float)
 
 -- the one outcome of laying them, 2 where they are not as many
 abbrev pub EachLaid : Bool → List Float → List Float → Outcome → List Float → List Float → List Float → List Float → Type 0
-EachLaid whole quantised values = LaidPair (pick (eqb (length quantised) (length values)) 0 2) (eachByItself whole quantised values)
+EachLaid whole quantised values = LaidPair (pick (eqb (length quantised) (length values)) 0 uneven) (eachByItself whole quantised values)
 
 -- whether each is laid by itself: columns of one length, that of a list, and quantised beats that rise
 unfoldable pub byItself : List Float → List Float → Bool
-byItself beats values = pick (eqb (length beats) (length values)) (pick (leb (length beats) 1024) (everyTwo lt (map quantized beats)) false) false
+byItself beats values = pick (eqb (length beats) (length values)) (pick (leb (length beats) mostEntries) (everyTwo lt (map quantized beats)) false) false
 
 -- the one outcome of the call that tests no number: any other list is assembled. Of a list that is taken both are the same
 abbrev pub RowsUntested : Bool → List Float → List Float → Outcome → List Float → List Float → List Float → List Float → Type 0

@@ -5,6 +5,7 @@ use mathlib.Core.List.{List, map}
 use lib.Dec.{leb, eqb}
 use lib.ListN.{length}
 use lib.Ieee.{Float, lt}
+use Rattle.limits.specs.Table.{mostEntries}
 use Rattle.picks.specs.Pick.{pick}
 use Rattle.rows.specs.Rows.{quantized}
 use Rattle.limits.specs.Neighbours.{everyTwo, notAbove}
@@ -43,7 +44,7 @@ riseApart beats values = pick (everyTwo lt beats) (everyTwo farFrom values) fals
 
 -- whether each is laid by itself: columns of one length, that of a list, and quantised beats with their values as that says
 unfoldable pub scrollsByThemselves : List Float → List Float → Bool
-scrollsByThemselves beats values = pick (eqb (length beats) (length values)) (pick (leb (length beats) 1024) (riseApart (map quantized beats) values) false) false
+scrollsByThemselves beats values = pick (eqb (length beats) (length values)) (pick (leb (length beats) mostEntries) (riseApart (map quantized beats) values) false) false
 
 -- the one outcome of the call that tests no number: any other list is assembled. Of a list that is taken both are the same
 abbrev pub ScrollsUntested : List Float → List Float → Outcome → List Float → List Float → List Float → List Float → Type 0

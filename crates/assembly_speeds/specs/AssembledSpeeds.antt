@@ -5,6 +5,7 @@ use mathlib.Core.List.{List, map}
 use lib.Dec.{leb, eqb}
 use lib.ListN.{length, take}
 use lib.Ieee.{Float}
+use Rattle.limits.specs.Table.{mostEntries}
 use Rattle.picks.specs.Pick.{pick}
 use Rattle.ieee.specs.Narrowing.{narrow}
 use Rattle.rows.specs.Rows.{quantized}
@@ -57,7 +58,7 @@ sameLengths beats ratios delays units = pick (eqb beats ratios) (pick (eqb beats
 -- whether each is laid by itself: columns of one length, that of a list, quantised beats that rise, and ratios apart
 unfoldable pub speedsByThemselves : List Float → List Float → List Float → List ℕ → Bool
 speedsByThemselves beats ratios delays units =
-    pick (sameLengths (length beats) (length ratios) (length delays) (length units)) (pick (leb (length beats) 1024) (riseApart (map quantized beats) ratios) false) false
+    pick (sameLengths (length beats) (length ratios) (length delays) (length units)) (pick (leb (length beats) mostEntries) (riseApart (map quantized beats) ratios) false) false
 
 -- the one outcome of the call that tests no number: any other list is assembled. Of a list that is taken both are the same
 abbrev pub SpeedsUntested : (beats ratios delays : List Float) (units : List ℕ) → Outcome → (beatsOld beatsNew ratiosOld ratiosNew delaysOld delaysNew : List Float) (unitsOld unitsNew : List ℕ) → Type 0

@@ -6,6 +6,7 @@ use mathlib.Core.Path.{_≡_}
 use lib.Dec.{leb, eqb}
 use lib.ListN.{length}
 use lib.Ieee.{Float}
+use Rattle.limits.specs.Table.{tooLong, mostEntries}
 use Rattle.ieee.specs.Constants.{plusZero}
 use Rattle.picks.specs.Pick.{pick}
 use Rattle.ieee.specs.Narrowing.{narrow}
@@ -40,7 +41,7 @@ fitNumber result room = roomNumber 0 (length result) room
 
 -- The call's number: the lowest of the raw lists; then 1 where merged warps are more than asked for, or than a list may have; then what comes later.
 unfoldable pub verdict : (raw warps most later : ℕ) → ℕ
-verdict raw warps most later = pick (eqb raw 0) (pick (leb warps (min most 1024)) later 1) raw
+verdict raw warps most later = pick (eqb raw 0) (pick (leb warps (min most mostEntries)) later tooLong) raw
 
 -- what comes later of the three lists
 abbrev pub threeRooms : Lists → (tempoRoom stopRoom warpRoom : ℕ) → ℕ

@@ -5,6 +5,7 @@ use mathlib.Core.List.{List, map}
 use mathlib.Core.Path.{_≡_}
 use lib.ListN.{length}
 use lib.Ieee.{Float, binary32, fits, isNan}
+use Rattle.limits.specs.Table.{mostEntries}
 use Rattle.rows.specs.Rows.{quantized}
 use Rattle.limits.specs.Numbers.{every}
 use Rattle.order.specs.Entries.{entries}
@@ -29,7 +30,7 @@ pub record Processed (tempoBeats tempoValues stopBeats stopValues warpBeats warp
   pub stops : rowsNumber stopBeats stopValues ≡ 0
   pub onRows : map quantized stopBeats ≡ stopBeats
   pub even : length warpBeats ≡ length warpLengths
-  pub warps : length warpBeats ≤ 1024 → rowsNumber warpBeats warpLengths ≡ 0
+  pub warps : length warpBeats ≤ mostEntries → rowsNumber warpBeats warpLengths ≡ 0
 
 -- columns as lists
 abbrev pub listsOf : (tempoBeats tempoValues stopBeats stopValues warpBeats warpLengths : List Float) → Float → Lists

@@ -3,6 +3,7 @@ use Prim.Native.Nat.{ℕ}
 use mathlib.Core.List.{List, _++_}
 use lib.Dec.{eqb}
 use lib.Ieee.{Float}
+use Rattle.limits.specs.Table.{noRoom}
 use Rattle.picks.specs.Pick.{pick}
 use Rattle.limits.specs.declared.Kind.the-variants.{Beat, Value}
 use Rattle.limits.specs.Numbers.{rangeOf}
@@ -24,7 +25,7 @@ threeNumber tempoBeats tempoValues stopBeats stopValues warpBeats warpLengths =
 
 -- the number of a refusal, for want of room where there is no other reason
 unfoldable pub orNoRoom : ℕ → ℕ
-orNoRoom number = pick (eqb number 0) 7 number
+orNoRoom number = pick (eqb number 0) noRoom number
 
 -- warps that are given come before those that are made
 abbrev pub behindGiven : List Float → List Float → Lists → Lists

@@ -5,6 +5,7 @@ use mathlib.Core.Path.{_≡_}
 use lib.Dec.{leb}
 use lib.ListN.{length}
 use lib.Ieee.{Float}
+use Rattle.limits.specs.Table.{noRoom}
 use Rattle.picks.specs.Pick.{pick}
 use Rattle.limits.specs.Refusals.{lower}
 use Rattle.columns.specs.Laying.{given, columnLaid}
@@ -23,7 +24,7 @@ runOf beats = map (λ (beat : Float). (ofBeat, beat)) beats
 
 -- 7 where the beats are more than the shortest of the three columns has room for
 unfoldable pub roomNumber : (beats numbers times counts : ℕ) → ℕ
-roomNumber beats numbers times counts = pick (leb beats (min numbers (min times counts))) 0 7
+roomNumber beats numbers times counts = pick (leb beats (min numbers (min times counts))) 0 noRoom
 
 -- the timing, the room and the cursor are tested once; beats are not tested here
 unfoldable pub runNumber : Timing → Float → Float → Cursor → (beats numbers times counts : ℕ) → ℕ

@@ -6,6 +6,7 @@ use lib.Signed.{leZ}
 use lib.Dec.{leb}
 use lib.Ieee.{Float, fin, le}
 use lib.Ieee.Scale.{finite}
+use Rattle.limits.specs.Table.{badCursor}
 use Rattle.ieee.specs.Constants.{plusZero}
 use Rattle.picks.specs.Pick.{pick}
 use Rattle.limits.specs.Numbers.{rowIn}
@@ -35,4 +36,4 @@ timeAndEndIn time end = pick (finite time) (endIn end) false
 -- 9 for a cursor that no question left behind
 unfoldable pub cursorNumber : (tempos stops delays warps : ℕ) → State → ℤ → ℕ
 cursorNumber tempos stops delays warps s asked =
-    pick (placesIn tempos stops delays warps s) (pick (rowsIn (s .row) asked) (pick (finite (s .time)) (pick (endIn (s .end)) 0 9) 9) 9) 9
+    pick (placesIn tempos stops delays warps s) (pick (rowsIn (s .row) asked) (pick (finite (s .time)) (pick (endIn (s .end)) 0 badCursor) badCursor) badCursor) badCursor

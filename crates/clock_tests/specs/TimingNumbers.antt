@@ -6,6 +6,7 @@ use lib.IntN.{ℤ}
 use lib.Signed.{ltZ}
 use lib.Ieee.{Float, binary64, eq}
 use lib.Dec.{eqb}
+use Rattle.limits.specs.Table.{badBeat, badValue, notRising}
 use Rattle.ieee.specs.Constants.{plusZero}
 use Rattle.picks.specs.Pick.{pick}
 use Rattle.rows.specs.Rows.{row}
@@ -38,7 +39,7 @@ listsNumber t =
 
 -- 4 for an offset beyond its limit
 unfoldable pub offsetNumber : Float → ℕ
-offsetNumber offset = pick (inRange (rangeOf Offset) offset) 0 4
+offsetNumber offset = pick (inRange (rangeOf Offset) offset) 0 badValue
 
 unfoldable pub offsetsNumber : Float → Float → ℕ
 offsetsNumber offset global = lower (offsetNumber offset) (offsetNumber global)
@@ -48,9 +49,9 @@ unfoldable pub orderNumber : Timing → ℕ
 orderNumber t =
     pick (rises (t .tempoBeats))
     (pick (rises (t .stopBeats))
-    (pick (rises (t .delayBeats)) (pick (rises (t .warpBeats)) (pick (startsAtZero (t .tempoBeats)) 0 5) 5) 5)
-    5)
-    5
+    (pick (rises (t .delayBeats)) (pick (rises (t .warpBeats)) (pick (startsAtZero (t .tempoBeats)) 0 notRising) notRising) notRising)
+    notRising)
+    notRising
 
 -- The number that a timing and its offsets answer: 0 to 5.
 unfoldable pub timingNumber : Timing → Float → Float → ℕ
@@ -58,4 +59,4 @@ timingNumber t offset global = lower (listsNumber t) (lower (offsetsNumber offse
 
 -- 3 for an asked beat beyond the limit
 unfoldable pub beatNumber : Float → ℕ
-beatNumber beat = pick (inRange (rangeOf Beat) beat) 0 3
+beatNumber beat = pick (inRange (rangeOf Beat) beat) 0 badBeat

@@ -6,6 +6,7 @@ use mathlib.Core.Path.{_≡_}
 use lib.Dec.{leb, eqb}
 use lib.ListN.{length}
 use lib.Ieee.{Float}
+use Rattle.limits.specs.Table.{noRoom}
 use Rattle.picks.specs.Pick.{pick}
 use Rattle.order.specs.Order.{laid}
 use Rattle.order.specs.Entries.{first, second}
@@ -13,7 +14,7 @@ use Rattle.columns.specs.declared.Outcome.{Outcome}
 
 -- the call's number: that of the tests before, then 7 where the result is longer than its room
 unfoldable pub roomNumber : ℕ → ℕ → ℕ → ℕ
-roomNumber number count room = pick (eqb number 0) (pick (leb count room) 0 7) number
+roomNumber number count room = pick (eqb number 0) (pick (leb count room) 0 noRoom) number
 
 -- the outcome of a refusal
 abbrev pub refusedBy : ℕ → Outcome

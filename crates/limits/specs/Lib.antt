@@ -1,3 +1,4 @@
+pub mod Table
 pub mod Numbers
 pub mod Neighbours
 pub mod Plain

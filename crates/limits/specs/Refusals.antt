@@ -4,6 +4,7 @@ use mathlib.Core.List.{List}
 use lib.Dec.{ltb, leb, eqb}
 use lib.ListN.{length}
 use lib.Ieee.{Float}
+use Rattle.limits.specs.Table.{tooLong, uneven, badBeat, badValue, mostEntries}
 use Rattle.picks.specs.Pick.{pick}
 use Rattle.limits.specs.declared.Range.{Range}
 use Rattle.limits.specs.Numbers.{allIn}
@@ -15,8 +16,8 @@ lower one other = pick (eqb one 0) other (pick (eqb other 0) one (pick (leb one 
 -- a list of two columns by itself: too long, columns that differ in length, a beat, a value
 unfoldable pub listNumber : Range → Range → List Float → List Float → ℕ
 listNumber beat value beats values =
-    pick (ltb 1024 (length beats)) 1
-    (pick (ltb 1024 (length values)) 1
+    pick (ltb mostEntries (length beats)) tooLong
+    (pick (ltb mostEntries (length values)) tooLong
     (pick (eqb (length beats) (length values))
-    (pick (allIn beat beats) (pick (allIn value values) 0 4) 3)
-    2))
+    (pick (allIn beat beats) (pick (allIn value values) 0 badValue) badBeat)
+    uneven))

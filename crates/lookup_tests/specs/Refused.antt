@@ -5,6 +5,7 @@ use mathlib.Core.List.{List, [], _∷_}
 use lib.Dec.{ltb, eqb}
 use lib.ListN.{getD}
 use lib.Ieee.{Float, nan, binary32}
+use Rattle.limits.specs.Table.{badBeat, notRising}
 use Rattle.picks.specs.Pick.{pick}
 use Rattle.rows.specs.Rows.{row}
 use Rattle.limits.specs.declared.Kind.the-variants.{Beat, Pause, Value}
@@ -36,10 +37,10 @@ rowsRise (beat ∷ beats) = pick (isBelow beat beats) (rowsRise beats) false
 
 -- a list by itself: 1 to 4, and 5 where its rows do not rise
 unfoldable pub risingNumber : Range → List Float → List Float → ℕ
-risingNumber value beats values = pick (eqb (listNumber (rangeOf Beat) value beats values) 0) (pick (rowsRise beats) 0 5) (listNumber (rangeOf Beat) value beats values)
+risingNumber value beats values = pick (eqb (listNumber (rangeOf Beat) value beats values) 0) (pick (rowsRise beats) 0 notRising) (listNumber (rangeOf Beat) value beats values)
 
 abbrev pub askedNumber : Bool → ℕ
-askedNumber allowed = pick allowed 0 3
+askedNumber allowed = pick allowed 0 badBeat
 
 -- the lowest over the lists that a question takes, and what is asked
 abbrev pub warpNumber : List Float → List Float → List Float → List Float → List Float → List Float → Bool → ℕ

@@ -6,6 +6,7 @@ use mathlib.Core.Path.{_≡_}
 use lib.Dec.{leb, eqb}
 use lib.ListN.{length}
 use lib.Ieee.{Float, eq}
+use Rattle.limits.specs.Table.{uneven, badValue, noRoom}
 use Rattle.ieee.specs.Constants.{plusZero32}
 use Rattle.picks.specs.Pick.{pick}
 use Rattle.limits.specs.Numbers.{every}
@@ -37,15 +38,15 @@ unfoldable pub chartNumber : (tempoBeats tempoValues stopBeats stopValues : List
 chartNumber tempoBeats tempoValues stopBeats stopValues =
     pick (eqb (length tempoBeats) (length tempoValues))
     (pick (eqb (length stopBeats) (length stopValues))
-    (pick (every isNumber tempoValues) 0 4)
-    2)
-    2
+    (pick (every isNumber tempoValues) 0 badValue)
+    uneven)
+    uneven
 
 -- then 7 where the most that so many tempos and stops can write has no room
 unfoldable pub walkNumber : (tempoBeats tempoValues stopBeats stopValues : List Float) → Columns → ℕ
 walkNumber tempoBeats tempoValues stopBeats stopValues into =
     pick (eqb (chartNumber tempoBeats tempoValues stopBeats stopValues) 0)
-    (pick (hasRoom (most (length tempoBeats) (length stopBeats)) into) 0 7)
+    (pick (hasRoom (most (length tempoBeats) (length stopBeats)) into) 0 noRoom)
     (chartNumber tempoBeats tempoValues stopBeats stopValues)
 
 -- Number, counts, offset, and each of the six rooms to its last place. After a refusal all counts are 0, the offset is 0 and the rooms are as they were.

@@ -4,6 +4,7 @@ use mathlib.Core.List.{List}
 use lib.Dec.{eqb}
 use lib.ListN.{length}
 use lib.Ieee.{Float}
+use Rattle.limits.specs.Table.{noRoom}
 use Rattle.picks.specs.Pick.{pick}
 use Rattle.process_raw.specs.RawLists.{rawNumbers}
 use Rattle.process_sm_changes.specs.SmChanges.{smChanges}
@@ -15,7 +16,7 @@ use Rattle.process_sm_walk.specs.Walking.{hasRoom, WalkLaid}
 unfoldable pub walkedNumber : (tempoBeats tempoValues stopBeats stopValues : List Float) → Columns → ℕ
 walkedNumber tempoBeats tempoValues stopBeats stopValues into =
     pick (eqb (rawNumbers tempoBeats tempoValues stopBeats stopValues) 0)
-    (pick (hasRoom (most (length (smChanges tempoBeats tempoValues)) (length (smChanges stopBeats stopValues))) into) 0 7)
+    (pick (hasRoom (most (length (smChanges tempoBeats tempoValues)) (length (smChanges stopBeats stopValues))) into) 0 noRoom)
     (rawNumbers tempoBeats tempoValues stopBeats stopValues)
 
 -- the one outcome: what the walk lays of the changes of both lists

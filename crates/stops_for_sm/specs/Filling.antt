@@ -6,6 +6,7 @@ use mathlib.Core.Path.{_≡_}
 use lib.ListN.{length, take}
 use lib.Dec.{ltb, leb, eqb}
 use lib.Ieee.{Float}
+use Rattle.limits.specs.Table.{uneven, noRoom, noTempoGiven}
 use Rattle.picks.specs.Pick.{pick}
 use Rattle.limits.specs.declared.Kind.the-variants.{Beat, Tempo, Pause, Value}
 use Rattle.limits.specs.declared.Range.{Range}
@@ -49,7 +50,7 @@ isOwn s = pick (eqb (length (s .delayBeats)) 0) (eqb (length (s .warpBeats)) 0) 
 unfoldable pub listsNumber : Sources → ℕ → ℕ
 listsNumber s size =
     lower (lower (listNumber (rangeOf Beat) (rangeOf Tempo) (s .tempoBeats) (s .tempoValues)) (flatNumber (rangeOf Beat) (rangeOf Pause) (s .stops)))
-    (lower (lower (listNumber (rangeOf Beat) (rangeOf Pause) (s .delayBeats) (s .delayValues)) (listNumber (rangeOf Beat) (rangeOf Value) (s .warpBeats) (s .warpLengths))) (pick (isEven size) 0 2))
+    (lower (lower (listNumber (rangeOf Beat) (rangeOf Pause) (s .delayBeats) (s .delayValues)) (listNumber (rangeOf Beat) (rangeOf Value) (s .warpBeats) (s .warpLengths))) (pick (isEven size) 0 uneven))
 
 -- a warp and no tempo
 abbrev pub lacksTempo : Sources → Bool
@@ -58,7 +59,7 @@ lacksTempo s = pick (eqb (length (s .tempoBeats)) 0) (ltb 0 (length (s .warpBeat
 -- 8 for a warp and no tempo, and 7 for a result that is longer than its room, which is not asked then
 unfoldable pub resultNumber : Sources → ℕ → ℕ
 resultNumber s room =
-    pick (isOwn s) 0 (pick (lacksTempo s) 8 (pick (leb (length (merged s atFirst)) room) 0 7))
+    pick (isOwn s) 0 (pick (lacksTempo s) noTempoGiven (pick (leb (length (merged s atFirst)) room) 0 noRoom))
 
 unfoldable pub fillNumber : Sources → ℕ → ℕ
 fillNumber s size = pick (eqb (listsNumber s size) 0) (resultNumber s (size / 2)) (listsNumber s size)

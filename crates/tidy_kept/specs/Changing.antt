@@ -5,6 +5,7 @@ use mathlib.Core.Bool.{Bool, true, false, not}
 use mathlib.Core.List.{List, [], _∷_, _++_}
 use lib.Dec.{ltb, leb, eqb}
 use lib.ListN.{length, take, drop, getD}
+use Rattle.limits.specs.Table.{mostEntries}
 use Rattle.picks.specs.Pick.{pick}
 use Rattle.order.specs.Order.{laid, neverFalls}
 use Rattle.tidy_kept.specs.declared.Change.{Change}
@@ -40,7 +41,7 @@ cut last onRow = pick onRow (pick (eqb last 0) 1 last) (last + 1)
 -- that of the next one, of the one it is held against, and of the last one. `moves`: what comes has the value of the next one. `falls`: the kept list falls then.
 unfoldable pub changeOf : ℕ → Bool → Bool → Bool → Bool → Change
 changeOf at onRow nearNext nearPrevious nearLast =
-    pick (ltb 1024 at) (change 0 0 false false false)
+    pick (ltb mostEntries at) (change 0 0 false false false)
     (pick nearNext
     (pick nearPrevious (change (cut (at - 1) onRow) (at - 1 + 2) false false false) (change (cut (at - 1) onRow) (at - 1 + 2) true true (eqb at 0)))
     (pick nearPrevious (change (cut (at - 1) onRow) (at - 1 + 1) false false false)

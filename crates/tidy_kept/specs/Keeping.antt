@@ -3,6 +3,7 @@ use Prim.Native.Nat.{ℕ}
 use mathlib.Core.Bool.{Bool, true, false}
 use mathlib.Core.List.{List, [], _∷_, reverse, reverseAux}
 use lib.Dec.{ltb, leb, eqb}
+use Rattle.limits.specs.Table.{keptFalls}
 use Rattle.picks.specs.Pick.{pick}
 use Rattle.order.specs.Order.{run, neverFalls}
 
@@ -89,4 +90,4 @@ module _ {B W : Type 0} (row : B → ℕ) (near : W → W → Bool) where
 
   -- 6 where that is so of entries in no order
   unfoldable pub keepNumber : List (B × W) → ℕ
-  keepNumber entries = pick (neverFalls rowOf entries) 0 (pick (fallsWhile [] entries) 6 0)
+  keepNumber entries = pick (neverFalls rowOf entries) 0 (pick (fallsWhile [] entries) keptFalls 0)

@@ -4,6 +4,7 @@ use mathlib.Core.List.{List, map}
 use lib.Dec.{ltb, eqb}
 use lib.ListN.{length}
 use lib.Ieee.{Float}
+use Rattle.limits.specs.Table.{tooLong, uneven, badBeat, badValue, mostEntries}
 use Rattle.picks.specs.Pick.{pick}
 use Rattle.limits.specs.declared.Kind.the-variants.{Beat, Value}
 use Rattle.limits.specs.Numbers.{rangeOf, allIn, unitsIn}
@@ -16,22 +17,22 @@ use Rattle.tidy_speeds_entries.specs.LaidSpeeds.{LaidSpeeds}
 
 -- 4 where a ratio, a delay or a unit is out of range
 unfoldable pub valuesNumber : List Float → List Float → List ℕ → ℕ
-valuesNumber ratios delays units = pick (allIn (rangeOf Value) ratios) (pick (allIn (rangeOf Value) delays) (pick (unitsIn units) 0 4) 4) 4
+valuesNumber ratios delays units = pick (allIn (rangeOf Value) ratios) (pick (allIn (rangeOf Value) delays) (pick (unitsIn units) 0 badValue) badValue) badValue
 
 -- a list of four columns by itself: too long, columns that differ in length, a beat, then the others
 unfoldable pub speedListNumber : List Float → List Float → List Float → List ℕ → ℕ
 speedListNumber beats ratios delays units =
-    pick (ltb 1024 (length beats)) 1
-    (pick (ltb 1024 (length ratios)) 1
-    (pick (ltb 1024 (length delays)) 1
-    (pick (ltb 1024 (length units)) 1
+    pick (ltb mostEntries (length beats)) tooLong
+    (pick (ltb mostEntries (length ratios)) tooLong
+    (pick (ltb mostEntries (length delays)) tooLong
+    (pick (ltb mostEntries (length units)) tooLong
     (pick (eqb (length beats) (length ratios))
     (pick (eqb (length beats) (length delays))
     (pick (eqb (length beats) (length units))
-    (pick (allIn (rangeOf Beat) beats) (valuesNumber ratios delays units) 3)
-    2)
-    2)
-    2))))
+    (pick (allIn (rangeOf Beat) beats) (valuesNumber ratios delays units) badBeat)
+    uneven)
+    uneven)
+    uneven))))
 
 -- the kept entries, each on its row
 unfoldable pub tidySpeeds : List Float → List Float → List Float → List ℕ → List SpeedEntry
