@@ -30,7 +30,7 @@ use Rattle.assembly_speeds.proofs.Untested as speeds
 use Rattle.assembly_tempos.specs.declared.AssembledTempos.{AssembledTempos}
 use Rattle.assembly_tempos.specs.AssembledTempos.{verdict, fitNumber, threeRooms, ThreeLaid}
 use Rattle.assembly_tempos.proofs.RowsFit.{fit-number}
-use Rattle.assembly.specs.Assembly.{listOf, assembledDelays, assembledFakes, othersNumber, othersLater, SpeedsLaid}
+use Rattle.assembly.specs.Assembly.{listTests, assembledDelays, assembledFakes, othersNumber, othersLater, SpeedsLaid}
 
 -- ---- four columns under one number
 
@@ -80,18 +80,18 @@ same-later {raw} {later} {later′} {most} {lists} {outcome} {tempoBeatsOld} {te
 -- ---- the other lists
 
 pub record OthersTaken (delayBeats delayValues speedBeats speedRatios speedDelays : List Float) (speedUnits : List ℕ) (scrollBeats scrollValues fakeBeats fakeLengths : List Float) : Type 0 where
-  pub delays : listOf delayBeats delayValues ≡ 0
+  pub delays : listTests delayBeats delayValues ≡ 0
   pub speeds : speedListNumber speedBeats speedRatios speedDelays speedUnits ≡ 0
-  pub scrolls : listOf scrollBeats scrollValues ≡ 0
-  pub fakes : listOf fakeBeats fakeLengths ≡ 0
+  pub scrolls : listTests scrollBeats scrollValues ≡ 0
+  pub fakes : listTests fakeBeats fakeLengths ≡ 0
 
 module _ (delayBeats delayValues speedBeats speedRatios speedDelays : List Float) (speedUnits : List ℕ) (scrollBeats scrollValues fakeBeats fakeLengths : List Float) where
   pub others-taken : othersNumber delayBeats delayValues speedBeats speedRatios speedDelays speedUnits scrollBeats scrollValues fakeBeats fakeLengths ≡ 0 → OthersTaken delayBeats delayValues speedBeats speedRatios speedDelays speedUnits scrollBeats scrollValues fakeBeats fakeLengths
   others-taken h =
-      let d = listOf delayBeats delayValues in
+      let d = listTests delayBeats delayValues in
       let s = speedListNumber speedBeats speedRatios speedDelays speedUnits in
-      let c = listOf scrollBeats scrollValues in
-      let f = listOf fakeBeats fakeLengths in
+      let c = listTests scrollBeats scrollValues in
+      let f = listTests fakeBeats fakeLengths in
       let one = lower-none (lower (lower d s) c) f h in
       let two = lower-none (lower d s) c (one .0) in
       let three = lower-none d s (two .0) in
@@ -128,7 +128,7 @@ module _ (delayBeats delayValues speedBeats speedRatios speedDelays : List Float
         record { delaysFit = three .0; speedsFit = three .1; scrollsFit = two .1; fakesFit = one .1 }
 
 -- a row list that is taken and fits
-pub rows-laid : (whole : Bool) (beats values : List Float) {outcome : Outcome} {beatsOld beatsNew valuesOld valuesNew : List Float} → listOf beats values ≡ 0 → fitNumber (assembledRows (changeBy whole) beats values) (roomFor beatsOld valuesOld) ≡ 0
+pub rows-laid : (whole : Bool) (beats values : List Float) {outcome : Outcome} {beatsOld beatsNew valuesOld valuesNew : List Float} → listTests beats values ≡ 0 → fitNumber (assembledRows (changeBy whole) beats values) (roomFor beatsOld valuesOld) ≡ 0
     → RowsUntested whole beats values outcome beatsOld beatsNew valuesOld valuesNew
     → LaidList 0 (assembledRows (changeBy whole) beats values) (outcome .count) beatsOld beatsNew valuesOld valuesNew
 rows-laid whole beats values {outcome} {beatsOld} {beatsNew} {valuesOld} {valuesNew} taken fit q =

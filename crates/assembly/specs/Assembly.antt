@@ -31,13 +31,13 @@ abbrev pub assembledFakes : List Float → List Float → List (Float × Float)
 assembledFakes beats lengths = assembledRows (changeBy true) beats lengths
 
 -- the raw tests of a list of beats and values
-abbrev pub listOf : List Float → List Float → ℕ
-listOf beats values = listNumber (rangeOf Beat) (rangeOf Value) beats values
+abbrev pub listTests : List Float → List Float → ℕ
+listTests beats values = listNumber (rangeOf Beat) (rangeOf Value) beats values
 
 -- the lowest raw number of delays, speeds, scrolls and fakes
 abbrev pub othersNumber : (delayBeats delayValues speedBeats speedRatios speedDelays : List Float) (speedUnits : List ℕ) (scrollBeats scrollValues fakeBeats fakeLengths : List Float) → ℕ
 othersNumber delayBeats delayValues speedBeats speedRatios speedDelays speedUnits scrollBeats scrollValues fakeBeats fakeLengths =
-    lower (lower (lower (listOf delayBeats delayValues) (speedListNumber speedBeats speedRatios speedDelays speedUnits)) (listOf scrollBeats scrollValues)) (listOf fakeBeats fakeLengths)
+    lower (lower (lower (listTests delayBeats delayValues) (speedListNumber speedBeats speedRatios speedDelays speedUnits)) (listTests scrollBeats scrollValues)) (listTests fakeBeats fakeLengths)
 
 -- the lowest that they answer where they are taken: 6 for scrolls or speeds, 7 for any that is longer than its room
 abbrev pub othersLater : (delayBeats delayValues speedBeats speedRatios speedDelays : List Float) (speedUnits : List ℕ) (scrollBeats scrollValues fakeBeats fakeLengths : List Float)

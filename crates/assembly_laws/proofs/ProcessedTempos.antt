@@ -10,8 +10,8 @@ use Rattle.limits.proofs.ListTaken.{list-taken}
 use Rattle.order.specs.Entries.{first, second}
 use Rattle.process_raw.specs.RawLists.{rawNumbers}
 use Rattle.process_raw.proofs.BothTaken.{both-taken}
-use Rattle.process_ssc.specs.Ssc.{stayed}
-use Rattle.process_sm_lent.specs.Sm.{written}
+use Rattle.process_ssc.specs.Ssc.{stayedSsc}
+use Rattle.process_sm_lent.specs.Sm.{smWritten}
 use Rattle.chart.specs.declared.TimingFormat.{TimingFormat}
 use Rattle.chart.specs.declared.TimingFormat.the-variants.{Sm, Ssc}
 use Rattle.process.specs.ByFormat.{tempoBeatsOf, tempoValuesOf, listsBy, processedLists}
@@ -22,8 +22,8 @@ use Rattle.assembly_rows.specs.AssembledRows.{narrowedEntry}
 use Rattle.assembly_laws.proofs.TidiedTempos.{starts-tidied, TidyTempos, narrowed-tidy}
 
 by-format : (format : TimingFormat) (tempoBeats tempoValues stopBeats stopValues : List Float) → startsAtZero (map first (listsBy format tempoBeats tempoValues stopBeats stopValues .tempos)) ≡ true
-by-format Sm tempoBeats tempoValues stopBeats stopValues = let out = written tempoBeats tempoValues stopBeats stopValues .tempos in starts-tidied (map first out) (map second out)
-by-format Ssc tempoBeats tempoValues stopBeats stopValues = let out = stayed tempoBeats tempoValues in starts-tidied (map first out) (map second out)
+by-format Sm tempoBeats tempoValues stopBeats stopValues = let out = smWritten tempoBeats tempoValues stopBeats stopValues .tempos in starts-tidied (map first out) (map second out)
+by-format Ssc tempoBeats tempoValues stopBeats stopValues = let out = stayedSsc tempoBeats tempoValues in starts-tidied (map first out) (map second out)
 
 processed-starts : (format : TimingFormat) (tempoBeats tempoValues stopBeats stopValues : List Float) → startsAtZero (map first (processedLists format tempoBeats tempoValues stopBeats stopValues .tempos)) ≡ true
 unfolding processedLists

@@ -14,7 +14,7 @@ use Rattle.limits.specs.Refusals.{lower}
 use Rattle.limits.proofs.NoRefusal.{lower-none}
 use Rattle.process_raw.specs.RawLists.{rawNumbers}
 use Rattle.chart.specs.Timing.{Timing, timing}
-use Rattle.clock_tests.specs.TimingNumbers.{listsNumber, offsetNumber, offsetsNumber, orderNumber, timingNumber, beatNumber}
+use Rattle.clock_tests.specs.TimingNumbers.{timingListsNumber, offsetNumber, offsetsNumber, orderNumber, timingNumber, beatNumber}
 use Rattle.clock.specs.Question.{freshCursor, question}
 use Rattle.clock_histories.proofs.FreshNumber.{fresh-number}
 use Rattle.lookup.specs.Lookups.{judgableNumber}
@@ -28,7 +28,7 @@ use Rattle.assembly_rows.specs.AssembledRows.{changeBy, assembledRows}
 use Rattle.assembly_rows.proofs.QuantizedTaken.{quantized-taken}
 use Rattle.assembly_tempos.specs.AssembledTempos.{assembledTempos, assembledStops, assembledWarps}
 use Rattle.assembly_tempos.proofs.WorkColumns.{merged-stops, stops-on-rows, merged-warps}
-use Rattle.assembly.specs.Assembly.{listOf, assembledDelays, assembledFakes}
+use Rattle.assembly.specs.Assembly.{listTests, assembledDelays, assembledFakes}
 use Rattle.assembly_laws.proofs.RowLists.{TidyRows, lengths-tidy, pauses-tidy}
 use Rattle.assembly_laws.proofs.TidiedTempos.{TidyTempos}
 use Rattle.assembly_laws.proofs.FlatStops.{flat-taken}
@@ -36,10 +36,10 @@ use Rattle.assembly_laws.proofs.ProcessedTempos as processed
 
 -- ---- lists that are assembled as they are given
 
-pub delays-tidy : (beats values : List Float) → listOf beats values ≡ 0 → TidyRows (rangeOf Pause) (assembledDelays beats values)
+pub delays-tidy : (beats values : List Float) → listTests beats values ≡ 0 → TidyRows (rangeOf Pause) (assembledDelays beats values)
 delays-tidy beats values h = pauses-tidy (changeBy false) beats values (quantized-taken beats values false h)
 
-pub fakes-tidy : (beats lengths : List Float) → listOf beats lengths ≡ 0 → TidyRows (rangeOf Value) (assembledFakes beats lengths)
+pub fakes-tidy : (beats lengths : List Float) → listTests beats lengths ≡ 0 → TidyRows (rangeOf Value) (assembledFakes beats lengths)
 fakes-tidy beats lengths h = lengths-tidy (changeBy true) beats lengths (quantized-taken beats lengths true h)
 
 -- ---- lists that are processed first: raw lists that are taken, and no more warps than a list may have
@@ -68,7 +68,7 @@ module _ (format : TimingFormat) (tempoBeats tempoValues stopBeats stopValues wa
   tempos-tidy = processed.tempos-tidy format tempoBeats tempoValues stopBeats stopValues (lower-none (rawNumbers tempoBeats tempoValues stopBeats stopValues) (warpsNumber warpBeats warpLengths) taken .0)
 
   -- ---- all lists
-  module _ (few : length (lists .warps) ≤ 1024) (delayBeats delayValues : List Float) (delays : listOf delayBeats delayValues ≡ 0) where
+  module _ (few : length (lists .warps) ≤ 1024) (delayBeats delayValues : List Float) (delays : listTests delayBeats delayValues ≡ 0) where
     -- the timing that is written
     abbrev pub written : Timing
     written =
@@ -76,7 +76,7 @@ module _ (format : TimingFormat) (tempoBeats tempoValues stopBeats stopValues wa
 
     -- of it the clock asks only that both offsets are within their limit, and refuses with 4 otherwise
     pub offset-asked : (offset global : Float) → timingNumber written offset global ≡ pick (inRange (rangeOf Offset) offset) (pick (inRange (rangeOf Offset) global) 0 4) 4
-    unfolding timingNumber listsNumber offsetsNumber offsetNumber orderNumber lower
+    unfolding timingNumber timingListsNumber offsetsNumber offsetNumber orderNumber lower
     offset-asked offset global =
         let t = tempos-tidy in
         let s = stops-tidy in
@@ -100,16 +100,16 @@ module _ (format : TimingFormat) (tempoBeats tempoValues stopBeats stopValues wa
 
     -- SM stops, with the stops in a flat list and a work list of even length
     pub sm-stops-take : (size : ℕ) → size % 2 ≡ 0
-        → filling.listsNumber
+        → filling.sourcesNumber
         (sources (map first (assembledTempos lists)) (map second (assembledTempos lists)) (flat (assembledStops lists)) (map first (assembledDelays delayBeats delayValues)) (map second (assembledDelays delayBeats delayValues)) (map first (assembledWarps lists)) (map second (assembledWarps lists)))
         size
         ≡ 0
-    unfolding filling.listsNumber lower
+    unfolding filling.sourcesNumber lower
     sm-stops-take size even =
         rw (tempos-tidy .taken, flat-taken (rangeOf Beat) (rangeOf Pause) (assembledStops lists) (stops-tidy .taken), delays-tidy delayBeats delayValues delays .taken, warps-tidy few .taken, eq-eqb (size % 2) 0 even)
 
     -- the lookups, for any row or beat within the limit
-    pub lookups-take : (fakeBeats fakeLengths : List Float) → listOf fakeBeats fakeLengths ≡ 0
+    pub lookups-take : (fakeBeats fakeLengths : List Float) → listTests fakeBeats fakeLengths ≡ 0
         → judgableNumber (map first (assembledStops lists)) (map second (assembledStops lists)) (map first (assembledDelays delayBeats delayValues)) (map second (assembledDelays delayBeats delayValues)) (map first (assembledWarps lists)) (map second (assembledWarps lists)) (map first (assembledFakes fakeBeats fakeLengths)) (map second (assembledFakes fakeBeats fakeLengths)) true
         ≡ 0
     unfolding lower

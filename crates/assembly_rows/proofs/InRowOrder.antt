@@ -28,7 +28,7 @@ use Rattle.order.specs.RowKey.{rowKey}
 use Rattle.order.proofs.RowKeys.{rows-below, rows-at-most}
 use Rattle.tidy_rows.specs.RowTidying.{rowKeyAt}
 use Rattle.tidy_rows.proofs.TakenBeats.{taken-allowed}
-use Rattle.limits.specs.Neighbours.{neighbours, everyTwo, notAbove}
+use Rattle.limits.specs.Neighbours.{neighbours, everyTwo, notFalling}
 
 -- the f32 row, which is the row of the quantised beat
 abbrev pub narrowRow : Float → ℤ
@@ -66,7 +66,7 @@ not-both : (t : Bool) → T t → T (not t) → ⊥
 not-both true h k = k
 not-both false h k = h
 
-quantized-not-above : (x y : Float) → T (allowedBeat x) → T (allowedBeat y) → notAbove x y ≡ true → rowKeyAt (quantized x) ≤ rowKeyAt (quantized y)
+quantized-not-above : (x y : Float) → T (allowedBeat x) → T (allowedBeat y) → notFalling x y ≡ true → rowKeyAt (quantized x) ≤ rowKeyAt (quantized y)
 quantized-not-above x y p q h =
     let a = narrow-row-within x p in
     let b = narrow-row-within y q in
@@ -76,13 +76,13 @@ quantized-not-above x y p q h =
     (ap₂ (λ (r s : ℤ). leb (rowKey r) (rowKey s)) (row-quantized x p binary64) (row-quantized y q binary64)
     ∙ sym (rows-at-most (narrowRow x) (narrowRow y) (in-i32 (narrowRow x) a) (in-i32 (narrowRow y) b)) ∙ is-true (leZ (narrowRow x) (narrowRow y)) up)
 
-pub rows-never-fall : (beats : List Float) → allIn (rangeOf Beat) beats ≡ true → everyTwo notAbove beats ≡ true → neverFalls rowKeyAt (map quantized beats) ≡ true
+pub rows-never-fall : (beats : List Float) → allIn (rangeOf Beat) beats ≡ true → everyTwo notFalling beats ≡ true → neverFalls rowKeyAt (map quantized beats) ≡ true
 unfolding neighbours neverFalls mayPrecede
 rows-never-fall [] a t = refl
 rows-never-fall (x ∷ []) a t = refl
 rows-never-fall (x ∷ y ∷ beats) a t =
     let first = every-rest (inRange (rangeOf Beat)) x (y ∷ beats) a in
     let second = every-rest (inRange (rangeOf Beat)) y beats (first .1) in
-    let two = every-rest (λ (e : Float × Float). notAbove (e .0) (e .1)) (x, y) (neighbours (y ∷ beats)) t in
+    let two = every-rest (λ (e : Float × Float). notFalling (e .0) (e .1)) (x, y) (neighbours (y ∷ beats)) t in
     let rest = rows-never-fall (y ∷ beats) (first .1) (two .1) in
     rw (le-leb (rowKeyAt (quantized x)) (rowKeyAt (quantized y)) (quantized-not-above x y (taken-allowed x (first .0)) (taken-allowed y (second .0)) (two .0))) rest

@@ -11,7 +11,7 @@ ghost use Rattle.limits.specs.Numbers.{miss};
 ghost use Rattle.columns.specs.Each.{laidEach};
 ghost use Rattle.columns.specs.Laying.{LaidPair};
 ghost use Rattle.assembly_rows.specs.AssembledRows.{changeBy, narrowedFront, EachLaid, RowsAssembled, RowsUntested, rowsFit};
-ghost use Rattle.limits.specs.Neighbours.{everyTwo, notAbove};
+ghost use Rattle.limits.specs.Neighbours.{everyTwo, notFalling};
 
 // ---- numbers
 
@@ -213,14 +213,14 @@ pub fn rise(beats: &[f32]) -> bool
 }
 
 fn above(beat: f64, next: f64) -> usize
-    ensures { λ r. ⌜ r ≡ miss (λ (e : Float × Float). notAbove (e .0) (e .1)) (beat, next) ⌝ }
+    ensures { λ r. ⌜ r ≡ miss (λ (e : Float × Float). notFalling (e .0) (e .1)) (beat, next) ⌝ }
 {
     if next < beat { 1 } else { 0 }
 }
 
 // Whether no beat is above the next. Quantising keeps that.
 pub fn never_fall(beats: &[f64]) -> bool
-    ensures { λ r. ⌜ r ≡ everyTwo notAbove (now (beats .entry)) ⌝ }
+    ensures { λ r. ⌜ r ≡ everyTwo notFalling (now (beats .entry)) ⌝ }
 {
     let mut fail: usize = 0;
     let mut i = 0;

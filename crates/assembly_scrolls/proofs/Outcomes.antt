@@ -23,7 +23,7 @@ use Rattle.tidy_kept.proofs.ShortestColumn.{many-entries}
 use Rattle.tidy_scrolls.specs.ScrollTidying.{tidyScrolls, scrollsNumber, ScrollsTidied}
 use Rattle.tidy_scrolls.proofs.Outcomes.{number-of-list, ordered-number}
 use Rattle.assembly_rows.specs.AssembledRows.{narrowedEntry, narrowedFront}
-use Rattle.limits.specs.Neighbours.{everyTwo, notAbove}
+use Rattle.limits.specs.Neighbours.{everyTwo, notFalling}
 use Rattle.assembly_rows.proofs.InRowOrder.{rows-never-fall}
 use Rattle.assembly_rows.proofs.Outcomes.{refused-as, narrowed-result, number-in-room, number-as-tests}
 use Rattle.assembly_scrolls.specs.AssembledScrolls.{assembledScrolls, assembledScrollsNumber, ScrollsAssembled, scrollsRoomNumber}
@@ -65,7 +65,7 @@ module _ (beats values : List Float) where
   long-answered room h = sym (number-as-tests (assembledScrollsNumber beats values) (length (assembledScrolls beats values)) room (λ e. omega (arith, long-number h, e)) ∙ long-number h)
 
   -- ---- a taken list whose beats never fall
-  pub taken-at-once : (room : ℕ) → rowsNumber beats values ≡ 0 → everyTwo notAbove beats ≡ true → length beats ≤ room → 0 ≡ scrollsRoomNumber beats values room
+  pub taken-at-once : (room : ℕ) → rowsNumber beats values ≡ 0 → everyTwo notFalling beats ≡ true → length beats ≤ room → 0 ≡ scrollsRoomNumber beats values room
   taken-at-once room h t l =
       number-taken (assembledScrollsNumber beats values) (length (assembledScrolls beats values)) room
       (ordered-number (map quantized beats) values (scrolls-pass beats values h) (rows-never-fall beats (list-taken h .beatsIn) t)) (omega (arith, no-longer))

@@ -10,7 +10,7 @@ use lib.ListN.{length, length-map}
 use lib.Ieee.{Float, lt}
 use Rattle.picks.specs.Pick.{pick}
 use Rattle.rows.specs.Rows.{quantized}
-use Rattle.limits.specs.Neighbours.{everyTwo, notAbove}
+use Rattle.limits.specs.Neighbours.{everyTwo, notFalling}
 use Rattle.limits.proofs.ListTaken.{list-taken}
 use Rattle.order.proofs.Compare.{below?}
 use Rattle.columns.specs.declared.Outcome.{Outcome}
@@ -89,19 +89,19 @@ module _ (beats values : List Float) where
       pub untested-taken : ScrollsUntested beats values outcome beatsOld beatsNew valuesOld valuesNew → ScrollsAssembled beats values outcome beatsOld beatsNew valuesOld valuesNew
       untested-taken p = choose (scrollsByThemselves beats values) refl p
 
-    at-once : (room : ℕ) → length beats ≤ room → (ordered : Bool) → everyTwo notAbove beats ≡ ordered → pick ordered 0 (scrollsRoomNumber beats values room) ≡ scrollsRoomNumber beats values room
+    at-once : (room : ℕ) → length beats ≤ room → (ordered : Bool) → everyTwo notFalling beats ≡ ordered → pick ordered 0 (scrollsRoomNumber beats values room) ≡ scrollsRoomNumber beats values room
     at-once room l true e = taken-at-once beats values room h e l
     at-once room l false e = refl
 
     pub later-taken : (room : ℕ) → scrollsLater beats values room ≡ scrollsRoomNumber beats values room
     unfolding scrollsLater
-    later-taken room = ⊎-elim (λ l. rw (lt-leb (length beats) room l)) (λ l. rw (le-leb (length beats) room l) (at-once room l (everyTwo notAbove beats) refl)) (below? room (length beats))
+    later-taken room = ⊎-elim (λ l. rw (lt-leb (length beats) room l)) (λ l. rw (le-leb (length beats) room l) (at-once room l (everyTwo notFalling beats) refl)) (below? room (length beats))
 
 -- ---- the number, as it is asked
 pub later-short : (beats values : List Float) (room : ℕ) → room < length beats → scrollsRoomNumber beats values room ≡ scrollsLater beats values room
 unfolding scrollsLater
 later-short beats values room l = rw (lt-leb (length beats) room l)
 
-pub later-by : (beats values : List Float) (room : ℕ) (ordered : Bool) → length beats ≤ room → ordered ≡ everyTwo notAbove beats → pick ordered 0 (scrollsRoomNumber beats values room) ≡ scrollsLater beats values room
+pub later-by : (beats values : List Float) (room : ℕ) (ordered : Bool) → length beats ≤ room → ordered ≡ everyTwo notFalling beats → pick ordered 0 (scrollsRoomNumber beats values room) ≡ scrollsLater beats values room
 unfolding scrollsLater
 later-by beats values room ordered l e = rw (le-leb (length beats) room l, ← e)

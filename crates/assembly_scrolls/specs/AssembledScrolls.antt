@@ -8,7 +8,7 @@ use lib.Ieee.{Float, lt}
 use Rattle.limits.specs.Table.{mostEntries}
 use Rattle.picks.specs.Pick.{pick}
 use Rattle.rows.specs.Rows.{quantized}
-use Rattle.limits.specs.Neighbours.{everyTwo, notAbove}
+use Rattle.limits.specs.Neighbours.{everyTwo, notFalling}
 use Rattle.tidy_kept.specs.Near.{farFrom}
 use Rattle.columns.specs.declared.Outcome.{Outcome}
 use Rattle.columns.specs.Laying.{roomNumber, LaidPair}
@@ -34,7 +34,7 @@ scrollsRoomNumber beats values room = roomNumber (assembledScrollsNumber beats v
 
 -- the same of a list that is known to be taken: 0 at once where the room holds all that is given and no beat is above the next
 unfoldable pub scrollsLater : List Float → List Float → ℕ → ℕ
-scrollsLater beats values room = pick (leb (length beats) room) (pick (everyTwo notAbove beats) 0 (scrollsRoomNumber beats values room)) (scrollsRoomNumber beats values room)
+scrollsLater beats values room = pick (leb (length beats) room) (pick (everyTwo notFalling beats) 0 (scrollsRoomNumber beats values room)) (scrollsRoomNumber beats values room)
 
 -- ---- a list that is not tested first
 

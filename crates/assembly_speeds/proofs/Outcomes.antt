@@ -23,7 +23,7 @@ use Rattle.tidy_speeds_entries.proofs.Rooms.{refused-by-tests}
 use Rattle.tidy_speeds.specs.SpeedTidying.{speedListNumber, tidySpeeds, speedsNumber, SpeedsTidied}
 use Rattle.tidy_speeds.proofs.ListTaken.{speeds-taken}
 use Rattle.tidy_speeds.proofs.Outcomes.{ordered-number}
-use Rattle.limits.specs.Neighbours.{everyTwo, notAbove}
+use Rattle.limits.specs.Neighbours.{everyTwo, notFalling}
 use Rattle.assembly_rows.proofs.InRowOrder.{rows-never-fall}
 use Rattle.assembly_rows.proofs.Outcomes.{number-as-tests, number-with-room, number-in-room, tests-passed, given-same, room-same}
 use Rattle.assembly_scrolls.proofs.KeptNoLonger.{kept-few}
@@ -111,7 +111,7 @@ module _ (beats ratios delays : List Float) (units : List ℕ) where
       sym (number-as-tests (assembledSpeedsNumber beats ratios delays units) (length (assembledSpeeds beats ratios delays units)) room (λ e. omega (arith, long-number h, e)) ∙ long-number h)
 
   -- ---- a taken list whose beats never fall
-  pub taken-at-once : (room : ℕ) → speedListNumber beats ratios delays units ≡ 0 → everyTwo notAbove beats ≡ true → length beats ≤ room → 0 ≡ speedsRoomNumber beats ratios delays units room
+  pub taken-at-once : (room : ℕ) → speedListNumber beats ratios delays units ≡ 0 → everyTwo notFalling beats ≡ true → length beats ≤ room → 0 ≡ speedsRoomNumber beats ratios delays units room
   taken-at-once room h t l =
       number-taken (assembledSpeedsNumber beats ratios delays units) (length (assembledSpeeds beats ratios delays units)) room
       (ordered-number (map quantized beats) ratios delays units (speeds-pass beats ratios delays units h) (rows-never-fall beats (speeds-taken h .beatsIn) t)) (omega (arith, no-longer))

@@ -14,7 +14,7 @@ use Rattle.ieee.specs.Narrowing.{narrow}
 use Rattle.rows.specs.Rows.{quantized}
 use Rattle.limits.specs.declared.Kind.the-variants.{Beat}
 use Rattle.limits.specs.Numbers.{inRange, rangeOf, allIn}
-use Rattle.limits.specs.Neighbours.{everyTwo, notAbove}
+use Rattle.limits.specs.Neighbours.{everyTwo, notFalling}
 use Rattle.limits.proofs.Every.{every-rest}
 use Rattle.order.specs.Order.{laid}
 use Rattle.order.specs.Entries.{entries}
@@ -161,19 +161,19 @@ module _ (beats ratios delays : List Float) (units : List ℕ) where
       pub untested-taken : SpeedsUntested beats ratios delays units outcome beatsOld beatsNew ratiosOld ratiosNew delaysOld delaysNew unitsOld unitsNew → SpeedsAssembled beats ratios delays units outcome beatsOld beatsNew ratiosOld ratiosNew delaysOld delaysNew unitsOld unitsNew
       untested-taken p = choose (speedsByThemselves beats ratios delays units) refl p
 
-    at-once : (room : ℕ) → length beats ≤ room → (ordered : Bool) → everyTwo notAbove beats ≡ ordered → pick ordered 0 (speedsRoomNumber beats ratios delays units room) ≡ speedsRoomNumber beats ratios delays units room
+    at-once : (room : ℕ) → length beats ≤ room → (ordered : Bool) → everyTwo notFalling beats ≡ ordered → pick ordered 0 (speedsRoomNumber beats ratios delays units room) ≡ speedsRoomNumber beats ratios delays units room
     at-once room l true e = taken-at-once beats ratios delays units room h e l
     at-once room l false e = refl
 
     pub later-taken : (room : ℕ) → speedsLater beats ratios delays units room ≡ speedsRoomNumber beats ratios delays units room
     unfolding speedsLater
-    later-taken room = ⊎-elim (λ l. rw (lt-leb (length beats) room l)) (λ l. rw (le-leb (length beats) room l) (at-once room l (everyTwo notAbove beats) refl)) (below? room (length beats))
+    later-taken room = ⊎-elim (λ l. rw (lt-leb (length beats) room l)) (λ l. rw (le-leb (length beats) room l) (at-once room l (everyTwo notFalling beats) refl)) (below? room (length beats))
 
   -- ---- the number, as it is asked
   pub later-short : (room : ℕ) → room < length beats → speedsRoomNumber beats ratios delays units room ≡ speedsLater beats ratios delays units room
   unfolding speedsLater
   later-short room l = rw (lt-leb (length beats) room l)
 
-  pub later-by : (room : ℕ) (ordered : Bool) → length beats ≤ room → ordered ≡ everyTwo notAbove beats → pick ordered 0 (speedsRoomNumber beats ratios delays units room) ≡ speedsLater beats ratios delays units room
+  pub later-by : (room : ℕ) (ordered : Bool) → length beats ≤ room → ordered ≡ everyTwo notFalling beats → pick ordered 0 (speedsRoomNumber beats ratios delays units room) ≡ speedsLater beats ratios delays units room
   unfolding speedsLater
   later-by room ordered l e = rw (le-leb (length beats) room l, ← e)

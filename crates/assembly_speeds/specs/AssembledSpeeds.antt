@@ -9,7 +9,7 @@ use Rattle.limits.specs.Table.{mostEntries}
 use Rattle.picks.specs.Pick.{pick}
 use Rattle.ieee.specs.Narrowing.{narrow}
 use Rattle.rows.specs.Rows.{quantized}
-use Rattle.limits.specs.Neighbours.{everyTwo, notAbove}
+use Rattle.limits.specs.Neighbours.{everyTwo, notFalling}
 use Rattle.columns.specs.declared.Outcome.{Outcome}
 use Rattle.columns.specs.Laying.{roomNumber}
 use Rattle.tidy_speeds_entries.specs.Speed.{SpeedEntry, speedEntries}
@@ -40,7 +40,7 @@ speedsRoomNumber beats ratios delays units room = roomNumber (assembledSpeedsNum
 -- the same of a list that is known to be taken: 0 at once where the room holds all that is given and no beat is above the next
 unfoldable pub speedsLater : List Float → List Float → List Float → List ℕ → ℕ → ℕ
 speedsLater beats ratios delays units room =
-    pick (leb (length beats) room) (pick (everyTwo notAbove beats) 0 (speedsRoomNumber beats ratios delays units room)) (speedsRoomNumber beats ratios delays units room)
+    pick (leb (length beats) room) (pick (everyTwo notFalling beats) 0 (speedsRoomNumber beats ratios delays units room)) (speedsRoomNumber beats ratios delays units room)
 
 -- the first n entries of four columns, as f32
 abbrev pub narrowedSpeeds : ℕ → List Float → List Float → List Float → List ℕ → List SpeedEntry

@@ -14,7 +14,7 @@ use lib.Ieee.{Float, binary64}
 use Rattle.picks.specs.Pick.{pick}
 use Rattle.rows.specs.Rows.{row, mostRow}
 use Rattle.chart.specs.Timing.{Timing}
-use Rattle.clock_walk.specs.Walk.{one, left}
+use Rattle.clock_walk.specs.Walk.{one, eventsLeft}
 use Rattle.clock_walk.proofs.EventsSpent.{spent}
 use Rattle.clock_tests.specs.TimingNumbers.{timingNumber, beatNumber}
 use Rattle.clock_tests.specs.CursorNumbers.{freshMark}
@@ -63,14 +63,14 @@ le-through a b c h k = omega arith
 
 module _ (t : Timing) (offset global : Float) (taken : timingNumber t offset global ≡ 0) where
   abbrev rest : Cursor → ℕ
-  rest c = left (filled t) (c .state)
+  rest c = eventsLeft (filled t) (c .state)
 
   -- a walk begins with what the cursor has left, or where the row fell with all
-  begins-with : (c : Cursor) (r : ℤ) → left (filled t) (beginning c r offset global) ≤ rest c + one (ltZ r (c .asked)) * events t
+  begins-with : (c : Cursor) (r : ℤ) → eventsLeft (filled t) (beginning c r offset global) ≤ rest c + one (ltZ r (c .asked)) * events t
   unfolding beginning
   begins-with c r = go (ltZ r (c .asked))
     where
-      go : (x : Bool) → left (filled t) (pick x (freshState offset global) (c .state)) ≤ rest c + one x * events t
+      go : (x : Bool) → eventsLeft (filled t) (pick x (freshState offset global) (c .state)) ≤ rest c + one x * events t
       go true = rw (all-left t offset global) (within-all (rest c) (events t))
       go false = within-rest (rest c) (events t)
 

@@ -24,8 +24,8 @@ use Rattle.limits.proofs.ListTaken.{Taken}
 use Rattle.limits.proofs.TakenWithin.{taken-within}
 use Rattle.chart.specs.Timing.{Timing}
 use Rattle.clock_walk.specs.Events.{next}
-use Rattle.clock_walk.specs.Passing.{earlyTempo, timeTo, arrived, passed, step, afterWarpEnd, afterTempo, afterDelay, afterStop, afterWarp}
-use Rattle.clock_walk.specs.Walk.{isEvent, isNothing, due, left, timeAt, walkOn, walk}
+use Rattle.clock_walk.specs.Passing.{earlyTempo, timeTo, arrived, eventPassed, step, afterWarpEnd, afterTempo, afterDelay, afterStop, afterWarp}
+use Rattle.clock_walk.specs.Walk.{isEvent, isNothing, due, eventsLeft, timeAt, walkOn, walk}
 use Rattle.chart.specs.declared.State.{State}
 use Rattle.clock_walk.specs.declared.Next.{Next}
 use Rattle.clock_walk.specs.declared.Event.{Event}
@@ -68,7 +68,7 @@ pub record Fine (t : Timing) (s : State) (n : ℕ) : Type 0 where
   pub near : natAbs (s .row) ≤ mostRow
   pub time : AtMost (spans (spansAfter n)) (s .time)
   pub end : EndFine (s .end)
-  pub few : n + left t s ≤ mostEvents
+  pub few : n + eventsLeft t s ≤ mostEvents
 
 pub spans-of-format : (k : ℕ) → k ≤ 2 ^ 20 → OfFormat binary64 (spans k)
 spans-of-format k h = digits-of-format binary64 k 50 (omega arith) (lit≤ tt)
@@ -145,7 +145,7 @@ module _ (t : Timing) (lists : ListsTaken t) (r : ℤ) (asked : natAbs r ≤ mos
         (at-most-wider (lit≤ tt) (time-between early (t .tempoValues) s there (f .near) (next-near s (f .end)) force)) (omega arith)
 
     fine-step : (s : State) (n : ℕ) → due t r s ≡ true → Fine t s n → Fine t (step early t r s) (n + 1)
-    unfolding passed
+    unfolding eventPassed
     fine-step s n d f =
         let few = f .few in
         let less = left-falls early t r s d in

@@ -10,12 +10,12 @@ use Rattle.ieee.specs.Constants.{plusZero, sixty}
 use Rattle.ieee.specs.Rounding.{rint, hold}
 use Rattle.chart.specs.Timing.{Timing, timing}
 use Rattle.clock_walk.specs.Events.{sooner, offered, endOffered, nextEvent}
-use Rattle.clock_walk.specs.Passing.{lastUpTo, tempoAt, earlyTempo, inForce, timeTo, afterWarpEnd, afterTempo, afterDelay, afterStop, larger, afterWarp, passed}
+use Rattle.clock_walk.specs.Passing.{lastUpTo, tempoAt, earlyTempo, inForce, timeTo, afterWarpEnd, afterTempo, afterDelay, afterStop, larger, afterWarp, eventPassed}
 use Rattle.clock_walk.specs.Walk.{timeAt, walkWithin, walkOn, walk}
 use Rattle.clock_walk.proofs.EventsSpent.{spent}
 use Rattle.limits.specs.Numbers.{inRange, every}
 use Rattle.limits.specs.Refusals.{lower, listNumber}
-use Rattle.clock_tests.specs.TimingNumbers.{risesFrom, rises, startsAtZero, listsNumber, offsetNumber, offsetsNumber, orderNumber, timingNumber}
+use Rattle.clock_tests.specs.TimingNumbers.{risesFrom, rises, startsAtZero, timingListsNumber, offsetNumber, offsetsNumber, orderNumber, timingNumber}
 use Rattle.clock.specs.Question.{filled, temposOf, freshState}
 use Rattle.clock_histories.specs.Costs.{events}
 use Rattle.clock_histories.proofs.WithATempo.{all-left}
@@ -31,10 +31,10 @@ abbrev pub small : Timing
 small = timing (plusZero ∷ []) (sixty ∷ []) (one ∷ []) (one ∷ []) (one ∷ []) (one ∷ []) (fin false 1 (pos 1) ∷ []) (one ∷ [])
 
 pub events-all-passed : walk (filled small) (pos 192) (freshState plusZero plusZero) .passed ≡ events small
-unfolding filled temposOf freshState walk walkOn walkWithin timeAt earlyTempo tempoAt lastUpTo inForce timeTo passed afterWarpEnd afterTempo afterDelay afterStop afterWarp larger nextEvent sooner offered endOffered rint hold add sub neg mul div ofInt lt le sum
+unfolding filled temposOf freshState walk walkOn walkWithin timeAt earlyTempo tempoAt lastUpTo inForce timeTo eventPassed afterWarpEnd afterTempo afterDelay afterStop afterWarp larger nextEvent sooner offered endOffered rint hold add sub neg mul div ofInt lt le sum
 events-all-passed = refl
 
 -- a timing that is taken
 pub small-taken : timingNumber small plusZero plusZero ≡ 0
-unfolding timingNumber listsNumber offsetsNumber offsetNumber orderNumber listNumber lower inRange every rises risesFrom startsAtZero rint hold mul ofInt neg lt le eq
+unfolding timingNumber timingListsNumber offsetsNumber offsetNumber orderNumber listNumber lower inRange every rises risesFrom startsAtZero rint hold mul ofInt neg lt le eq
 small-taken = refl

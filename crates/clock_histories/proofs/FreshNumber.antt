@@ -16,7 +16,7 @@ use Rattle.limits.specs.declared.Kind.the-variants.{Beat, Tempo, Pause, Value, 
 use Rattle.limits.specs.declared.Range.{Range}
 use Rattle.limits.proofs.NoRefusal.{none-lower}
 use Rattle.chart.specs.Timing.{Timing}
-use Rattle.clock_tests.specs.TimingNumbers.{rises, startsAtZero, listsNumber, offsetNumber, offsetsNumber, orderNumber, timingNumber, beatNumber}
+use Rattle.clock_tests.specs.TimingNumbers.{rises, startsAtZero, timingListsNumber, offsetNumber, offsetsNumber, orderNumber, timingNumber, beatNumber}
 use Rattle.clock_tests.specs.CursorNumbers.{placesIn, rowsIn, endIn, cursorNumber}
 use Rattle.clock.specs.Question.{temposOf, freshCursor, refusedWith, byNumber, reply, cursorRefusal, playerNumber, questionNumber, question}
 use Rattle.clock.specs.declared.Cursor.{Cursor}
@@ -66,7 +66,7 @@ order-at-most t = go (rises (t .tempoBeats)) (rises (t .stopBeats)) (rises (t .d
     go false b c d e = omega arith
 
 timing-at-most : (t : Timing) (offset global : Float) → timingNumber t offset global ≤ 5
-unfolding timingNumber listsNumber offsetsNumber
+unfolding timingNumber timingListsNumber offsetsNumber
 timing-at-most t offset global =
     let tempos = list-at-most (rangeOf Beat) (rangeOf Tempo) (t .tempoBeats) (t .tempoValues) in
     let stops = list-at-most (rangeOf Beat) (rangeOf Pause) (t .stopBeats) (t .stopValues) in

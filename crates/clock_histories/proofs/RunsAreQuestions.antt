@@ -12,7 +12,7 @@ use Rattle.clock.specs.Question.{asking}
 use Rattle.clock.specs.History.{asks, History, answers, lastCursor, numberOf, timeOf}
 use Rattle.clock.specs.declared.Cursor.{Cursor}
 use Rattle.clock.specs.declared.Answer.{Answer}
-use Rattle.clock_run.specs.Run.{runOf, roomNumber, runNumber, RunLaid}
+use Rattle.clock_run.specs.Run.{runOf, runRoomNumber, runNumber, RunLaid}
 use Rattle.clock_run.specs.declared.Ran.{Ran}
 use Rattle.clock_histories.specs.Costs.{beatsOf}
 use Rattle.clock_histories.specs.Demand.{used, alone}
@@ -51,11 +51,11 @@ module _ (t : Timing) (offset global : Float) (taken : timingNumber t offset glo
 
   -- ---- the run
   -- it is refused for its room alone
-  pub room-decides : (before : History) (beats numbers times counts : ℕ) → runNumber t offset global (used t offset global before) beats numbers times counts ≡ roomNumber beats numbers times counts
+  pub room-decides : (before : History) (beats numbers times counts : ℕ) → runNumber t offset global (used t offset global before) beats numbers times counts ≡ runRoomNumber beats numbers times counts
   unfolding runNumber
   room-decides before beats numbers times counts =
       rw (taken, fine t offset global taken (used t offset global before) (used-comes t offset global taken before))
-      (none-lower _ ∙ lower-than-none (roomNumber beats numbers times counts))
+      (none-lower _ ∙ lower-than-none (runRoomNumber beats numbers times counts))
 
   module _ (before history : History) {ran : Ran} {numbersOld numbersNew : List ℕ} {timesOld timesNew : List Float} {countsOld countsNew : List ℕ} where
     pub run-is-its-questions : RunLaid t offset global (used t offset global before) (beatsOf history) ran numbersOld numbersNew timesOld timesNew countsOld countsNew → ran .number ≡ 0

@@ -11,7 +11,7 @@ use lib.Ieee.{Float}
 use Rattle.ieee.specs.Constants.{plusZero, sixty}
 use Rattle.picks.specs.Pick.{pick}
 use Rattle.chart.specs.Timing.{Timing}
-use Rattle.clock_walk.specs.Walk.{left}
+use Rattle.clock_walk.specs.Walk.{eventsLeft}
 use Rattle.clock.specs.Question.{filled, temposOf, freshState}
 use Rattle.clock_histories.specs.Costs.{events}
 
@@ -54,6 +54,6 @@ pub warps-filled : (t : Timing) → filled t .warpBeats ≡ t .warpBeats
 warps-filled t = of-filled (λ (f : Timing). f .warpBeats ≡ t .warpBeats) t refl (λ _. refl)
 
 -- what a fresh state has left: all events
-pub all-left : (t : Timing) (offset global : Float) → left (filled t) (freshState offset global) ≡ events t
+pub all-left : (t : Timing) (offset global : Float) → eventsLeft (filled t) (freshState offset global) ≡ events t
 unfolding freshState
 all-left t offset global = rw (tempos-filled t, stops-filled t, delays-filled t, warps-filled t) (omega arith)

@@ -14,7 +14,7 @@ use Rattle.ieee.specs.Constants.{plusZero, sixty}
 use Rattle.picks.specs.Pick.{pick}
 use Rattle.rows.specs.Rows.{row}
 use Rattle.chart.specs.Timing.{Timing}
-use Rattle.clock_walk.specs.Passing.{inForce, timeTo, passed, afterTempo}
+use Rattle.clock_walk.specs.Passing.{inForce, timeTo, eventPassed, afterTempo}
 use Rattle.clock_walk.specs.Walk.{walk}
 use Rattle.clock_walk.specs.Quiet.{farthest, rowAt, endRow}
 use Rattle.clock_walk.specs.Soon.{tempoPassed, rowAfter}
@@ -26,22 +26,22 @@ use Rattle.clock_tests.specs.TimingNumbers.{beatNumber}
 use Rattle.clock.specs.Question.{filled, beginning, reply, asking}
 use Rattle.clock.specs.declared.Cursor.{Cursor}
 use Rattle.clock.specs.declared.Answer.{Answer}
-use Rattle.clock_run.specs.Ahead.{least, restUntil, blind, lookOn, lookAhead, isBefore, quietTime, pastOne, pastNone, pastTempo}
+use Rattle.clock_run.specs.Ahead.{lesserRow, restUntil, blind, lookOn, lookAhead, isBefore, quietTime, pastOne, pastNone, pastTempo}
 use Rattle.clock_run.specs.declared.Ahead.{Ahead}
 use Rattle.clock_run.specs.declared.Past.{Past}
 use Rattle.clock_walk.proofs.RowOrder.{no, lt-le, lt-not}
 
 module _ (r : ℤ) where
-  below-left : (a b : ℤ) → ltZ r (least a b) ≡ true → ltZ r a ≡ true
-  unfolding least
+  below-left : (a b : ℤ) → ltZ r (lesserRow a b) ≡ true → ltZ r a ≡ true
+  unfolding lesserRow
   below-left a b h = go (ltZ a b) refl h
     where
       go : (x : Bool) → ltZ a b ≡ x → ltZ r (pick x a b) ≡ true → ltZ r a ≡ true
       go true e h = h
       go false e h = lt-le r b a h e
 
-  below-right : (a b : ℤ) → ltZ r (least a b) ≡ true → ltZ r b ≡ true
-  unfolding least
+  below-right : (a b : ℤ) → ltZ r (lesserRow a b) ≡ true → ltZ r b ≡ true
+  unfolding lesserRow
   below-right a b h = go (ltZ a b) refl h
     where
       go : (x : Bool) → ltZ a b ≡ x → ltZ r (pick x a b) ≡ true → ltZ r b ≡ true
@@ -91,7 +91,7 @@ module _ (known : Bool) (until last : ℤ) (beat : Float) (r : ℤ) where
 abbrev sight : (tempoBeats tempoValues : List Float) → State → ℤ → Ahead
 sight tempoBeats tempoValues s rest = record {
   known = true;
-  row = least (rowAt tempoBeats (s .tempos)) rest;
+  row = lesserRow (rowAt tempoBeats (s .tempos)) rest;
   rest = rest;
   rate = div binary64 (getD tempoValues (s .tempos - 1) nan) sixty;
 }
@@ -159,7 +159,7 @@ module _ (t : Timing) (offset global : Float) (c : Cursor) (beat : Float) where
 
   -- the answer that a state gives without a walk, so many events being passed
   abbrev pub quietly : ℕ → State → Float → Answer
-  quietly passed s rate = record { number = 0; time = sub binary64 (quietTime s rate (row binary64 beat)) global; count = passed + 1; cursor = record { state = s; asked = row binary64 beat } }
+  quietly eventPassed s rate = record { number = 0; time = sub binary64 (quietTime s rate (row binary64 beat)) global; count = eventPassed + 1; cursor = record { state = s; asked = row binary64 beat } }
 
   pub quiet-answer : (ahead : Ahead) → Sees t (c .state) ahead → isBefore (ahead .known) (ahead .row) (c .asked) beat (row binary64 beat) ≡ true
       → quietly 0 (c .state) (ahead .rate) ≡ asking t c offset global beat
@@ -167,7 +167,7 @@ module _ (t : Timing) (offset global : Float) (c : Cursor) (beat : Float) where
       let r = row binary64 beat in
       let asked = before-is (ahead .known) (ahead .row) (c .asked) beat r h in
       let sight = all-seen t (c .state) ahead sees (asked .1) in
-      let before : ltZ r (least (rowAt (t .tempoBeats) (c .state .tempos)) (restOf t (c .state))) ≡ true = ap (λ (a : Ahead). ltZ r (a .row)) (sym (sight .whole)) ∙ asked .3 in
+      let before : ltZ r (lesserRow (rowAt (t .tempoBeats) (c .state .tempos)) (restOf t (c .state))) ≡ true = ap (λ (a : Ahead). ltZ r (a .row)) (sym (sight .whole)) ∙ asked .3 in
       let o = others r t (c .state) (below-right r (rowAt (t .tempoBeats) (c .state .tempos)) (restOf t (c .state)) before) in
       let walked = none-soon t r (c .state) (sight .passed-one) o (below-left r (rowAt (t .tempoBeats) (c .state .tempos)) (restOf t (c .state)) before) in
       ap (λ (a : Ahead). quietly 0 (c .state) (a .rate)) (sight .whole)
@@ -181,7 +181,7 @@ pub past-few : (tempoBeats tempoValues stopValues delayValues warpBeats warpLeng
     → pastTempo tempoBeats tempoValues stopValues delayValues warpBeats warpLengths ahead c beat r .passed ≤ 1
 unfolding pastTempo
 past-few tempoBeats tempoValues stopValues delayValues warpBeats warpLengths ahead c beat r =
-    go (isBefore (ahead .known) (least (rowAfter tempoBeats (c .state .tempos)) (ahead .rest)) (c .asked) beat r) (ltb (c .state .tempos) (length tempoBeats)) (ltb (c .state .tempos) (length tempoValues))
+    go (isBefore (ahead .known) (lesserRow (rowAfter tempoBeats (c .state .tempos)) (ahead .rest)) (c .asked) beat r) (ltb (c .state .tempos) (length tempoBeats)) (ltb (c .state .tempos) (length tempoValues))
   where
     moved : State
     moved = tempoPassed tempoBeats tempoValues stopValues delayValues warpBeats warpLengths (c .state) (ahead .row)
@@ -194,16 +194,16 @@ past-few tempoBeats tempoValues stopValues delayValues warpBeats warpLengths ahe
     go false y z = omega arith
 
 rest-stays : (t : Timing) (s : State) (at : ℤ) → restOf t (past t s at) ≡ restOf t s
-unfolding restUntil tempoPassed passed afterTempo
+unfolding restUntil tempoPassed eventPassed afterTempo
 rest-stays t s at = go (ltb (s .tempos) (length (t .tempoBeats)))
   where
-    go : (b : Bool) → restOf t (pick b (passed plusZero (t .tempoValues) (t .stopValues) (t .delayValues) (t .warpBeats) (t .warpLengths) s (record { row = at; kind = Tempo })) s) ≡ restOf t s
+    go : (b : Bool) → restOf t (pick b (eventPassed plusZero (t .tempoValues) (t .stopValues) (t .delayValues) (t .warpBeats) (t .warpLengths) s (record { row = at; kind = Tempo })) s) ≡ restOf t s
     go true = refl
     go false = refl
 
 -- where a row is before the rest and not before what is next, a tempo is next
-is-tempo : (r tempo rest : ℤ) → ltZ r rest ≡ true → ltZ r (least tempo rest) ≡ false → least tempo rest ≡ tempo
-unfolding least
+is-tempo : (r tempo rest : ℤ) → ltZ r rest ≡ true → ltZ r (lesserRow tempo rest) ≡ false → lesserRow tempo rest ≡ tempo
+unfolding lesserRow
 is-tempo r tempo rest before behind = go (ltZ tempo rest) refl behind
   where
     go : (b : Bool) → ltZ tempo rest ≡ b → ltZ r (pick b tempo rest) ≡ false → pick b tempo rest ≡ tempo
@@ -223,11 +223,11 @@ module _ (t : Timing) (offset global : Float) (c : Cursor) (beat : Float) (ahead
   on = lookOn (t .tempoBeats) (t .tempoValues) moved (ahead .rest)
 
   abbrev until : ℤ
-  until = least (rowAfter (t .tempoBeats) (c .state .tempos)) (ahead .rest)
+  until = lesserRow (rowAfter (t .tempoBeats) (c .state .tempos)) (ahead .rest)
 
   module _ (inBeats : ltb (c .state .tempos) (length (t .tempoBeats)) ≡ true) where
     next-place : moved .tempos ≡ c .state .tempos + 1
-    unfolding tempoPassed passed afterTempo
+    unfolding tempoPassed eventPassed afterTempo
     next-place = rw inBeats
 
     after-next : rowAfter (t .tempoBeats) (c .state .tempos) ≡ rowAt (t .tempoBeats) (moved .tempos)
@@ -243,7 +243,7 @@ module _ (t : Timing) (offset global : Float) (c : Cursor) (beat : Float) (ahead
         let asked = before-is (ahead .known) until (c .asked) beat r h in
         let sight = all-seen t s ahead sees (asked .1) in
         let isRest : ahead .rest ≡ restOf t s = ap (λ (a : Ahead). a .rest) (sight .whole) in
-        let isRow : ahead .row ≡ least tempo (restOf t s) = ap (λ (a : Ahead). a .row) (sight .whole) in
+        let isRow : ahead .row ≡ lesserRow tempo (restOf t s) = ap (λ (a : Ahead). a .row) (sight .whole) in
         let before : ltZ r (restOf t s) ≡ true = ap (λ (z : ℤ). ltZ r z) (sym isRest) ∙ below-right r (rowAfter (t .tempoBeats) (s .tempos)) (ahead .rest) (asked .3) in
         let notRow : ltZ r (ahead .row) ≡ false = not-before (ahead .known) (ahead .row) (c .asked) beat r behind (asked .0) (asked .1) (asked .2) in
         let isTempo : ahead .row ≡ tempo = isRow ∙ is-tempo r tempo (restOf t s) before (ap (λ (z : ℤ). ltZ r z) (sym isRow) ∙ notRow) in

@@ -16,7 +16,7 @@ use Rattle.clock_tests.specs.TimingNumbers.{timingNumber}
 use Rattle.clock.specs.Question.{cursorRefusal}
 use Rattle.clock.specs.History.{lastCursor}
 use Rattle.clock.specs.declared.Cursor.{Cursor}
-use Rattle.clock_run.specs.Run.{roomNumber, runNumber, RunLaid}
+use Rattle.clock_run.specs.Run.{runRoomNumber, runNumber, RunLaid}
 use Rattle.clock_run.specs.Asked.{AllAsked}
 
 has-room : (b : Bool) → _≡_ {A = ℕ} (pick b 0 7) 0 → b ≡ true
@@ -25,7 +25,7 @@ has-room false h = absurd (omega arith)
 
 module _ (t : Timing) (offset global : Float) (c : Cursor) (beats : List Float) (numbers : List ℕ) (times : List Float) (counts : List ℕ) where
   shortest : runNumber t offset global c (length beats) (length numbers) (length times) (length counts) ≡ 0 → length beats ≤ min (length numbers) (min (length times) (length counts))
-  unfolding runNumber roomNumber
+  unfolding runNumber runRoomNumber
   shortest h =
       let later = lower-none (timingNumber t offset global) _ h .1 in
       leb-true _ _ (has-room _ (lower-none _ (cursorRefusal t c) later .0))

@@ -19,14 +19,14 @@ use Rattle.clock.specs.declared.Cursor.{Cursor}
 use Rattle.clock_run.specs.declared.Ahead.{Ahead}
 use Rattle.clock_run.specs.declared.Past.{Past}
 
-unfoldable pub least : ℤ → ℤ → ℤ
-least a b = pick (ltZ a b) a b
+unfoldable pub lesserRow : ℤ → ℤ → ℤ
+lesserRow a b = pick (ltZ a b) a b
 
 -- the row of the next event that is no tempo
 unfoldable pub restUntil : (stopBeats delayBeats warpBeats : List Float) → State → ℤ
 restUntil stopBeats delayBeats warpBeats s =
-    least farthest
-    (least (endRow (s .warping) (s .end)) (least (rowAt delayBeats (s .delays)) (least (rowAt stopBeats (s .stops)) (rowAt warpBeats (s .warps)))))
+    lesserRow farthest
+    (lesserRow (endRow (s .warping) (s .end)) (lesserRow (rowAt delayBeats (s .delays)) (lesserRow (rowAt stopBeats (s .stops)) (rowAt warpBeats (s .warps)))))
 
 abbrev pub blind : Ahead
 blind = record { known = false; row = pos 0; rest = pos 0; rate = plusZero }
@@ -38,7 +38,7 @@ lookOn tempoBeats tempoValues s rest =
     (pick (ltb (s .tempos - 1) (length tempoValues))
     (record {
       known = true;
-      row = least (rowAt tempoBeats (s .tempos)) rest;
+      row = lesserRow (rowAt tempoBeats (s .tempos)) rest;
       rest = rest;
       rate = div binary64 (getD tempoValues (s .tempos - 1) nan) sixty;
     })
@@ -65,7 +65,7 @@ pastNone ahead s = record { passed = 0; state = s; ahead = ahead }
 -- the next tempo passed, where there is one and a beat is before all that follows it
 unfoldable pub pastTempo : (tempoBeats tempoValues stopValues delayValues warpBeats warpLengths : List Float) → Ahead → Cursor → Float → ℤ → Past
 pastTempo tempoBeats tempoValues stopValues delayValues warpBeats warpLengths ahead c beat asked =
-    pick (isBefore (ahead .known) (least (rowAfter tempoBeats (c .state .tempos)) (ahead .rest)) (c .asked) beat asked)
+    pick (isBefore (ahead .known) (lesserRow (rowAfter tempoBeats (c .state .tempos)) (ahead .rest)) (c .asked) beat asked)
     (pick (ltb (c .state .tempos) (length tempoBeats))
     (pick (ltb (c .state .tempos) (length tempoValues))
     (pastOne tempoBeats tempoValues (ahead .rest) (tempoPassed tempoBeats tempoValues stopValues delayValues warpBeats warpLengths (c .state) (ahead .row)))

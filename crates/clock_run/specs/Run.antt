@@ -23,13 +23,13 @@ runOf beats = map (λ (beat : Float). (ofBeat, beat)) beats
 -- ---- the number of the run itself
 
 -- 7 where the beats are more than the shortest of the three columns has room for
-unfoldable pub roomNumber : (beats numbers times counts : ℕ) → ℕ
-roomNumber beats numbers times counts = pick (leb beats (min numbers (min times counts))) 0 noRoom
+unfoldable pub runRoomNumber : (beats numbers times counts : ℕ) → ℕ
+runRoomNumber beats numbers times counts = pick (leb beats (min numbers (min times counts))) 0 noRoom
 
 -- the timing, the room and the cursor are tested once; beats are not tested here
 unfoldable pub runNumber : Timing → Float → Float → Cursor → (beats numbers times counts : ℕ) → ℕ
 runNumber t offset global c beats numbers times counts =
-    lower (timingNumber t offset global) (lower (roomNumber beats numbers times counts) (cursorRefusal t c))
+    lower (timingNumber t offset global) (lower (runRoomNumber beats numbers times counts) (cursorRefusal t c))
 
 -- ---- the one outcome: the number, the cursor, and the three columns to their last place
 

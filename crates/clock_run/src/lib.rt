@@ -5,9 +5,9 @@ ghost use mathlib.Core.Path.{_≡_};
 ghost use Prim.Native.Nat.{_≤_};
 ghost use lib.ListN.{length};
 ghost use Rattle.chart.specs.Timing.{timing};
-ghost use Rattle.clock_run.specs.Run.{roomNumber, RunLaid};
+ghost use Rattle.clock_run.specs.Run.{runRoomNumber, RunLaid};
 ghost use Rattle.clock_run.specs.Asked.{AllAsked};
-ghost use Rattle.clock_run.specs.Ahead.{least, restUntil, lookOn, lookAhead, isBefore, quietTime, pastTempo};
+ghost use Rattle.clock_run.specs.Ahead.{lesserRow, restUntil, lookOn, lookAhead, isBefore, quietTime, pastTempo};
 
 // The run's number, and the cursor after its last beat; after a refusal the cursor that was lent.
 #[repr(C)]
@@ -18,7 +18,7 @@ pub struct Ran {
 
 // 7 where there are more beats than the shortest column has room for.
 fn room_number(beats: usize, numbers: usize, times: usize, counts: usize) -> u32
-    ensures { λ r. ⌜ r ≡ roomNumber beats numbers times counts ⌝ }
+    ensures { λ r. ⌜ r ≡ runRoomNumber beats numbers times counts ⌝ }
 {
     let room = columns::room_of(numbers, columns::room_of(times, counts));
     if beats <= room {
@@ -39,7 +39,7 @@ struct Ahead {
 }
 
 fn least_of(one: i32, other: i32) -> i32
-    ensures { λ r. ⌜ r ≡ least one other ⌝ }
+    ensures { λ r. ⌜ r ≡ lesserRow one other ⌝ }
 {
     if one < other {
         return one;

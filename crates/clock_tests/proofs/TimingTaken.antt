@@ -11,7 +11,7 @@ use Rattle.limits.specs.declared.Kind.the-variants.{Beat, Tempo, Pause, Value, 
 use Rattle.limits.proofs.NoRefusal.{lower-none}
 use Rattle.limits.proofs.ListTaken.{Taken, list-taken}
 use Rattle.chart.specs.Timing.{Timing}
-use Rattle.clock_tests.specs.TimingNumbers.{rises, startsAtZero, listsNumber, offsetNumber, offsetsNumber, orderNumber, timingNumber, beatNumber}
+use Rattle.clock_tests.specs.TimingNumbers.{rises, startsAtZero, timingListsNumber, offsetNumber, offsetsNumber, orderNumber, timingNumber, beatNumber}
 
 pub record TimingTaken (t : Timing) (offset global : Float) : Type 0 where
   pub tempos : Taken (rangeOf Beat) (rangeOf Tempo) (t .tempoBeats) (t .tempoValues)
@@ -40,9 +40,9 @@ by-order true true true false e h = absurd (omega arith)
 by-order true true true true false h = absurd (omega arith)
 
 pub timing-taken : {t : Timing} {offset global : Float} → timingNumber t offset global ≡ 0 → TimingTaken t offset global
-unfolding timingNumber listsNumber offsetsNumber offsetNumber orderNumber
+unfolding timingNumber timingListsNumber offsetsNumber offsetNumber orderNumber
 timing-taken {t} {offset} {global} h =
-    let all = lower-none (listsNumber t) _ h in
+    let all = lower-none (timingListsNumber t) _ h in
     let tempos = lower-none (listNumber (rangeOf Beat) (rangeOf Tempo) (t .tempoBeats) (t .tempoValues)) _ (all .0) in
     let stops = lower-none (listNumber (rangeOf Beat) (rangeOf Pause) (t .stopBeats) (t .stopValues)) _ (tempos .1) in
     let delays = lower-none (listNumber (rangeOf Beat) (rangeOf Pause) (t .delayBeats) (t .delayValues)) _ (stops .1) in

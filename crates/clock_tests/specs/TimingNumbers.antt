@@ -31,8 +31,8 @@ startsAtZero [] = true
 startsAtZero (beat ∷ beats) = eq beat plusZero
 
 -- 1 to 4, the lowest over the four lists
-unfoldable pub listsNumber : Timing → ℕ
-listsNumber t =
+unfoldable pub timingListsNumber : Timing → ℕ
+timingListsNumber t =
     lower (listNumber (rangeOf Beat) (rangeOf Tempo) (t .tempoBeats) (t .tempoValues))
     (lower (listNumber (rangeOf Beat) (rangeOf Pause) (t .stopBeats) (t .stopValues))
     (lower (listNumber (rangeOf Beat) (rangeOf Pause) (t .delayBeats) (t .delayValues)) (listNumber (rangeOf Beat) (rangeOf Value) (t .warpBeats) (t .warpLengths))))
@@ -55,7 +55,7 @@ orderNumber t =
 
 -- The number that a timing and its offsets answer: 0 to 5.
 unfoldable pub timingNumber : Timing → Float → Float → ℕ
-timingNumber t offset global = lower (listsNumber t) (lower (offsetsNumber offset global) (orderNumber t))
+timingNumber t offset global = lower (timingListsNumber t) (lower (offsetsNumber offset global) (orderNumber t))
 
 -- 3 for an asked beat beyond the limit
 unfoldable pub beatNumber : Float → ℕ

@@ -6,7 +6,7 @@ ghost use lib.Ieee.{binary64};
 ghost use lib.Ieee.Scale.{finite};
 ghost use Rattle.rows.specs.Rows.{row};
 ghost use Rattle.chart.specs.Timing.{timing};
-ghost use Rattle.clock_tests.specs.TimingNumbers.{rises, startsAtZero, listsNumber, offsetNumber, offsetsNumber, orderNumber, timingNumber, beatNumber};
+ghost use Rattle.clock_tests.specs.TimingNumbers.{rises, startsAtZero, timingListsNumber, offsetNumber, offsetsNumber, orderNumber, timingNumber, beatNumber};
 ghost use Rattle.clock_tests.specs.CursorNumbers.{placesIn, rowsIn, endIn, timeAndEndIn, cursorNumber};
 
 // ---- the timing
@@ -57,7 +57,7 @@ fn lists_number(
     warp_beats: &[f32],
     warp_lengths: &[f32],
 ) -> u32
-    ensures { λ r. ⌜ r ≡ listsNumber (timing (now («tempo_beats» .entry)) (now («tempo_values» .entry)) (now («stop_beats» .entry)) (now («stop_values» .entry)) (now («delay_beats» .entry)) (now («delay_values» .entry)) (now («warp_beats» .entry)) (now («warp_lengths» .entry))) ⌝ }
+    ensures { λ r. ⌜ r ≡ timingListsNumber (timing (now («tempo_beats» .entry)) (now («tempo_values» .entry)) (now («stop_beats» .entry)) (now («stop_values» .entry)) (now («delay_beats» .entry)) (now («delay_values» .entry)) (now («warp_beats» .entry)) (now («warp_lengths» .entry))) ⌝ }
 {
     let tempos = limits_f32::list_number_f32(Kind::Beat, Kind::Tempo, tempo_beats, tempo_values);
     let stops = limits_f32::list_number_f32(Kind::Beat, Kind::Pause, stop_beats, stop_values);

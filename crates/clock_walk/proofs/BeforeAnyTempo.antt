@@ -14,8 +14,8 @@ use Rattle.picks.specs.Pick.{pick}
 use Rattle.rows.specs.Rows.{row}
 use Rattle.chart.specs.Timing.{Timing}
 use Rattle.clock_walk.specs.Events.{sooner, offered, nextEvent, next}
-use Rattle.clock_walk.specs.Passing.{arrived, passed, step, afterWarpEnd, afterTempo, afterDelay, afterStop, afterWarp}
-use Rattle.clock_walk.specs.Walk.{isEvent, due, left, walkWithin, walkOn}
+use Rattle.clock_walk.specs.Passing.{arrived, eventPassed, step, afterWarpEnd, afterTempo, afterDelay, afterStop, afterWarp}
+use Rattle.clock_walk.specs.Walk.{isEvent, due, eventsLeft, walkWithin, walkOn}
 use Rattle.chart.specs.declared.State.{State}
 use Rattle.clock_walk.specs.declared.Next.{Next}
 use Rattle.clock_walk.specs.declared.Event.{Event}
@@ -35,7 +35,7 @@ row-at t s at time Asked h = no h
 row-at t s at time NotFound h = no h
 
 pub step-row : (early : Float) (t : Timing) (r : ℤ) (s : State) → due t r s ≡ true → step early t r s .row ≡ next t r s .row
-unfolding passed
+unfolding eventPassed
 step-row early t r s e = row-at t s (next t r s .row) _ (next t r s .kind) e
 
 -- at most a row
@@ -112,4 +112,4 @@ module _ (early : Float) (t : Timing) (some : 0 < length (t .tempoBeats)) (first
 
   pub stays-early : (r : ℤ) (s : State) (n : ℕ) → Early s → Early (walkOn early t r s n .state)
   unfolding walkOn
-  stays-early r s n h = early-within (left t s) (due t r s) r s n refl h
+  stays-early r s n h = early-within (eventsLeft t s) (due t r s) r s n refl h

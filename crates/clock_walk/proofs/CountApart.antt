@@ -6,7 +6,7 @@ use lib.IntN.{ℤ}
 use lib.Ieee.{Float}
 use Rattle.chart.specs.Timing.{Timing}
 use Rattle.clock_walk.specs.Passing.{step}
-use Rattle.clock_walk.specs.Walk.{due, left, walkWithin, walkOn}
+use Rattle.clock_walk.specs.Walk.{due, eventsLeft, walkWithin, walkOn}
 use Rattle.chart.specs.declared.State.{State}
 
 module _ (early : Float) (t : Timing) (r : ℤ) where
@@ -24,8 +24,8 @@ module _ (early : Float) (t : Timing) (r : ℤ) where
 
   pub same-state : (s : State) (m n : ℕ) → walkOn early t r s m .state ≡ walkOn early t r s n .state
   unfolding walkOn
-  same-state s m n = state-within (left t s) (due t r s) s m n
+  same-state s m n = state-within (eventsLeft t s) (due t r s) s m n
 
   pub same-time : (s : State) (m n : ℕ) → walkOn early t r s m .time ≡ walkOn early t r s n .time
   unfolding walkOn
-  same-time s m n = time-within (left t s) (due t r s) s m n
+  same-time s m n = time-within (eventsLeft t s) (due t r s) s m n

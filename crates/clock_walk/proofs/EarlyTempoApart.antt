@@ -9,8 +9,8 @@ use lib.IntN.{ℤ}
 use lib.Ieee.{Float, add, binary64}
 use Rattle.chart.specs.Timing.{Timing}
 use Rattle.clock_walk.specs.Events.{next}
-use Rattle.clock_walk.specs.Passing.{inForce, timeTo, arrived, passed, step, afterWarpEnd, afterTempo, afterDelay, afterStop, afterWarp}
-use Rattle.clock_walk.specs.Walk.{due, left, timeAt, ended, walkWithin, walkOn}
+use Rattle.clock_walk.specs.Passing.{inForce, timeTo, arrived, eventPassed, step, afterWarpEnd, afterTempo, afterDelay, afterStop, afterWarp}
+use Rattle.clock_walk.specs.Walk.{due, eventsLeft, timeAt, ended, walkWithin, walkOn}
 use Rattle.chart.specs.declared.State.{State}
 use Rattle.clock_walk.specs.declared.Next.{Next}
 use Rattle.clock_walk.specs.declared.Walked.{Walked}
@@ -29,7 +29,7 @@ tempos-grow t s at time Asked = omega arith
 tempos-grow t s at time NotFound = omega arith
 
 pub step-grows : (early : Float) (t : Timing) (r : ℤ) (s : State) → s .tempos ≤ step early t r s .tempos
-unfolding passed
+unfolding eventPassed
 step-grows early t r s = tempos-grow t s (next t r s .row) _ (next t r s .kind)
 
 module _ (one other : Float) where
@@ -42,7 +42,7 @@ module _ (one other : Float) where
   time-apart values s at h = rw (force-apart values (s .tempos) h)
 
   step-apart : (t : Timing) (r : ℤ) (s : State) → 0 < s .tempos → step one t r s ≡ step other t r s
-  unfolding passed
+  unfolding eventPassed
   step-apart t r s h =
       ap (λ (x : Float). arrived (t .stopValues) (t .delayValues) (t .warpBeats) (t .warpLengths) s (next t r s .row) (add binary64 (s .time) x) (next t r s .kind)) (time-apart (t .tempoValues) s (next t r s .row) h)
 
@@ -61,4 +61,4 @@ module _ (one other : Float) where
 
   pub early-apart : (t : Timing) (r : ℤ) (s : State) (n : ℕ) → 0 < s .tempos → walkOn one t r s n ≡ walkOn other t r s n
   unfolding walkOn
-  early-apart t r s n h = within-apart (left t s) (due t r s) t r s n h
+  early-apart t r s n h = within-apart (eventsLeft t s) (due t r s) t r s n h

@@ -8,8 +8,8 @@ use lib.IntN.{ℤ}
 use lib.Ieee.{Float}
 use Rattle.chart.specs.Timing.{Timing}
 use Rattle.clock_walk.specs.Events.{next}
-use Rattle.clock_walk.specs.Passing.{arrived, passed, step, CanMove, afterWarpEnd, afterTempo, afterDelay, afterStop, afterWarp}
-use Rattle.clock_walk.specs.Walk.{isEvent, due, one, left, ended, walkWithin, walkOn}
+use Rattle.clock_walk.specs.Passing.{arrived, eventPassed, step, CanMove, afterWarpEnd, afterTempo, afterDelay, afterStop, afterWarp}
+use Rattle.clock_walk.specs.Walk.{isEvent, due, one, eventsLeft, ended, walkWithin, walkOn}
 use Rattle.chart.specs.declared.State.{State}
 use Rattle.clock_walk.specs.declared.Next.{Next}
 use Rattle.clock_walk.specs.declared.Event.{Event}
@@ -22,7 +22,7 @@ one-le true = omega arith
 one-le false = omega arith
 
 fewer : (t : Timing) (s : State) (at : ℤ) (time : Float) (k : Event) → isEvent k ≡ true → Placed t s k
-    → suc (left t (arrived (t .stopValues) (t .delayValues) (t .warpBeats) (t .warpLengths) s at time k)) ≤ left t s
+    → suc (eventsLeft t (arrived (t .stopValues) (t .delayValues) (t .warpBeats) (t .warpLengths) s at time k)) ≤ eventsLeft t s
 unfolding afterWarpEnd afterTempo afterDelay afterStop afterWarp
 fewer t s at time WarpEnd e p = rw p (omega arith)
 fewer t s at time Tempo e p = omega arith
@@ -33,12 +33,12 @@ fewer t s at time Asked e p = let z : _≡_ {A = ℕ} 0 1 = cc in absurd (omega 
 fewer t s at time NotFound e p = let z : _≡_ {A = ℕ} 0 1 = cc in absurd (omega arith)
 
 module _ (early : Float) (t : Timing) (r : ℤ) where
-  pub left-falls : (s : State) → due t r s ≡ true → left t (step early t r s) < left t s
-  unfolding passed
+  pub left-falls : (s : State) → due t r s ≡ true → eventsLeft t (step early t r s) < eventsLeft t s
+  unfolding eventPassed
   left-falls s e = fewer t s (next t r s .row) _ (next t r s .kind) e (placed t r s)
 
   -- ---- any bound that is not below what is left gives the same walk
-  enough : (f g : ℕ) (b : Bool) (s : State) (n : ℕ) → due t r s ≡ b → left t s ≤ f → left t s ≤ g → walkWithin f b early t r s n ≡ walkWithin g b early t r s n
+  enough : (f g : ℕ) (b : Bool) (s : State) (n : ℕ) → due t r s ≡ b → eventsLeft t s ≤ f → eventsLeft t s ≤ g → walkWithin f b early t r s n ≡ walkWithin g b early t r s n
   unfolding walkWithin
   enough zero zero b s n e p q = refl
   enough zero (suc g) true s n e p q = let h = left-falls s e in absurd (omega arith)
@@ -51,35 +51,35 @@ module _ (early : Float) (t : Timing) (r : ℤ) where
   -- one event more
   pub walk-on : (s : State) (n : ℕ) → due t r s ≡ true → walkOn early t r s n ≡ walkOn early t r (step early t r s) (n + 1)
   unfolding walkOn walkWithin
-  walk-on s n e = go (left t s) refl
+  walk-on s n e = go (eventsLeft t s) refl
     where
-      go : (f : ℕ) → left t s ≡ f
-          → walkWithin (left t s) (due t r s) early t r s n ≡ walkWithin (left t (step early t r s)) (due t r (step early t r s)) early t r (step early t r s) (n + 1)
+      go : (f : ℕ) → eventsLeft t s ≡ f
+          → walkWithin (eventsLeft t s) (due t r s) early t r s n ≡ walkWithin (eventsLeft t (step early t r s)) (due t r (step early t r s)) early t r (step early t r s) (n + 1)
       go zero q = let h = left-falls s e in absurd (omega arith)
-      go (suc f) q = let h = left-falls s e in rw (q, e) (enough f (left t (step early t r s)) (due t r (step early t r s)) (step early t r s) (n + 1) refl (omega arith) (omega arith))
+      go (suc f) q = let h = left-falls s e in rw (q, e) (enough f (eventsLeft t (step early t r s)) (due t r (step early t r s)) (step early t r s) (n + 1) refl (omega arith) (omega arith))
 
   -- none is due
   pub walk-end : (s : State) (n : ℕ) → due t r s ≡ false → walkOn early t r s n ≡ ended early t r s n
   unfolding walkOn walkWithin
-  walk-end s n e = go (left t s) refl
+  walk-end s n e = go (eventsLeft t s) refl
     where
-      go : (f : ℕ) → left t s ≡ f → walkWithin (left t s) (due t r s) early t r s n ≡ ended early t r s n
+      go : (f : ℕ) → eventsLeft t s ≡ f → walkWithin (eventsLeft t s) (due t r s) early t r s n ≡ ended early t r s n
       go zero q = rw q
       go (suc f) q = rw (q, e)
 
   -- ---- a turn of the loop
   pub record Going (start s : State) (n : ℕ) : Type 0 where
     pub same : walkOn early t r s n ≡ walkOn early t r start 0
-    pub few : n + left t s ≤ left t start
+    pub few : n + eventsLeft t s ≤ eventsLeft t start
 
   pub turn : (start s : State) (n : ℕ) (found : Next) (s′ : State) → found ≡ next t r s → isEvent (found .kind) ≡ true
-      → s′ ≡ passed early (t .tempoValues) (t .stopValues) (t .delayValues) (t .warpBeats) (t .warpLengths) s found
-      → Going start s n → Going start s′ (n + 1) × (left t s′ < left t s)
+      → s′ ≡ eventPassed early (t .tempoValues) (t .stopValues) (t .delayValues) (t .warpBeats) (t .warpLengths) s found
+      → Going start s n → Going start s′ (n + 1) × (eventsLeft t s′ < eventsLeft t s)
   turn start s n found s′ is event after going =
       let d : due t r s ≡ true = ap (λ (m : Next). isEvent (m .kind)) (sym is) ∙ event in
-      let e : s′ ≡ step early t r s = after ∙ ap (λ (m : Next). passed early (t .tempoValues) (t .stopValues) (t .delayValues) (t .warpBeats) (t .warpLengths) s m) is in
-      let l : left t (step early t r s) < left t s = left-falls s d in
-      let w : left t s′ < left t s = rw e l in
+      let e : s′ ≡ step early t r s = after ∙ ap (λ (m : Next). eventPassed early (t .tempoValues) (t .stopValues) (t .delayValues) (t .warpBeats) (t .warpLengths) s m) is in
+      let l : eventsLeft t (step early t r s) < eventsLeft t s = left-falls s d in
+      let w : eventsLeft t s′ < eventsLeft t s = rw e l in
       let f = going .few in
       (record { same = ap (λ (x : State). walkOn early t r x (n + 1)) e ∙ sym (walk-on s n d) ∙ going .same; few = omega arith }, w)
 
@@ -101,7 +101,7 @@ moves t r s found is a b c d = rw is (can-move t s (next t r s .kind) (placed t 
 cut : (a b : ℕ) → a - b ≤ a
 cut a b = omega arith
 
-pub left-le : (t : Timing) (s : State) → left t s ≤ length (t .tempoBeats) + length (t .stopBeats) + length (t .delayBeats) + 2 * length (t .warpBeats) + 1
+pub left-le : (t : Timing) (s : State) → eventsLeft t s ≤ length (t .tempoBeats) + length (t .stopBeats) + length (t .delayBeats) + 2 * length (t .warpBeats) + 1
 left-le t s =
     go (length (t .tempoBeats) - s .tempos) (length (t .stopBeats) - s .stops) (length (t .delayBeats) - s .delays) (length (t .warpBeats) - s .warps) (one (s .warping))
     (cut (length (t .tempoBeats)) (s .tempos)) (cut (length (t .stopBeats)) (s .stops)) (cut (length (t .delayBeats)) (s .delays)) (cut (length (t .warpBeats)) (s .warps)) (one-le (s .warping))
@@ -110,9 +110,9 @@ left-le t s =
         → a + b + c + 2 * d + e ≤ length (t .tempoBeats) + length (t .stopBeats) + length (t .delayBeats) + 2 * length (t .warpBeats) + 1
     go a b c d e p q r u v = omega arith
 
-pub count-fits : (t : Timing) (start : State) (n l : ℕ) → n + l ≤ left t start
+pub count-fits : (t : Timing) (start : State) (n l : ℕ) → n + l ≤ eventsLeft t start
     → length (t .tempoBeats) * 4 < 2 ^ 63 → length (t .stopBeats) * 4 < 2 ^ 63 → length (t .delayBeats) * 4 < 2 ^ 63 → length (t .warpBeats) * 4 < 2 ^ 63 → n + 1 < 2 ^ 64
-count-fits t start n l h a b c d = go (left t start) h (left-le t start)
+count-fits t start n l h a b c d = go (eventsLeft t start) h (left-le t start)
   where
     go : (x : ℕ) → n + l ≤ x → x ≤ length (t .tempoBeats) + length (t .stopBeats) + length (t .delayBeats) + 2 * length (t .warpBeats) + 1 → n + 1 < 2 ^ 64
     go x u v = omega arith

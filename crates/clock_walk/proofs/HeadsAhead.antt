@@ -16,7 +16,7 @@ use Rattle.picks.specs.Pick.{pick}
 use Rattle.rows.specs.Rows.{row}
 use Rattle.chart.specs.Timing.{Timing}
 use Rattle.clock_walk.specs.Events.{nothingYet, sooner, offered, endOffered, nextEvent}
-use Rattle.clock_walk.specs.Passing.{arrived, passed, afterWarpEnd, afterTempo, afterDelay, afterStop, afterWarp}
+use Rattle.clock_walk.specs.Passing.{arrived, eventPassed, afterWarpEnd, afterTempo, afterDelay, afterStop, afterWarp}
 use Rattle.clock_walk.specs.Quiet.{farthest, rowAt, endRow}
 use Rattle.clock_walk.specs.Heads.{headsOf, headsAfter, nextOf}
 use Rattle.chart.specs.declared.State.{State}
@@ -117,7 +117,7 @@ arrived-heads t s at time Warp = refl
 arrived-heads t s at time Asked = refl
 arrived-heads t s at time NotFound = refl
 
-pub passed-heads : (early : Float) (t : Timing) (s : State) (n : Next) → let s′ = passed early (t .tempoValues) (t .stopValues) (t .delayValues) (t .warpBeats) (t .warpLengths) s n in
+pub passed-heads : (early : Float) (t : Timing) (s : State) (n : Next) → let s′ = eventPassed early (t .tempoValues) (t .stopValues) (t .delayValues) (t .warpBeats) (t .warpLengths) s n in
     headsAfter (t .tempoBeats) (t .stopBeats) (t .delayBeats) (t .warpBeats) (headsOf (t .tempoBeats) (t .stopBeats) (t .delayBeats) (t .warpBeats) s) s′ (n .kind) ≡ headsOf (t .tempoBeats) (t .stopBeats) (t .delayBeats) (t .warpBeats) s′
-unfolding passed
+unfolding eventPassed
 passed-heads early t s n = arrived-heads t s (n .row) _ (n .kind)

@@ -15,7 +15,7 @@ use Rattle.picks.specs.Pick.{pick}
 use Rattle.rows.specs.Rows.{row}
 use Rattle.chart.specs.Timing.{Timing}
 use Rattle.clock_walk.specs.Events.{next}
-use Rattle.clock_walk.specs.Passing.{earlyTempo, timeTo, passed, step, afterTempo}
+use Rattle.clock_walk.specs.Passing.{earlyTempo, timeTo, eventPassed, step, afterTempo}
 use Rattle.clock_walk.specs.Quiet.{farthest, rowAt, endRow, isLater, isNextLater, onlyTempos}
 use Rattle.clock_walk.specs.Heads.{headsOf}
 use Rattle.clock_walk.specs.Soon.{tempoPassed, soonOf, walkedSoon}
@@ -83,12 +83,12 @@ module _ (t : Timing) (r : ℤ) (s : State) where
     first-step = rw (first-next, there)
 
     others-stay : Others t r (past t s (rowAt (t .tempoBeats) (s .tempos)))
-    unfolding tempoPassed passed afterTempo
+    unfolding tempoPassed eventPassed afterTempo
     others-stay = rw there (record { ofAll = o .ofAll; ofEnd = o .ofEnd; ofDelay = o .ofDelay; ofStop = o .ofStop; ofWarp = o .ofWarp })
 
     -- the tempo after the next is later, once one is passed
     before-next : isNextLater (t .tempoBeats) (s .tempos) r ≡ true → ltZ r (rowAt (t .tempoBeats) (past t s (rowAt (t .tempoBeats) (s .tempos)) .tempos)) ≡ true
-    unfolding tempoPassed passed afterTempo isNextLater
+    unfolding tempoPassed eventPassed afterTempo isNextLater
     before-next h = rw there (later-row r (t .tempoBeats) (s .tempos + 1) (rw there at h) .1)
 
     -- one is due, and no other

@@ -8,8 +8,8 @@ use lib.IntN.{ℤ}
 use lib.Ieee.{Float}
 use Rattle.chart.specs.Timing.{Timing}
 use Rattle.clock_walk.specs.Events.{next}
-use Rattle.clock_walk.specs.Passing.{earlyTempo, arrived, passed, step, afterWarpEnd, afterTempo, afterDelay, afterStop, afterWarp}
-use Rattle.clock_walk.specs.Walk.{due, left, walkWithin, walkOn, walk}
+use Rattle.clock_walk.specs.Passing.{earlyTempo, arrived, eventPassed, step, afterWarpEnd, afterTempo, afterDelay, afterStop, afterWarp}
+use Rattle.clock_walk.specs.Walk.{due, eventsLeft, walkWithin, walkOn, walk}
 use Rattle.chart.specs.declared.State.{State}
 use Rattle.clock_walk.specs.declared.Event.{Event}
 use Rattle.clock_walk.specs.declared.Event.the-variants.{WarpEnd, Tempo, Delay, Asked, Stop, Warp, NotFound}
@@ -25,7 +25,7 @@ module _ (early : Float) (t : Timing) (r : ℤ) (P : State → ℕ → Type 0) (
 
   pub walk-keeps : (s : State) (n : ℕ) → P s n → P (walkOn early t r s n .state) (walkOn early t r s n .passed)
   unfolding walkOn
-  walk-keeps s n h = within (left t s) (due t r s) s n refl h
+  walk-keeps s n h = within (eventsLeft t s) (due t r s) s n refl h
 
 pub record PlacesWithin (t : Timing) (s : State) : Type 0 where
   pub tempos : s .tempos ≤ length (t .tempoBeats)
@@ -44,7 +44,7 @@ arrives t s at time Asked p w = w
 arrives t s at time NotFound p w = w
 
 pub places-step : (early : Float) (t : Timing) (r : ℤ) (s : State) → PlacesWithin t s → PlacesWithin t (step early t r s)
-unfolding passed
+unfolding eventPassed
 places-step early t r s w = arrives t s (next t r s .row) _ (next t r s .kind) (placed t r s) w
 
 pub places-stay : (t : Timing) (r : ℤ) (s : State) → PlacesWithin t s → PlacesWithin t (walk t r s .state)

@@ -7,7 +7,7 @@ use lib.Ieee.{Float}
 use Rattle.chart.specs.Timing.{Timing}
 use Rattle.clock_walk.specs.Events.{next}
 use Rattle.clock_walk.specs.Passing.{step}
-use Rattle.clock_walk.specs.Walk.{due, left, timeAt, walkWithin, walkOn}
+use Rattle.clock_walk.specs.Walk.{due, eventsLeft, timeAt, walkWithin, walkOn}
 use Rattle.chart.specs.declared.State.{State}
 
 module _ (early : Float) (t : Timing) (r : ℤ) where
@@ -22,4 +22,4 @@ module _ (early : Float) (t : Timing) (r : ℤ) where
 
   pub time-of-end : (s : State) (n : ℕ) → walkOn early t r s n .time ≡ timeNext (walkOn early t r s n .state)
   unfolding walkOn
-  time-of-end s n = within (left t s) (due t r s) s n
+  time-of-end s n = within (eventsLeft t s) (due t r s) s n

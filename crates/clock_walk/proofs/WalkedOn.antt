@@ -13,8 +13,8 @@ use Rattle.picks.specs.Pick.{pick}
 use Rattle.rows.specs.Rows.{row}
 use Rattle.chart.specs.Timing.{Timing}
 use Rattle.clock_walk.specs.Events.{sooner, offered, nextEvent, next}
-use Rattle.clock_walk.specs.Passing.{passed, step}
-use Rattle.clock_walk.specs.Walk.{isEvent, due, left, walkOn}
+use Rattle.clock_walk.specs.Passing.{eventPassed, step}
+use Rattle.clock_walk.specs.Walk.{isEvent, due, eventsLeft, walkOn}
 use Rattle.chart.specs.declared.State.{State}
 use Rattle.clock_walk.specs.declared.Next.{Next}
 use Rattle.clock_walk.specs.declared.Walked.{Walked}
@@ -70,7 +70,7 @@ same-next t s r q h d = go (next-beside t s r q h)
     go (waits e k) = no (sym (ap isEvent e) ∙ d)
 
 module _ (early : Float) (t : Timing) (r q : ℤ) (later : ltZ q r ≡ false) where
-  by-left : (f : ℕ) (s : State) (n : ℕ) → left t s ≤ f → (b : Bool) → due t r s ≡ b
+  by-left : (f : ℕ) (s : State) (n : ℕ) → eventsLeft t s ≤ f → (b : Bool) → due t r s ≡ b
       → walkOn early t q s n ≡ walkOn early t q (walkOn early t r s n .state) (walkOn early t r s n .passed)
   by-left zero s n l false e = ap (λ (w : Walked). walkOn early t q (w .state) (w .passed)) (sym (walk-end early t r s n e))
   by-left zero s n l true e = let k = left-falls early t r s e in absurd (omega arith)
@@ -79,11 +79,11 @@ module _ (early : Float) (t : Timing) (r q : ℤ) (later : ltZ q r ≡ false) wh
       let k = left-falls early t r s e in
       let m = same-next t s r q later e in
       let d : due t q s ≡ true = ap (λ (x : Next). isEvent (x .kind)) (sym m) ∙ e in
-      let p : step early t q s ≡ step early t r s = ap (λ (x : Next). passed early (t .tempoValues) (t .stopValues) (t .delayValues) (t .warpBeats) (t .warpLengths) s x) (sym m) in
+      let p : step early t q s ≡ step early t r s = ap (λ (x : Next). eventPassed early (t .tempoValues) (t .stopValues) (t .delayValues) (t .warpBeats) (t .warpLengths) s x) (sym m) in
       walk-on early t q s n d
       ∙ ap (λ (x : State). walkOn early t q x (n + 1)) p
       ∙ by-left f (step early t r s) (n + 1) (omega arith) (due t r (step early t r s)) refl
       ∙ ap (λ (w : Walked). walkOn early t q (w .state) (w .passed)) (sym (walk-on early t r s n e))
 
   pub walked-on : (s : State) (n : ℕ) → walkOn early t q s n ≡ walkOn early t q (walkOn early t r s n .state) (walkOn early t r s n .passed)
-  walked-on s n = by-left (left t s) s n (omega arith) (due t r s) refl
+  walked-on s n = by-left (eventsLeft t s) s n (omega arith) (due t r s) refl

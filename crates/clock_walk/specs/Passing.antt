@@ -124,13 +124,13 @@ arrived stopValues delayValues warpBeats warpLengths s at time Warp = afterWarp 
 arrived stopValues delayValues warpBeats warpLengths s at time Asked = s
 arrived stopValues delayValues warpBeats warpLengths s at time NotFound = s
 
-unfoldable pub passed : Float → (tempoValues stopValues delayValues warpBeats warpLengths : List Float) → State → Next → State
-passed early tempoValues stopValues delayValues warpBeats warpLengths s n =
+unfoldable pub eventPassed : Float → (tempoValues stopValues delayValues warpBeats warpLengths : List Float) → State → Next → State
+eventPassed early tempoValues stopValues delayValues warpBeats warpLengths s n =
     arrived stopValues delayValues warpBeats warpLengths s (n .row) (add binary64 (s .time) (timeTo early tempoValues s (n .row))) (n .kind)
 
 -- the state after the next event
 abbrev pub step : Float → Timing → ℤ → State → State
-step early t asked s = passed early (t .tempoValues) (t .stopValues) (t .delayValues) (t .warpBeats) (t .warpLengths) s (next t asked s)
+step early t asked s = eventPassed early (t .tempoValues) (t .stopValues) (t .delayValues) (t .warpBeats) (t .warpLengths) s (next t asked s)
 
 -- a place that an event moves on can be moved
 abbrev pub CanMove : State → Event → Type 0

@@ -9,7 +9,7 @@ use lib.ListN.{length}
 use lib.Ieee.{Float, binary64, add}
 use Rattle.ieee.specs.Constants.{plusZero}
 use Rattle.picks.specs.Pick.{pick}
-use Rattle.clock_walk.specs.Passing.{timeTo, passed}
+use Rattle.clock_walk.specs.Passing.{timeTo, eventPassed}
 use Rattle.clock_walk.specs.Quiet.{farthest, rowAt, isLater, isNextLater}
 use Rattle.chart.specs.declared.State.{State}
 use Rattle.clock_walk.specs.declared.Soon.{Soon}
@@ -19,7 +19,7 @@ use Rattle.clock_walk.specs.declared.Event.the-variants.{Tempo}
 -- the next tempo passed on a row, if there is one; the tempo that a walk begins with plays no part once one is passed
 unfoldable pub tempoPassed : (tempoBeats tempoValues stopValues delayValues warpBeats warpLengths : List Float) → State → ℤ → State
 tempoPassed tempoBeats tempoValues stopValues delayValues warpBeats warpLengths s at =
-    pick (ltb (s .tempos) (length tempoBeats)) (passed plusZero tempoValues stopValues delayValues warpBeats warpLengths s (record { row = at; kind = Tempo })) s
+    pick (ltb (s .tempos) (length tempoBeats)) (eventPassed plusZero tempoValues stopValues delayValues warpBeats warpLengths s (record { row = at; kind = Tempo })) s
 
 -- the row of the entry after the one at a place
 unfoldable pub rowAfter : List Float → ℕ → ℤ

@@ -33,8 +33,8 @@ one true = 1
 one false = 0
 
 -- how many events there are to pass at most: a warp has two, its start and its end
-abbrev pub left : Timing → State → ℕ
-left t s =
+abbrev pub eventsLeft : Timing → State → ℕ
+eventsLeft t s =
     (length (t .tempoBeats) - s .tempos)
     + (length (t .stopBeats) - s .stops)
     + (length (t .delayBeats) - s .delays)
@@ -65,7 +65,7 @@ walkWithin (suc most) true early t asked s n = walkWithin most (due t asked (ste
 
 -- as far as events are due, n being passed before
 unfoldable pub walkOn : Float → Timing → ℤ → State → ℕ → Walked
-walkOn early t asked s n = walkWithin (left t s) (due t asked s) early t asked s n
+walkOn early t asked s n = walkWithin (eventsLeft t s) (due t asked s) early t asked s n
 
 -- the walk of a question, from a state
 unfoldable pub walk : Timing → ℤ → State → Walked

@@ -11,7 +11,7 @@ ghost use Rattle.rows.specs.Rows.{beatOf};
 ghost use Rattle.chart.specs.Timing.{timing};
 ghost use Rattle.clock_walk.specs.Events.{sooner};
 ghost use Rattle.clock_walk.specs.Heads.{headsOf, headsAfter, nextOf};
-ghost use Rattle.clock_walk.specs.Passing.{tempoAt, earlyTempo, inForce, timeTo, larger, afterWarpEnd, afterTempo, afterDelay, afterStop, afterWarp, CanMove, passed as Passing·passed, firstOr, lastUpTo};
+ghost use Rattle.clock_walk.specs.Passing.{tempoAt, earlyTempo, inForce, timeTo, larger, afterWarpEnd, afterTempo, afterDelay, afterStop, afterWarp, CanMove, eventPassed as Passing·passed, firstOr, lastUpTo};
 ghost use Rattle.clock_walk.specs.Quiet.{rowAt, endRow, notBefore, isLater, isNextLater, onlyTempos};
 ghost use Rattle.clock_walk.specs.Soon.{tempoPassed, rowAfter, soonOf};
 ghost use Rattle.clock_walk.specs.declared.Event.the-variants.{Tempo};

@@ -9,7 +9,7 @@ use lib.Ieee.{Float, nan, inf, fin, up, down, lt, le}
 use lib.Ieee.Fits.{down-pos}
 use lib.Ieee.Nearest.{closest}
 use lib.Ieee.Scale.{finite}
-use Rattle.ieee.specs.Rounding.{rint, hold, leastFloat, mostFloat, Within}
+use Rattle.ieee.specs.Rounding.{rint, hold, leastFloat, mostFloat, InI32}
 use Rattle.ieee.proofs.ClosestLaws.{closest-ge}
 use Rattle.ieee.proofs.Held.{held-within}
 use Rattle.ieee.proofs.RintBySum.{within-small}
@@ -23,12 +23,12 @@ hold-neg zero h = absurd (omega arith)
 hold-neg (suc n) h = ap negsuc (omega arith)
 
 abbrev pub Holds : Float → Float → Type 0
-Holds x r = Within r × (rint r ≡ hold (rint x))
+Holds x r = InI32 r × (rint r ≡ hold (rint x))
 
 pub inside : (x : Float) → lt leastFloat x ≡ true → lt x mostFloat ≡ true → Holds x x
 unfolding le
 inside x lo hi =
-    let w : Within x = (rw lo tt, rw hi tt) in
+    let w : InI32 x = (rw lo tt, rw hi tt) in
     (w, sym (held-within (rint x) (within-small x w)))
 
 pub at-most : (x : Float) → T (finite x) → lt x mostFloat ≡ false → Holds x mostFloat

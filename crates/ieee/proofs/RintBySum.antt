@@ -16,7 +16,7 @@ use mir.Syntax.{w32, w64}
 use mir.Val.{SFits, toZ, ofZ}
 use mir.ValLaws.{toZ-pos, toZ-ofZ}
 use borrow.Author.Tests.{lt-ltb, le-ltb}
-use Rattle.ieee.specs.Rounding.{rint, leastFloat, mostFloat, Within}
+use Rattle.ieee.specs.Rounding.{rint, leastFloat, mostFloat, InI32}
 use Rattle.ieee.proofs.ClosestLaws.{closest-le, closest-add, closest-sub}
 use Rattle.ieee.proofs.Units.{round-number}
 use Rattle.ieee.proofs.Tests.{or-eq, eq-or}
@@ -109,7 +109,7 @@ above-least : (m : ℕ) (e : ℤ) → T (le leastFloat (fin true m e)) → m * u
 unfolding le
 above-least m e h = let z = eq-or (m * up e * 1) (2147483648 * down e) true h in omega arith
 
-rounds : (x : Float) → Within x → (n : ℕ) × Rounds x n
+rounds : (x : Float) → InI32 x → (n : ℕ) × Rounds x n
 unfolding le
 rounds nan h = absurd (h .0)
 rounds (inf true) h = absurd (h .0)
@@ -117,11 +117,11 @@ rounds (inf false) h = absurd (h .1)
 rounds (fin false m e) h = (_, within-pos m e (below-most m e (h .1)))
 rounds (fin true m e) h = (_, within-neg m e (above-least m e (h .0)))
 
-pub within-small : (x : Float) → Within x → mag (rint x) < 2 ^ 31
+pub within-small : (x : Float) → InI32 x → mag (rint x) < 2 ^ 31
 within-small x h = rounds x h .1 .small
 
 -- ---- as the machine's integers: the casts lose nothing, and the difference is the result
-module _ (x : Float) (h : Within x) where
+module _ (x : Float) (h : InI32 x) where
   pub sum-number : T (not (isNan (add binary64 x biasFloat)))
   sum-number = rounds x h .1 .number
 
@@ -155,7 +155,7 @@ pub record Summed (x : Float) : Type 0 where
   pub pattern : toBits binary64 (add binary64 x biasFloat) ≡ 1074 * 2 ^ 52 + count
   pub near : pos (1074 * 2 ^ 52 + count) -ℤ pos biasPattern ≡ rint x
 
-pub summed : (x : Float) → Within x → Summed x
+pub summed : (x : Float) → InI32 x → Summed x
 summed x h =
     let r = rounds x h .1 in
     record { count = r .count; value = r .value; pattern = r .pattern ∙ r .counted; near = subst (λ (n : ℕ). pos n -ℤ pos biasPattern ≡ rint x) (r .counted) (r .near) }

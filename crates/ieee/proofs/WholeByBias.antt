@@ -9,7 +9,7 @@ use lib.IntN.{ℤ, pos, subℕ, _-ℤ_}
 use lib.Ieee.{Float, binary64, round, add, sub, ofInt}
 use lib.Ieee.Exact.{HasValue}
 use borrow.Author.Tests.{lt-ltb, le-ltb}
-use Rattle.ieee.specs.Rounding.{rint, Within}
+use Rattle.ieee.specs.Rounding.{rint, InI32}
 use Rattle.ieee.proofs.Closest.{lt-or-ge}
 use Rattle.ieee.proofs.SumByValue.{minus-values, minus-less}
 use Rattle.ieee.proofs.RintBySum.{biasFloat, biasPattern, Summed, summed}
@@ -30,5 +30,5 @@ left c y v = elim (lt-or-ge c (3 * 2 ^ 51)) [
       minus-values binary64 y biasFloat c (3 * 2 ^ 51) 1 (zero-lt-suc 0) g v bias-value ∙ rw more (ap (λ (n : ℕ). round binary64 false n 1) many)
 ]
 
-pub whole-by-bias : (x : Float) → Within x → sub binary64 (add binary64 x biasFloat) biasFloat ≡ ofInt binary64 (rint x)
+pub whole-by-bias : (x : Float) → InI32 x → sub binary64 (add binary64 x biasFloat) biasFloat ≡ ofInt binary64 (rint x)
 whole-by-bias x h = let s = summed x h in left (s .count) (add binary64 x biasFloat) (s .value) ∙ ap (ofInt binary64) (s .near)

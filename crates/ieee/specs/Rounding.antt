@@ -19,11 +19,11 @@ rint (inf s) = pos 0
 rint (fin s m e) = signed s (closest (m * up e) (down e))
 
 -- the ends of an i32
-abbrev pub least : ℤ
-least = negℤ (pos (2 ^ 31))
+abbrev pub leastI32 : ℤ
+leastI32 = negℤ (pos (2 ^ 31))
 
-abbrev pub most : ℤ
-most = pos (2 ^ 31 - 1)
+abbrev pub mostI32 : ℤ
+mostI32 = pos (2 ^ 31 - 1)
 
 -- held at the ends of an i32 (`negsuc n` is -(n + 1))
 unfoldable pub hold : ℤ → ℤ
@@ -37,5 +37,5 @@ leastFloat = fin true 1 (pos 31)
 abbrev pub mostFloat : Float
 mostFloat = fin false 2147483647 (pos 0)
 
-abbrev pub Within : Float → Type 0
-Within x = T (le leastFloat x) × T (le x mostFloat)
+abbrev pub InI32 : Float → Type 0
+InI32 x = T (le leastFloat x) × T (le x mostFloat)

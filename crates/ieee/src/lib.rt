@@ -4,14 +4,14 @@ ghost use mathlib.Core.Bool.{false, not};
 ghost use lib.Dec.{T};
 ghost use lib.Ieee.{isNan, lt};
 ghost use lib.Ieee.Scale.{finite};
-ghost use Rattle.ieee.specs.Rounding.{rint, hold, Within};
+ghost use Rattle.ieee.specs.Rounding.{rint, hold, InI32};
 ghost use Rattle.ieee.specs.Nearest.{signOf};
 ghost use Rattle.ieee.specs.Narrowing.{narrow, withSign, boundary, Anchor};
 
 // x held at the ends of an i32.
 fn within_i32(x: f64) -> f64
     requires { ⌜ T (finite x) ⌝ }
-    ensures { λ r. ⌜ Within r × (rint r ≡ hold (rint x)) ⌝ }
+    ensures { λ r. ⌜ InI32 r × (rint r ≡ hold (rint x)) ⌝ }
 {
     let below = if x < 2147483647.0 { x } else { 2147483647.0 };
     if below > -2147483648.0 {
@@ -23,7 +23,7 @@ fn within_i32(x: f64) -> f64
 
 // The whole number nearest to x, a tie to the even one.
 fn whole(x: f64) -> i32
-    requires { ⌜ Within x ⌝ }
+    requires { ⌜ InI32 x ⌝ }
     ensures { λ r. ⌜ r ≡ rint x ⌝ }
 {
     // 1.5 * 2^52: at this size an f64 has no fraction, so the sum rounds, and its pattern counts on from this number's

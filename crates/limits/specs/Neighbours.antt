@@ -14,5 +14,5 @@ abbrev pub everyTwo : {A : Type 0} → (A → A → Bool) → List A → Bool
 everyTwo {A} test list = every (λ (e : A × A). test (e .0) (e .1)) (neighbours list)
 
 -- the next is not below
-abbrev pub notAbove : Float → Float → Bool
-notAbove x next = not (lt next x)
+abbrev pub notFalling : Float → Float → Bool
+notFalling x next = not (lt next x)

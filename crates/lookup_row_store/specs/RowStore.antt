@@ -33,8 +33,8 @@ givenRows pauses (beat ∷ beats) (value ∷ values) =
 unfoldable pub partOf : Bool → List Float → List Float → List ℤ
 partOf pauses beats values = pick pauses (tidied rowKey (givenRows pauses beats values)) (ordered rowKey (givenRows pauses beats values))
 
-abbrev pub refusedBy : ℕ → Stored
-refusedBy number = record { number = number; stops = 0; delays = 0; warps = 0; fakes = 0 }
+abbrev pub storeRefusedBy : ℕ → Stored
+storeRefusedBy number = record { number = number; stops = 0; delays = 0; warps = 0; fakes = 0 }
 
 -- ---- the call: the columns of the four lists, and the room for all rows
 module _ (stopBeats stopValues delayBeats delayValues warpBeats warpLengths fakeBeats fakeLengths : List Float) where
@@ -55,15 +55,15 @@ module _ (stopBeats stopValues delayBeats delayValues warpBeats warpLengths fake
   packed = stopsPart ++ delaysPart ++ warpsPart ++ fakesPart
 
   -- the lowest number of the four lists
-  abbrev pub listsNumber : ℕ
-  listsNumber =
+  abbrev pub storedListsNumber : ℕ
+  storedListsNumber =
       lower
       (lower (listNumber (rangeOf Beat) (rangeOf Pause) stopBeats stopValues) (listNumber (rangeOf Beat) (rangeOf Pause) delayBeats delayValues))
       (lower (listNumber (rangeOf Beat) (rangeOf Value) warpBeats warpLengths) (listNumber (rangeOf Beat) (rangeOf Value) fakeBeats fakeLengths))
 
   -- the one outcome: the number, the length of each part, and the room to its last place
   pub record RowsStored (outcome : Stored) (old new : List ℤ) : Type 0 where
-    pub number : outcome .number ≡ roomNumber listsNumber (length packed) (length old)
+    pub number : outcome .number ≡ roomNumber storedListsNumber (length packed) (length old)
     pub stops : outcome .stops ≡ length (given (outcome .number) stopsPart)
     pub delays : outcome .delays ≡ length (given (outcome .number) delaysPart)
     pub warps : outcome .warps ≡ length (given (outcome .number) warpsPart)

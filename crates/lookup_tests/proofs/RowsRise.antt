@@ -13,7 +13,7 @@ use lib.Seq.{drop-cons}
 use lib.Ieee.{Float, nan}
 use Rattle.picks.specs.Pick.{pick}
 use Rattle.order.proofs.Compare.{below?}
-use Rattle.lookup_tests.specs.Refused.{keyOf, isBelow, rowsRise, keyAt, notAbove}
+use Rattle.lookup_tests.specs.Refused.{keyOf, isBelow, rowsRise, keyAt, countNotAbove}
 
 pub never : {A : Type 0} → false ≡ true → A
 never e = let z : _≡_ {A = ℕ} 0 1 = ap (λ (t : Bool). pick t 1 0) e in absurd (omega arith)
@@ -77,7 +77,7 @@ module _ (beats : List Float) where
   pub falls-first : Falls beats 0 0
   falls-first = record { few = omega arith; same = refl }
 
-  pub few-fall : (i : ℕ) → notAbove (getD beats i nan) (getD beats (i + 1) nan) ≤ 1
+  pub few-fall : (i : ℕ) → countNotAbove (getD beats i nan) (getD beats (i + 1) nan) ≤ 1
   few-fall i = go (ltb (keyAt beats i) (keyAt beats (i + 1)))
     where
       go : (t : Bool) → pick t 0 1 ≤ 1
@@ -89,7 +89,7 @@ module _ (beats : List Float) where
     dropped true = refl
     dropped false = refl
 
-    pub falls-turn : (one : ℕ) → i + 1 < length beats → one ≡ notAbove (getD beats i nan) (getD beats (i + 1) nan) → Falls beats (i + 1) (falls + one)
+    pub falls-turn : (one : ℕ) → i + 1 < length beats → one ≡ countNotAbove (getD beats i nan) (getD beats (i + 1) nan) → Falls beats (i + 1) (falls + one)
     falls-turn one h e =
         ⊎-elim
         (λ t.

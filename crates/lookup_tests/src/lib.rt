@@ -2,7 +2,7 @@
 use limits::Kind;
 ghost use mathlib.Core.Path.{_≡_};
 ghost use Rattle.limits.specs.Numbers.{rangeOf, every, miss, rowIn};
-ghost use Rattle.lookup_tests.specs.Refused.{keyOf, notAbove, rowsRise, risingNumber, askedNumber, warpNumber, fakeNumber, judgableNumber};
+ghost use Rattle.lookup_tests.specs.Refused.{keyOf, countNotAbove, rowsRise, risingNumber, askedNumber, warpNumber, fakeNumber, judgableNumber};
 
 // ---- rows that rise
 
@@ -15,7 +15,7 @@ pub fn row_key(beat: f32) -> u32
 
 // 1 where the row of a beat is not above the row of the beat before it.
 fn one_not_above(before: f32, beat: f32) -> usize
-    ensures { λ r. ⌜ r ≡ notAbove before beat ⌝ }
+    ensures { λ r. ⌜ r ≡ countNotAbove before beat ⌝ }
 {
     if row_key(before) < row_key(beat) {
         0

@@ -13,10 +13,10 @@ use Rattle.order.specs.FloatKey.{floatKey}
 use Rattle.columns.specs.Kept.{kept}
 use Rattle.tidy_tempos.specs.TempoTidying.{fromZero, changesAfter, changes, tidyTempos}
 use Rattle.process_sm_changes.specs.SmChanges.{staysSm, smChanges}
-use Rattle.process_sm_machine.specs.Machine.{fits, warpOver, tempoAfter, openChart, owedAt, keepWarp, closeByTime, passInWarp, pass, tempoOutside, meetTempo, endOf, finishWarp, finish}
-use Rattle.process_sm_walk.specs.Chart.{Output, processed, walk, stopsBefore, lastTempo, temposBy0}
-use Rattle.process_sm.specs.Sm.{tidied as Sm·tidied}
-use Rattle.played.specs.Numbers.{decimal, whole}
+use Rattle.process_sm_machine.specs.Machine.{fits, warpOver, tempoAfter, openChart, owedAt, keepWarp, closeByTime, passInWarp, pass, tempoOutside, meetTempo, warpEndOf, finishWarp, finish}
+use Rattle.process_sm_walk.specs.Chart.{Output, processed, walkChanges, stopsBefore, lastTempo, temposBy0}
+use Rattle.process_sm.specs.Sm.{tidiedTempos as Sm·tidied}
+use Rattle.played.specs.Numbers.{decimalFloat, wholeFloat}
 use Rattle.played.specs.Table.{smOf}
 
 abbrev start : Float
@@ -51,43 +51,43 @@ no-stops : smChanges [] [] ≡ []
 unfolding kept entries run ordered
 no-stops = refl
 
-three-changes : smChanges (whole 0 ∷ whole 4 ∷ whole 8 ∷ []) (whole 120 ∷ neg (whole 120) ∷ whole 120 ∷ []) ≡ (start, forward) ∷ (four, backward) ∷ (eight, forward) ∷ []
-unfolding decimal neg eq toBits round convert narrow run ins ordered entries floatKey kept staysSm
+three-changes : smChanges (wholeFloat 0 ∷ wholeFloat 4 ∷ wholeFloat 8 ∷ []) (wholeFloat 120 ∷ neg (wholeFloat 120) ∷ wholeFloat 120 ∷ []) ≡ (start, forward) ∷ (four, backward) ∷ (eight, forward) ∷ []
+unfolding decimalFloat neg eq toBits round convert narrow run ins ordered entries floatKey kept staysSm
 three-changes = refl
 
-two-changes : smChanges (whole 0 ∷ whole 4 ∷ []) (neg (whole 120) ∷ whole 120 ∷ []) ≡ (start, backward) ∷ (four, forward) ∷ []
-unfolding decimal neg eq toBits round convert narrow run ins ordered entries floatKey kept staysSm
+two-changes : smChanges (wholeFloat 0 ∷ wholeFloat 4 ∷ []) (neg (wholeFloat 120) ∷ wholeFloat 120 ∷ []) ≡ (start, backward) ∷ (four, forward) ∷ []
+unfolding decimalFloat neg eq toBits round convert narrow run ins ordered entries floatKey kept staysSm
 two-changes = refl
 
 three-walked : processed ((start, forward) ∷ (four, backward) ∷ (eight, forward) ∷ []) [] ≡ record { tempos = (start, forward) ∷ []; stops = []; warps = (four, eight) ∷ [] }
-unfolding walk stopsBefore lastTempo temposBy0 openChart fits warpOver tempoAfter owedAt keepWarp closeByTime passInWarp pass tempoOutside meetTempo endOf finishWarp finish rint hold add sub mul div neg lt le eq ofInt ofBits ofFields round sum size span climb units odd trailingZeros
+unfolding walkChanges stopsBefore lastTempo temposBy0 openChart fits warpOver tempoAfter owedAt keepWarp closeByTime passInWarp pass tempoOutside meetTempo warpEndOf finishWarp finish rint hold add sub mul div neg lt le eq ofInt ofBits ofFields round sum size span climb units odd trailingZeros
 three-walked = refl
 
 two-walked : processed ((start, backward) ∷ (four, forward) ∷ []) [] ≡ record { tempos = (four, forward) ∷ []; stops = []; warps = [] }
-unfolding walk stopsBefore lastTempo temposBy0 openChart fits warpOver tempoAfter owedAt keepWarp closeByTime passInWarp pass tempoOutside meetTempo endOf finishWarp finish rint hold add sub mul div neg lt le eq ofInt ofBits ofFields round sum size span climb units odd trailingZeros
+unfolding walkChanges stopsBefore lastTempo temposBy0 openChart fits warpOver tempoAfter owedAt keepWarp closeByTime passInWarp pass tempoOutside meetTempo warpEndOf finishWarp finish rint hold add sub mul div neg lt le eq ofInt ofBits ofFields round sum size span climb units odd trailingZeros
 two-walked = refl
 
-tidied-at-start : Sm·tidied ((start, forward) ∷ []) ≡ (whole 0, whole 120) ∷ []
-unfolding decimal round eq toBits run put tidied entries floatKey fromZero changesAfter changes tidyTempos
+tidied-at-start : Sm·tidied ((start, forward) ∷ []) ≡ (wholeFloat 0, wholeFloat 120) ∷ []
+unfolding decimalFloat round eq toBits run put tidied entries floatKey fromZero changesAfter changes tidyTempos
 tidied-at-start = refl
 
-tidied-at-four : Sm·tidied ((four, forward) ∷ []) ≡ (whole 0, whole 120) ∷ []
-unfolding decimal round eq toBits run put tidied entries floatKey fromZero changesAfter changes tidyTempos
+tidied-at-four : Sm·tidied ((four, forward) ∷ []) ≡ (wholeFloat 0, wholeFloat 120) ∷ []
+unfolding decimalFloat round eq toBits run put tidied entries floatKey fromZero changesAfter changes tidyTempos
 tidied-at-four = refl
 
-warp-as-given : _≡_ {A = List (Float × Float)} ((four, eight) ∷ []) ((whole 4, whole 8) ∷ [])
-unfolding decimal round
+warp-as-given : _≡_ {A = List (Float × Float)} ((four, eight) ∷ []) ((wholeFloat 4, wholeFloat 8) ∷ [])
+unfolding decimalFloat round
 warp-as-given = refl
 
-pub sm-backward : smOf (whole 0 ∷ whole 4 ∷ whole 8 ∷ []) (whole 120 ∷ neg (whole 120) ∷ whole 120 ∷ []) ≡ record { tempos = (whole 0, whole 120) ∷ []; stops = []; warps = (whole 4, whole 8) ∷ [] }
+pub sm-backward : smOf (wholeFloat 0 ∷ wholeFloat 4 ∷ wholeFloat 8 ∷ []) (wholeFloat 120 ∷ neg (wholeFloat 120) ∷ wholeFloat 120 ∷ []) ≡ record { tempos = (wholeFloat 0, wholeFloat 120) ∷ []; stops = []; warps = (wholeFloat 4, wholeFloat 8) ∷ [] }
 sm-backward =
     ap (λ (l : List (Float × Float)). tidiedOf (processed l (smChanges [] []))) three-changes
     ∙ ap (λ (l : List (Float × Float)). tidiedOf (processed three l)) no-stops
     ∙ ap tidiedOf three-walked
     ∙ ap (λ (l : List (Float × Float)). outputOf l ((four, eight) ∷ [])) tidied-at-start
-    ∙ ap (λ (l : List (Float × Float)). outputOf ((whole 0, whole 120) ∷ []) l) warp-as-given
+    ∙ ap (λ (l : List (Float × Float)). outputOf ((wholeFloat 0, wholeFloat 120) ∷ []) l) warp-as-given
 
-pub sm-backward-from-the-start : smOf (whole 0 ∷ whole 4 ∷ []) (neg (whole 120) ∷ whole 120 ∷ []) ≡ record { tempos = (whole 0, whole 120) ∷ []; stops = []; warps = [] }
+pub sm-backward-from-the-start : smOf (wholeFloat 0 ∷ wholeFloat 4 ∷ []) (neg (wholeFloat 120) ∷ wholeFloat 120 ∷ []) ≡ record { tempos = (wholeFloat 0, wholeFloat 120) ∷ []; stops = []; warps = [] }
 sm-backward-from-the-start =
     ap (λ (l : List (Float × Float)). tidiedOf (processed l (smChanges [] []))) two-changes
     ∙ ap (λ (l : List (Float × Float)). tidiedOf (processed two l)) no-stops

@@ -21,7 +21,7 @@ use Rattle.order.proofs.EachEntry.{each-so}
 use Rattle.columns.proofs.KeptLaid.{few-kept}
 use Rattle.process_raw.specs.RawLists.{rawNumber, rawNumbers}
 use Rattle.process_raw.proofs.BothTaken.{both-taken}
-use Rattle.process_ssc.specs.Ssc.{staysSsc, onRow, stayed}
+use Rattle.process_ssc.specs.Ssc.{staysSsc, quantizedEntry, stayedSsc}
 use Rattle.process_ssc.proofs.TemposTaken.{tempos-taken}
 use Rattle.process_sm_changes.specs.SmChanges.{smChanges}
 use Rattle.process_sm_laws.proofs.ChangesTaken.{changes-good, changes-most, few-changes, in-order, few-written}
@@ -29,11 +29,11 @@ use Rattle.process_sm_laws.proofs.WalkWithin.{GoodChange, all-good}
 use Rattle.process_sm_machine.specs.declared.Change.{Change}
 use Rattle.process_sm_machine.specs.Machine.{beatAt}
 use Rattle.process_sm_walk.specs.Chart.{openingPlaces}
-use Rattle.process_sm_walk.specs.Changes.{left}
+use Rattle.process_sm_walk.specs.Changes.{changesLeft}
 use Rattle.process_sm_laws.specs.Beats as beats
 use Rattle.process_sm_laws.proofs.AssemblyTakes.{sm-stops-taken, sm-warps-taken}
 use Rattle.process_sm_laws.proofs.ChangesInOrder.{changeKey}
-use Rattle.process_sm_lent.specs.Sm.{written}
+use Rattle.process_sm_lent.specs.Sm.{smWritten}
 use Rattle.process_sm.proofs.FewTidied.{entries-few, few-tidied}
 use Rattle.chart.specs.declared.TimingFormat.{TimingFormat}
 use Rattle.chart.specs.declared.TimingFormat.the-variants.{Sm, Ssc}
@@ -70,14 +70,14 @@ module _ (tempoBeats tempoValues stopBeats stopValues : List Float) (t : rawNumb
   ssc-taken : ListsTaken (length tempoBeats) (length stopBeats) (listsBy Ssc tempoBeats tempoValues stopBeats stopValues)
   ssc-taken =
       let passed = list-taken (tempos-taken stopBeats stopValues s) in
-      let tempos = stayed tempoBeats tempoValues in
+      let tempos = stayedSsc tempoBeats tempoValues in
       let few = few-tidied (map first tempos) (map second tempos) in
-      let stay = few-kept staysSsc onRow (entries tempoBeats tempoValues) in
+      let stay = few-kept staysSsc quantizedEntry (entries tempoBeats tempoValues) in
       record {
         fewTempos = omega (arith, few, length-map tempos first, stay, entries-few tempoBeats tempoValues);
-        fewStops = omega (arith, few-kept staysSsc onRow (entries stopBeats stopValues), entries-few stopBeats stopValues);
+        fewStops = omega (arith, few-kept staysSsc quantizedEntry (entries stopBeats stopValues), entries-few stopBeats stopValues);
         fewWarps = omega arith;
-        stops = list-passes (rangeOf Beat) (rangeOf Value) (map first (stayed stopBeats stopValues)) (map second (stayed stopBeats stopValues)) (passed .few) (passed .even) (passed .beatsIn) (all-values (map second (stayed stopBeats stopValues)) (passed .valuesIn));
+        stops = list-passes (rangeOf Beat) (rangeOf Value) (map first (stayedSsc stopBeats stopValues)) (map second (stayedSsc stopBeats stopValues)) (passed .few) (passed .even) (passed .beatsIn) (all-values (map second (stayedSsc stopBeats stopValues)) (passed .valuesIn));
         onRows = ssc-on-rows stopBeats stopValues (list-taken s .beatsIn);
         warpBeats = none-outside (rangeOf Beat);
         warpLengths = none-outside (rangeOf Value);
@@ -90,14 +90,14 @@ module _ (tempoBeats tempoValues stopBeats stopValues : List Float) (t : rawNumb
       let few = few-written tempoBeats tempoValues stopBeats stopValues t s in
       let fewT = few-changes tempoBeats tempoValues t in
       let fewS = few-changes stopBeats stopValues s in
-      let out = written tempoBeats tempoValues stopBeats stopValues .tempos in
+      let out = smWritten tempoBeats tempoValues stopBeats stopValues .tempos in
       let good = all-good T S (changes-good tempoBeats tempoValues t) (in-order tempoBeats tempoValues t) (changes-good stopBeats stopValues s) (in-order stopBeats stopValues s) (changes-most tempoBeats tempoValues t) (changes-most stopBeats stopValues s) in
       record {
         fewTempos = omega (arith, few-tidied (map first out) (map second out), length-map out first, few .tempos);
         fewStops = omega (arith, few .stops);
         fewWarps = omega (arith, few .warps);
         stops = sm-stops-taken tempoBeats tempoValues stopBeats stopValues both;
-        onRows = sm-on-rows T S (each-so changeKey {P = GoodChange} {Q = λ (change : Change). beats.Beat (beatAt change)} (λ e g. g .0) (left T S (openingPlaces T S)) good) (all-f32 T S (changes-f32 tempoBeats tempoValues) (changes-f32 stopBeats stopValues));
+        onRows = sm-on-rows T S (each-so changeKey {P = GoodChange} {Q = λ (change : Change). beats.Beat (beatAt change)} (λ e g. g .0) (changesLeft T S (openingPlaces T S)) good) (all-f32 T S (changes-f32 tempoBeats tempoValues) (changes-f32 stopBeats stopValues));
         warpBeats = sm-warps-taken tempoBeats tempoValues stopBeats stopValues both .0;
         warpLengths = sm-warps-taken tempoBeats tempoValues stopBeats stopValues both .1;
       }

@@ -22,7 +22,7 @@ use Rattle.order.specs.Entries.{entries, first}
 use Rattle.order.proofs.OrderedList.{Each}
 use Rattle.order.proofs.EachEntry.{each-so}
 use Rattle.columns.specs.Kept.{kept}
-use Rattle.process_ssc.specs.Ssc.{staysSsc, onRow, stayed}
+use Rattle.process_ssc.specs.Ssc.{staysSsc, quantizedEntry, stayedSsc}
 use Rattle.process_sm_machine.specs.declared.Change.{Change}
 use Rattle.process_sm_machine.specs.declared.Change.the-variants.{Tempo, Stop}
 use Rattle.process_sm_machine.specs.declared.Warp.{Warp}
@@ -30,11 +30,11 @@ use Rattle.process_sm_machine.specs.declared.Warp.the-variants.{Closed, Open}
 use Rattle.process_sm_machine.specs.declared.State.{State}
 use Rattle.process_sm_machine.specs.declared.Written.{Written}
 use Rattle.process_sm_machine.specs.declared.Moved.{Moved}
-use Rattle.process_sm_machine.specs.Machine.{fits, entryAt, openChart, owedAt, keepWarp, closeByTime, passInWarp, passBy, pass, tempoOutside, tempoBy, meetTempo, stopOutside, closeByStop, beginAgain, stopInWarp, stopBy, meetStop, beatAt, meet, passed, met, finishWarp, finishBy, finish}
+use Rattle.process_sm_machine.specs.Machine.{fits, entryAt, openChart, owedAt, keepWarp, closeByTime, passInWarp, passBy, pass, tempoOutside, tempoBy, meetTempo, stopOutside, closeByStop, beginAgain, stopInWarp, stopBy, meetStop, beatAt, meet, timePassed, met, finishWarp, finishBy, finish}
 use Rattle.process_sm_machine.proofs.Either.{either}
 use Rattle.process_sm_machine.proofs.Reached.{pass-reaches}
-use Rattle.process_sm_walk.specs.Chart.{listOf, walk, processed, openingTempo, openingPlaces}
-use Rattle.process_sm_walk.specs.Changes.{left}
+use Rattle.process_sm_walk.specs.Chart.{writtenList, walkChanges, processed, openingTempo, openingPlaces}
+use Rattle.process_sm_walk.specs.Changes.{changesLeft}
 use Rattle.process_sm_laws.specs.Beats.{Beat, beatKey}
 use Rattle.process_sm_laws.proofs.Segments.{each-append}
 use Rattle.process_sm_laws.proofs.ChangesInOrder.{changeKey}
@@ -54,7 +54,7 @@ abbrev SmStop : Float × Float → Type 0
 SmStop e = OnItsRow e × ValueF32 e
 
 abbrev On : Written → Type 0
-On w = Each (beatKey binary32) SmStop (listOf w)
+On w = Each (beatKey binary32) SmStop (writtenList w)
 
 entry-on : (beat value : Float) → Beat beat → F32 value → On (entryAt beat value)
 entry-on beat value b v = ((on-its-row beat (b .allowed), v), tt)
@@ -97,19 +97,19 @@ none-at-the-end state = go (state .warp)
     go Closed = tt
     go (Open warp) = tt
 
-walk-on : (changes : List Change) (state : State) → Each changeKey (λ (change : Change). Beat (beatAt change)) changes → Each changeKey ChangeF32 changes → Each (beatKey binary32) SmStop (walk changes state .stops)
-unfolding walk
+walk-on : (changes : List Change) (state : State) → Each changeKey (λ (change : Change). Beat (beatAt change)) changes → Each changeKey ChangeF32 changes → Each (beatKey binary32) SmStop (walkChanges changes state .stops)
+unfolding walkChanges
 walk-on [] state b v = none-at-the-end state
 walk-on (change ∷ changes) state b v =
-    let here : Beat (passed state change .state .beat) = subst Beat (sym (pass-reaches state (beatAt change))) (b .0) in
-    each-append (beatKey binary32) SmStop (listOf (passed state change .stop) ++ listOf (met state change .stop)) (walk changes (met state change .state) .stops)
-    (each-append (beatKey binary32) SmStop (listOf (passed state change .stop)) (listOf (met state change .stop)) (none-in-passing state (beatAt change)) (meet-on (passed state change .state) change here (v .0)))
+    let here : Beat (timePassed state change .state .beat) = subst Beat (sym (pass-reaches state (beatAt change))) (b .0) in
+    each-append (beatKey binary32) SmStop (writtenList (timePassed state change .stop) ++ writtenList (met state change .stop)) (walkChanges changes (met state change .state) .stops)
+    (each-append (beatKey binary32) SmStop (writtenList (timePassed state change .stop)) (writtenList (met state change .stop)) (none-in-passing state (beatAt change)) (meet-on (timePassed state change .state) change here (v .0)))
     (walk-on changes (met state change .state) (b .1) (v .1))
 
-module _ (tempos stops : List (Float × Float)) (beats : Each changeKey (λ (change : Change). Beat (beatAt change)) (left tempos stops (openingPlaces tempos stops))) (values : Each changeKey ChangeF32 (left tempos stops (openingPlaces tempos stops))) where
+module _ (tempos stops : List (Float × Float)) (beats : Each changeKey (λ (change : Change). Beat (beatAt change)) (changesLeft tempos stops (openingPlaces tempos stops))) (values : Each changeKey ChangeF32 (changesLeft tempos stops (openingPlaces tempos stops))) where
   stops-on : Each (beatKey binary32) SmStop (processed tempos stops .stops)
   unfolding openChart
-  stops-on = walk-on (left tempos stops (openingPlaces tempos stops)) (openChart (openingTempo tempos) .state) beats values
+  stops-on = walk-on (changesLeft tempos stops (openingPlaces tempos stops)) (openChart (openingTempo tempos) .state) beats values
 
   pub sm-on-rows : map quantized (map first (processed tempos stops .stops)) ≡ map first (processed tempos stops .stops)
   sm-on-rows = go (processed tempos stops .stops) stops-on
@@ -129,7 +129,7 @@ stays-finite nan value h = let z : _≡_ {A = ℕ} 0 1 = cc in absurd (omega ari
 stays-finite (inf s) value h = let z : _≡_ {A = ℕ} 0 1 = cc in absurd (omega arith)
 stays-finite (fin s m e) value h = tt
 
-pub ssc-on-rows : (beats values : List Float) → allIn (rangeOf RawBeat) beats ≡ true → map quantized (map first (stayed beats values)) ≡ map first (stayed beats values)
+pub ssc-on-rows : (beats values : List Float) → allIn (rangeOf RawBeat) beats ≡ true → map quantized (map first (stayedSsc beats values)) ≡ map first (stayedSsc beats values)
 unfolding entries kept every
 ssc-on-rows [] values b = refl
 ssc-on-rows (beat ∷ beats) [] b = refl
@@ -137,7 +137,7 @@ ssc-on-rows (beat ∷ beats) (value ∷ values) b =
     let bs = every-rest (inRange (rangeOf RawBeat)) beat beats b in
     go (staysSsc (beat, value)) refl (bs .0) (ssc-on-rows beats values (bs .1))
   where
-    go : (t : Bool) → staysSsc (beat, value) ≡ t → inRange (rangeOf RawBeat) beat ≡ true → map quantized (map first (stayed beats values)) ≡ map first (stayed beats values)
-        → map quantized (map first (pick t (onRow (beat, value) ∷ stayed beats values) (stayed beats values))) ≡ map first (pick t (onRow (beat, value) ∷ stayed beats values) (stayed beats values))
+    go : (t : Bool) → staysSsc (beat, value) ≡ t → inRange (rangeOf RawBeat) beat ≡ true → map quantized (map first (stayedSsc beats values)) ≡ map first (stayedSsc beats values)
+        → map quantized (map first (pick t (quantizedEntry (beat, value) ∷ stayedSsc beats values) (stayedSsc beats values))) ≡ map first (pick t (quantizedEntry (beat, value) ∷ stayedSsc beats values) (stayedSsc beats values))
     go true e i rest = rw (quantized-twice beat (taken-within 16 beat (sym (finite-taken (upTo 16) beat (stays-finite beat value e)) ∙ i)), rest)
     go false e i rest = rest

@@ -43,10 +43,10 @@ use Rattle.process_sm_machine.specs.declared.Written.{Written}
 use Rattle.process_sm_machine.specs.declared.Written.the-variants.{Nothing}
 use Rattle.process_sm_machine.specs.declared.Moved.{Moved}
 use Rattle.process_sm_machine.specs.Machine as machine
-use Rattle.process_sm_machine.specs.Machine.{entryAt, tempoAfter, openChart, owedAt, keepWarp, closeByTime, passInWarp, passBy, pass, tempoOutside, tempoBy, meetTempo, stopOutside, closeByStop, beginAgain, stopInWarp, stopBy, meetStop, beatAt, meet, passed, met, finishWarp, finishBy, finish}
+use Rattle.process_sm_machine.specs.Machine.{entryAt, tempoAfter, openChart, owedAt, keepWarp, closeByTime, passInWarp, passBy, pass, tempoOutside, tempoBy, meetTempo, stopOutside, closeByStop, beginAgain, stopInWarp, stopBy, meetStop, beatAt, meet, timePassed, met, finishWarp, finishBy, finish}
 use Rattle.process_sm_machine.proofs.Either.{either}
-use Rattle.process_sm_walk.specs.Chart.{listOf, walk, processed, openingTempo, openingPlaces}
-use Rattle.process_sm_walk.specs.Changes.{left}
+use Rattle.process_sm_walk.specs.Chart.{writtenList, walkChanges, processed, openingTempo, openingPlaces}
+use Rattle.process_sm_walk.specs.Changes.{changesLeft}
 use Rattle.process_sm_laws.proofs.Segments.{each-append}
 use Rattle.process_sm_laws.proofs.ArrowsKeepOrder.{OneOf}
 use Rattle.process_sm_laws.proofs.WrittenInOrder.{all-behind}
@@ -118,7 +118,7 @@ ssc-one beat value h b v =
     let allowed : T (allowedBeat beat) = taken-within 16 beat (sym (finite-taken (upTo 16) beat (says .0)) ∙ b) in
     record { onRow = quantized-twice beat allowed; allowed = quantized-allowed beat allowed; forth = forth-of beat allowed (says .2); tempo = value-taken false value (says .1) (above-nothing value (says .3)) v }
 
-pub ssc-grid : (beats values : List Float) → allIn (rangeOf RawBeat) beats ≡ true → allIn (rangeOf RawTempo) values ≡ true → Each beatKeyOf (OnGrid Narrowed) (ssc.stayed beats values)
+pub ssc-grid : (beats values : List Float) → allIn (rangeOf RawBeat) beats ≡ true → allIn (rangeOf RawTempo) values ≡ true → Each beatKeyOf (OnGrid Narrowed) (ssc.stayedSsc beats values)
 unfolding entries kept every
 ssc-grid [] values b v = tt
 ssc-grid (beat ∷ beats) [] b v = tt
@@ -127,15 +127,15 @@ ssc-grid (beat ∷ beats) (value ∷ values) b v =
     let vs = every-rest (inRange (rangeOf RawTempo)) value values v in
     go (ssc.staysSsc (beat, value)) refl (ssc-grid beats values (bs .1) (vs .1)) (λ h. ssc-one beat value h (bs .0) (vs .0))
   where
-    go : (t : Bool) → ssc.staysSsc (beat, value) ≡ t → Each beatKeyOf (OnGrid Narrowed) (ssc.stayed beats values) → (ssc.staysSsc (beat, value) ≡ true → OnGrid Narrowed (quantized beat, value))
-        → Each beatKeyOf (OnGrid Narrowed) (pick t (ssc.onRow (beat, value) ∷ ssc.stayed beats values) (ssc.stayed beats values))
+    go : (t : Bool) → ssc.staysSsc (beat, value) ≡ t → Each beatKeyOf (OnGrid Narrowed) (ssc.stayedSsc beats values) → (ssc.staysSsc (beat, value) ≡ true → OnGrid Narrowed (quantized beat, value))
+        → Each beatKeyOf (OnGrid Narrowed) (pick t (ssc.quantizedEntry (beat, value) ∷ ssc.stayedSsc beats values) (ssc.stayedSsc beats values))
     go true e rest one = (one e, rest)
     go false e rest one = rest
 
 -- ---- SM: a tempo is written at the beat that is reached, or where a warp starts, on its row
 
 abbrev On : Written → Type 0
-On w = Each (beatKey binary64) OnItsRow (listOf w)
+On w = Each (beatKey binary64) OnItsRow (writtenList w)
 
 entry-on : (beat value : Float) → Beat beat → On (entryAt beat value)
 entry-on beat value b = (on-its-row beat (b .allowed), tt)
@@ -183,12 +183,12 @@ module _ (n : ℕ) where
       go Closed o = tt
       go (Open warp) o = after-warp warp (state .tempo) (o .start)
 
-  walk-on : (changes : List Change) (state : State) → Along (Within n) changes state → Each (beatKey binary64) OnItsRow (walk changes state .tempos)
-  unfolding walk
+  walk-on : (changes : List Change) (state : State) → Along (Within n) changes state → Each (beatKey binary64) OnItsRow (walkChanges changes state .tempos)
+  unfolding walkChanges
   walk-on [] state a = ending state (a .0)
   walk-on (change ∷ changes) state a =
-      each-append (beatKey binary64) OnItsRow (listOf (passed state change .tempo) ++ listOf (met state change .tempo)) (walk changes (met state change .state) .tempos)
-      (each-append (beatKey binary64) OnItsRow (listOf (passed state change .tempo)) (listOf (met state change .tempo)) (passing state (beatAt change) (a .0)) (meeting (passed state change .state) change (a .1)))
+      each-append (beatKey binary64) OnItsRow (writtenList (timePassed state change .tempo) ++ writtenList (met state change .tempo)) (walkChanges changes (met state change .state) .tempos)
+      (each-append (beatKey binary64) OnItsRow (writtenList (timePassed state change .tempo)) (writtenList (met state change .tempo)) (passing state (beatAt change) (a .0)) (meeting (timePassed state change .state) change (a .1)))
       (walk-on changes (met state change .state) (a .2))
 
 -- all that is said of each tempo
@@ -222,9 +222,9 @@ module _ (tempoBeats tempoValues stopBeats stopValues : List Float) (t : rawNumb
   unfolding openChart ofBits
   on-rows =
       let states = all-states T′ S′ (changes-good tempoBeats tempoValues t) (in-order tempoBeats tempoValues t) (changes-good stopBeats stopValues s) (in-order stopBeats stopValues s) (changes-most tempoBeats tempoValues t) (changes-most stopBeats stopValues s) in
-      each-append (beatKey binary64) OnItsRow (listOf (openChart (openingTempo T′) .tempo)) (walk (left T′ S′ (openingPlaces T′ S′)) (openChart (openingTempo T′) .state) .tempos)
+      each-append (beatKey binary64) OnItsRow (writtenList (openChart (openingTempo T′) .tempo)) (walkChanges (changesLeft T′ S′ (openingPlaces T′ S′)) (openChart (openingTempo T′) .state) .tempos)
       (either On (machine.fits (openingTempo T′)) (entryAt plusZero32 (openingTempo T′)) Nothing (entry-on plusZero32 (openingTempo T′) naught-beat) tt)
-      (walk-on 4096 (left T′ S′ (openingPlaces T′ S′)) (openChart (openingTempo T′) .state) states)
+      (walk-on 4096 (changesLeft T′ S′ (openingPlaces T′ S′)) (openChart (openingTempo T′) .state) states)
     where
       naught-beat : Beat plusZero32
       naught-beat = zero-beat

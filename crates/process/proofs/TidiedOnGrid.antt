@@ -19,8 +19,8 @@ use Rattle.order.proofs.TidiedList.{tidied-rises}
 use Rattle.tidy_tempos.specs.TempoTidying.{beatKeyOf, fromZero, changesAfter, changes, tidyTempos}
 use Rattle.process_raw.specs.RawLists.{rawNumbers}
 use Rattle.process_raw.proofs.BothTaken.{both-taken}
-use Rattle.process_ssc.specs.Ssc.{stayed}
-use Rattle.process_sm_lent.specs.Sm.{written}
+use Rattle.process_ssc.specs.Ssc.{stayedSsc}
+use Rattle.process_sm_lent.specs.Sm.{smWritten}
 use Rattle.chart.specs.declared.TimingFormat.{TimingFormat}
 use Rattle.chart.specs.declared.TimingFormat.the-variants.{Sm, Ssc}
 use Rattle.process.specs.ByFormat.{tempoBeatsOf, tempoValuesOf, listsBy, processedLists}
@@ -95,7 +95,7 @@ sixty-is = sixty-taken
 pub sm-tidied : (tempoBeats tempoValues stopBeats stopValues : List Float) → rawNumbers tempoBeats tempoValues stopBeats stopValues ≡ 0 → Tidied SmTempo (listsBy Sm tempoBeats tempoValues stopBeats stopValues .tempos)
 sm-tidied tempoBeats tempoValues stopBeats stopValues h =
     let both = both-taken h in
-    let out = written tempoBeats tempoValues stopBeats stopValues .tempos in
+    let out = smWritten tempoBeats tempoValues stopBeats stopValues .tempos in
     tempos-tidied SmTempo (map first out) (map second out) sixty-is (rw (entries-columns out) (sm-grid tempoBeats tempoValues stopBeats stopValues (both .tempos) (both .stops)))
 
 narrowed-on-grid : (e : Float × Float) → OnGrid SmTempo e → OnGrid Narrowed e
@@ -107,7 +107,7 @@ by-format Sm tempoBeats tempoValues stopBeats stopValues h =
     record { rising = tidy .rising; each = each-so beatKeyOf narrowed-on-grid (listsBy Sm tempoBeats tempoValues stopBeats stopValues .tempos) (tidy .each) }
 by-format Ssc tempoBeats tempoValues stopBeats stopValues h =
     let raw = list-taken (both-taken h .tempos) in
-    let out = stayed tempoBeats tempoValues in
+    let out = stayedSsc tempoBeats tempoValues in
     tempos-tidied Narrowed (map first out) (map second out) (sm-narrowed sixty sixty-is) (rw (entries-columns out) (ssc-grid tempoBeats tempoValues (raw .beatsIn) (raw .valuesIn)))
 
 pub processed-tidied : (format : TimingFormat) (tempoBeats tempoValues stopBeats stopValues : List Float) → rawNumbers tempoBeats tempoValues stopBeats stopValues ≡ 0 → Tidied Narrowed (processedLists format tempoBeats tempoValues stopBeats stopValues .tempos)

@@ -20,7 +20,7 @@ use Rattle.process_sm_changes.specs.SmChanges.{smChanges}
 use Rattle.process_sm_machine.specs.declared.Change.{Change}
 use Rattle.process_sm_machine.specs.Machine.{beatAt}
 use Rattle.process_sm_walk.specs.Chart.{openingPlaces, processed}
-use Rattle.process_sm_walk.specs.Changes.{left}
+use Rattle.process_sm_walk.specs.Changes.{changesLeft}
 use Rattle.process_sm_laws.specs.Beats.{Beat, beatKey}
 use Rattle.process_sm_laws.proofs.ChangesInOrder.{changeKey}
 use Rattle.process_sm_laws.proofs.ChangesTaken.{changes-good, changes-most, in-order}
@@ -63,7 +63,7 @@ module _ (tempoBeats tempoValues stopBeats stopValues : List Float) (h : rawNumb
       let t = both-taken h .tempos in let s = both-taken h .stops in
       let good = all-good T′ S′ (changes-good tempoBeats tempoValues t) (in-order tempoBeats tempoValues t) (changes-good stopBeats stopValues s) (in-order stopBeats stopValues s) (changes-most tempoBeats tempoValues t) (changes-most stopBeats stopValues s) in
       stops-f32 (processed T′ S′ .stops)
-      (sm-lengths-f32 T′ S′ (each-so changeKey {P = GoodChange} {Q = λ (change : Change). Beat (beatAt change)} (λ e g. g .0) (left T′ S′ (openingPlaces T′ S′)) good) (all-f32 T′ S′ (changes-f32 tempoBeats tempoValues) (changes-f32 stopBeats stopValues)))
+      (sm-lengths-f32 T′ S′ (each-so changeKey {P = GoodChange} {Q = λ (change : Change). Beat (beatAt change)} (λ e g. g .0) (changesLeft T′ S′ (openingPlaces T′ S′)) good) (all-f32 T′ S′ (changes-f32 tempoBeats tempoValues) (changes-f32 stopBeats stopValues)))
       (sm-stops-above tempoBeats tempoValues stopBeats stopValues h)
 
   both-f32 : AllF32 (map second (listsBy Sm tempoBeats tempoValues stopBeats stopValues .tempos)) × AllF32 (map second (listsBy Sm tempoBeats tempoValues stopBeats stopValues .stops))

@@ -12,7 +12,7 @@ use Rattle.process_raw.specs.RawLists.{rawNumbers}
 use Rattle.process_ssc.specs.Ssc as ssc
 use Rattle.process_sm_changes.specs.SmChanges.{smChanges}
 use Rattle.process_sm_walk.specs.Chart.{offsetOf}
-use Rattle.process_sm_lent.specs.Sm.{written, tidied, SmLaid}
+use Rattle.process_sm_lent.specs.Sm.{smWritten, tidiedTempos, SmLaid}
 use Rattle.chart.specs.declared.TimingFormat.{TimingFormat}
 use Rattle.chart.specs.declared.TimingFormat.the-variants.{Sm, Ssc}
 
@@ -38,14 +38,14 @@ pub record Lists : Type 0 where
 -- SSC makes no warps, and leaves beat 0 where it is
 abbrev pub listsBy : TimingFormat → (tempoBeats tempoValues stopBeats stopValues : List Float) → Lists
 listsBy Sm tempoBeats tempoValues stopBeats stopValues = record {
-  tempos = tidied (written tempoBeats tempoValues stopBeats stopValues .tempos);
-  stops = written tempoBeats tempoValues stopBeats stopValues .stops;
-  warps = written tempoBeats tempoValues stopBeats stopValues .warps;
+  tempos = tidiedTempos (smWritten tempoBeats tempoValues stopBeats stopValues .tempos);
+  stops = smWritten tempoBeats tempoValues stopBeats stopValues .stops;
+  warps = smWritten tempoBeats tempoValues stopBeats stopValues .warps;
   offset = offsetOf (smChanges stopBeats stopValues);
 }
 listsBy Ssc tempoBeats tempoValues stopBeats stopValues = record {
   tempos = ssc.sscTempos tempoBeats tempoValues;
-  stops = ssc.stayed stopBeats stopValues;
+  stops = ssc.stayedSsc stopBeats stopValues;
   warps = [];
   offset = plusZero;
 }

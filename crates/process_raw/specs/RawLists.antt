@@ -20,13 +20,13 @@ abbrev pub rawNumbers : List Float → List Float → List Float → List Float 
 rawNumbers tempoBeats tempoValues stopBeats stopValues = lower (rawNumber tempoBeats tempoValues) (rawNumber stopBeats stopValues)
 
 -- a list that is taken, and of which nothing is dropped: `stayed` is what stays of a list
-pub record Whole (stayed : List Float → List Float → List (Float × Float)) (beats values : List Float) : Type 0 where
+pub record TakenWhole (stayed : List Float → List Float → List (Float × Float)) (beats values : List Float) : Type 0 where
   pub number : rawNumber beats values ≡ 0
   pub stay : length (stayed beats values) ≡ length beats
 
 -- what a test has told of a list
 abbrev pub Known : (List Float → List Float → List (Float × Float)) → Bool → List Float → List Float → Type 0
-Known stayed whole beats values = whole ≡ true → Whole stayed beats values
+Known stayed whole beats values = whole ≡ true → TakenWhole stayed beats values
 
 -- the room of two columns
 abbrev pub roomFor : List Float → List Float → ℕ

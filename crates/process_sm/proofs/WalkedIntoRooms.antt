@@ -17,7 +17,7 @@ use Rattle.process_raw.proofs.BothTaken.{both-taken}
 use Rattle.process_sm_changes.specs.SmChanges.{smChanges}
 use Rattle.process_sm_walk.specs.declared.Walked.{Walked}
 use Rattle.process_sm_walk.specs.Chart.{Output, offsetOf}
-use Rattle.process_sm_walk.specs.Columns.{Columns, columns, most}
+use Rattle.process_sm_walk.specs.Columns.{Columns, columns, mostWritten}
 use Rattle.process_sm_walk.specs.Walking.{WalkLaid}
 use Rattle.process_sm_walk.proofs.Lengths.{Bounded}
 use Rattle.tidy_tempos.specs.TempoTidying.{tidyTempos}
@@ -28,10 +28,10 @@ use Rattle.process_sm_laws.proofs.ChangesTaken.{few-changes, few-written}
 use Rattle.process_sm_laws.proofs.AssemblyTakes.{sm-tempos-tidied}
 use Rattle.process_sm_walk_raw.specs.RawWalk.{RawWalked, walkedNumber}
 use Rattle.process_sm_walk_raw.proofs.Numbers.{number-with-room}
-use Rattle.process_sm_lent.specs.Sm.{tidied, written}
+use Rattle.process_sm_lent.specs.Sm.{tidiedTempos, smWritten}
 use Rattle.process_sm_lent.proofs.Ends.{by-tests, taken}
 use Rattle.process_sm_lent.proofs.WalkedColumns.{Fronts, walked-fronts}
-use Rattle.process_sm.specs.Inside.{WorkRooms, Holds, ResultRooms}
+use Rattle.process_sm.specs.Inside.{WalkRooms, RoomsHold, ResultRooms}
 use Rattle.process_sm.specs.Sm.{SmProcessed}
 use Rattle.process_sm.proofs.FewTidied.{few-tidied}
 use Rattle.process_sm.proofs.WorkRoom.{room-for}
@@ -47,9 +47,9 @@ module _ (tb tv sb sv wtb wtv otb otv osb osv owb owl : List Float)
   old = columns wtb wtv osb osv owb owl
 
   abbrev out : Output
-  out = written tb tv sb sv
+  out = smWritten tb tv sb sv
 
-  work-rooms : WorkRooms tb tv sb sv wtb wtv osb osv owb owl
+  work-rooms : WalkRooms tb tv sb sv wtb wtv osb osv owb owl
   work-rooms = record { tempos = work; stops = λ h. rooms .stopsFit; warps = λ h. rooms .warpsFit }
 
   number-is : walkedNumber tb tv sb sv old ≡ rawNumbers tb tv sb sv
@@ -86,7 +86,7 @@ module _ (tb tv sb sv wtb wtv otb otv osb osv owb owl : List Float)
       pub fronts : Fronts (smChanges tb tv) (smChanges sb sv) walked new
       fronts = walked-fronts laid-now bound (room-for tb tv sb sv work-rooms passed)
 
-      tempos-fit : length (tidied (out .tempos)) ≤ min (length otb) (length otv)
+      tempos-fit : length (tidiedTempos (out .tempos)) ≤ min (length otb) (length otv)
       tempos-fit =
           let t = few-tidied (map first (out .tempos)) (map second (out .tempos)) in
           let l = length-map (out .tempos) first in
@@ -107,7 +107,7 @@ module _ (tb tv sb sv wtb wtv otb otv osb osv owb owl : List Float)
           otb otb′ otv otv′ osb (new .stopBeats) osv (new .stopValues) owb (new .warpBeats) owl (new .warpLengths)
       unfolding given
       into-taken b v {outcome} {otb′} {otv′} {offset} eb ev pair o =
-          let tidy : LaidPair 0 (tidied (out .tempos)) outcome otb otb′ otv otv′ = rw (eb, ev, sm-tempos-tidied tb tv sb sv passed) at pair in
-          let none : outcome .number ≡ 0 = tidy .number ∙ sym (number-taken 0 (length (tidied (out .tempos))) (min (length otb) (length otv)) refl tempos-fit) in
+          let tidy : LaidPair 0 (tidiedTempos (out .tempos)) outcome otb otb′ otv otv′ = rw (eb, ev, sm-tempos-tidied tb tv sb sv passed) at pair in
+          let none : outcome .number ≡ 0 = tidy .number ∙ sym (number-taken 0 (length (tidiedTempos (out .tempos))) (min (length otb) (length otv)) refl tempos-fit) in
           rw (o ∙ laid-now .offset)
           (taken passed stops-fit warps-fit tidy (walked .stops) (walked .warps) none (laid-now .stops) (laid-now .warps) (laid-now .stopBeats) (laid-now .stopValues) (laid-now .warpBeats) (laid-now .warpLengths))

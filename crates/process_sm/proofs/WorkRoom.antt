@@ -8,9 +8,9 @@ use lib.Ieee.{Float}
 use Rattle.process_raw.specs.RawLists.{rawNumbers}
 use Rattle.process_raw.proofs.BothTaken.{both-taken}
 use Rattle.process_sm_changes.specs.SmChanges.{smChanges}
-use Rattle.process_sm_walk.specs.Columns.{Columns, columns, most}
+use Rattle.process_sm_walk.specs.Columns.{Columns, columns, mostWritten}
 use Rattle.process_sm_walk.specs.Inside.{Room}
-use Rattle.process_sm.specs.Inside.{WorkRooms}
+use Rattle.process_sm.specs.Inside.{WalkRooms}
 use Rattle.process_sm_laws.proofs.ChangesTaken.{few-changes}
 use Rattle.process_raw.specs.declared.Processed.{Processed}
 use Rattle.process_sm_walk_raw.proofs.Numbers.{number-with-room}
@@ -18,8 +18,8 @@ use Rattle.process_sm_lent.specs.Lent.{LentLaid}
 use Rattle.process_sm.specs.Sm.{SmProcessed}
 
 -- room for the walk
-pub room-for : (tb tv sb sv : List Float) {wtb wtv wsb wsv wwb wwl : List Float} → WorkRooms tb tv sb sv wtb wtv wsb wsv wwb wwl → rawNumbers tb tv sb sv ≡ 0
-    → Room (most (length (smChanges tb tv)) (length (smChanges sb sv))) (columns wtb wtv wsb wsv wwb wwl)
+pub room-for : (tb tv sb sv : List Float) {wtb wtv wsb wsv wwb wwl : List Float} → WalkRooms tb tv sb sv wtb wtv wsb wsv wwb wwl → rawNumbers tb tv sb sv ≡ 0
+    → Room (mostWritten (length (smChanges tb tv)) (length (smChanges sb sv))) (columns wtb wtv wsb wsv wwb wwl)
 room-for tb tv sb sv {wtb} {wtv} {wsb} {wsv} {wwb} {wwl} w h =
     let both = both-taken h in
     let t = few-changes tb tv (both .tempos) in
@@ -37,5 +37,5 @@ room-for tb tv sb sv {wtb} {wtv} {wsb} {wsv} {wwb} {wwl} w h =
 
 -- by the tests of both lists, where the work columns have room
 pub with-room : {tb tv sb sv : List Float} {outcome : Processed} {wtb wtv wsb wsv wwb wwl : List Float} {new : Columns} {a a′ b b′ c c′ d d′ e e′ f f′ : List Float}
-    → LentLaid tb tv sb sv outcome (columns wtb wtv wsb wsv wwb wwl) new a a′ b b′ c c′ d d′ e e′ f f′ → WorkRooms tb tv sb sv wtb wtv wsb wsv wwb wwl → SmProcessed tb tv sb sv outcome a a′ b b′ c c′ d d′ e e′ f f′
+    → LentLaid tb tv sb sv outcome (columns wtb wtv wsb wsv wwb wwl) new a a′ b b′ c c′ d d′ e e′ f f′ → WalkRooms tb tv sb sv wtb wtv wsb wsv wwb wwl → SmProcessed tb tv sb sv outcome a a′ b b′ c c′ d d′ e e′ f f′
 with-room {tb} {tv} {sb} {sv} {outcome} {wtb} {wtv} {wsb} {wsv} {wwb} {wwl} p w = rw (number-with-room tb tv sb sv (columns wtb wtv wsb wsv wwb wwl) (room-for tb tv sb sv w)) at (p .lists)

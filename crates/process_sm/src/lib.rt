@@ -6,7 +6,7 @@ ghost use Prim.Native.Nat.{_≤_, _+_, _<_, _^_, max, min};
 ghost use lib.ListN.{length};
 ghost use Rattle.process_raw.specs.RawLists.{rawNumbers};
 ghost use Rattle.process_sm.specs.Sm.{SmProcessed};
-ghost use Rattle.process_sm.specs.Inside.{Holds, ResultRooms};
+ghost use Rattle.process_sm.specs.Inside.{RoomsHold, ResultRooms};
 
 // ---- where every room holds the most that the lists come to: stops and warps are written into their rooms by the walk itself
 
@@ -18,7 +18,7 @@ fn rooms_hold(
     warp_room: usize,
 ) -> bool
     requires { ⌜ tempos + stops < 2 ^ 64 ⌝ }
-    ensures { λ r. ⌜ (r ≡ true → Holds tempos stops «tempo_room» «stop_room» «warp_room») ⌝ }
+    ensures { λ r. ⌜ (r ≡ true → RoomsHold tempos stops «tempo_room» «stop_room» «warp_room») ⌝ }
 {
     if tempo_room < 1 {
         return false;

@@ -25,8 +25,8 @@ abbrev pub narrowed : Float × Float → Float × Float
 narrowed e = (narrow (e .0), narrow (e .1))
 
 -- the entries that stay, narrowed, in the order given
-abbrev pub stayed : List Float → List Float → List (Float × Float)
-stayed beats values = kept staysSm narrowed (entries beats values)
+abbrev pub stayedSm : List Float → List Float → List (Float × Float)
+stayedSm beats values = kept staysSm narrowed (entries beats values)
 
 -- an f32 beat as a key: -0 and +0 are one beat
 abbrev pub beatKey32 : Float × Float → ℕ
@@ -34,7 +34,7 @@ beatKey32 e = floatKey binary32 (e .0)
 
 -- and in the stable order by beat, as narrowing leaves it
 abbrev pub smChanges : List Float → List Float → List (Float × Float)
-smChanges beats values = ordered beatKey32 (stayed beats values)
+smChanges beats values = ordered beatKey32 (stayedSm beats values)
 
 -- The one outcome: the number by the list's own tests, then 7 where there is no room for as many as are given; under it the changes.
 pub record ChangesLaid (beats values : List Float) (outcome : Outcome) (beatsOld beatsNew valuesOld valuesNew : List Float) : Type 0 where

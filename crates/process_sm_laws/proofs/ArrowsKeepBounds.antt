@@ -23,7 +23,7 @@ use Rattle.process_sm_machine.specs.declared.Written.{Written}
 use Rattle.process_sm_machine.specs.declared.Written.the-variants.{Nothing, One}
 use Rattle.process_sm_machine.specs.declared.Moved.{Moved}
 use Rattle.process_sm_machine.proofs.Either.{either}
-use Rattle.process_sm_machine.specs.Machine.{fastest, fits, entryAt, warpOver, still, openChart, owedAt, settledAt, keepWarp, closeByTime, passInWarp, passBy, pass, tempoOutside, tempoBy, meetTempo, stopOutside, closeByStop, beginAgain, stopInWarp, stopBy, meetStop, meet, endOf, finishWarp, finishBy, finish}
+use Rattle.process_sm_machine.specs.Machine.{fastest, fits, entryAt, warpOver, still, openChart, owedAt, settledAt, keepWarp, closeByTime, passInWarp, passBy, pass, tempoOutside, tempoBy, meetTempo, stopOutside, closeByStop, beginAgain, stopInWarp, stopBy, meetStop, meet, warpEndOf, finishWarp, finishBy, finish}
 use Rattle.process_sm_laws.specs.Beats.{Beat}
 use Rattle.process_sm_laws.proofs.ChangesInOrder.{beat-naught}
 use Rattle.process_sm_laws.proofs.Sides.{On, zero, add-side, mul-side, div-side, sub-forward, below-on, not-above-on, above-if-not-below, rest-at-most}
@@ -255,7 +255,7 @@ opening-within tempo t = record { state = record { tempo = t; beat = beat-naught
 finish-by-within : (n : ℕ) (warp : Warp) (tempo beat : Float) → Within n (record { tempo = tempo; beat = beat; warp = warp }) → Kept n (finishBy warp tempo beat)
 unfolding finishWarp
 finish-by-within n Closed tempo beat w = record { state = w; stop = tt; warp = tt }
-finish-by-within n (Open warp) tempo beat w = record { state = record { tempo = w .tempo; beat = w .beat; warp = tt }; stop = tt; warp = warp-length (warp .start) (endOf tempo beat (warp .owed)) }
+finish-by-within n (Open warp) tempo beat w = record { state = record { tempo = w .tempo; beat = w .beat; warp = tt }; stop = tt; warp = warp-length (warp .start) (warpEndOf tempo beat (warp .owed)) }
 
 pub finish-within : (n : ℕ) (state : State) → Within n state → Kept n (finish state)
 unfolding finish

@@ -20,8 +20,8 @@ use Rattle.process_sm_machine.specs.declared.Written.{Written}
 use Rattle.process_sm_machine.specs.declared.Written.the-variants.{Nothing}
 use Rattle.process_sm_machine.specs.declared.Moved.{Moved}
 use Rattle.process_sm_machine.proofs.Either.{either}
-use Rattle.process_sm_machine.specs.Machine.{fits, entryAt, warpOver, tempoAfter, still, openChart, owedAt, settledAt, keepWarp, closeByTime, passInWarp, passBy, pass, tempoOutside, tempoBy, meetTempo, stopOutside, closeByStop, beginAgain, stopInWarp, stopBy, meetStop, meet, endOf, finishWarp, finishBy, finish}
-use Rattle.process_sm_walk.specs.Chart.{listOf}
+use Rattle.process_sm_machine.specs.Machine.{fits, entryAt, warpOver, tempoAfter, still, openChart, owedAt, settledAt, keepWarp, closeByTime, passInWarp, passBy, pass, tempoOutside, tempoBy, meetTempo, stopOutside, closeByStop, beginAgain, stopInWarp, stopBy, meetStop, meet, warpEndOf, finishWarp, finishBy, finish}
+use Rattle.process_sm_walk.specs.Chart.{writtenList}
 use Rattle.process_sm_laws.specs.Beats.{Beat, beatKey, at, spot}
 use Rattle.process_sm_laws.proofs.BeatsOnRows.{spot-mono}
 use Rattle.process_sm_laws.proofs.Segments.{Segment, none-between, one-between}
@@ -59,44 +59,44 @@ module _ (f : Format) (P : Float → Type 0) where
 
   pub record Fair (before : State) (moved : Moved) : Type 0 where
     pub good : Good (moved .state)
-    pub behind : Behind before (moved .state) (listOf (moved .tempo)) (listOf (moved .stop)) (listOf (moved .warp))
+    pub behind : Behind before (moved .state) (writtenList (moved .tempo)) (writtenList (moved .stop)) (writtenList (moved .warp))
 
   -- ---- one entry, or none
 
   module _ (beat value : Float) (b : Beat beat) (low high : ℕ) (h : low ≤ spot f beat) (k : spot f beat ≤ high) where
-    entry-between : Segment (beatKey f) low high (listOf (entryAt beat value))
+    entry-between : Segment (beatKey f) low high (writtenList (entryAt beat value))
     entry-between = one-between (beatKey f) low high (quantized32 beat, value) h k
 
-    entry-on-row : Each (beatKey f) OnRow (listOf (entryAt beat value))
+    entry-on-row : Each (beatKey f) OnRow (writtenList (entryAt beat value))
     entry-on-row = (quantized32-allowed beat (b .allowed), tt)
 
-    entry-one-of : P value → Each (beatKey f) OneOf (listOf (entryAt beat value))
+    entry-one-of : P value → Each (beatKey f) OneOf (writtenList (entryAt beat value))
     entry-one-of p = ((quantized32-allowed beat (b .allowed), p), tt)
 
-    or-none : (t : Bool) → Segment (beatKey f) low high (listOf (pick t (entryAt beat value) Nothing))
-    or-none t = either (λ (w : Written). Segment (beatKey f) low high (listOf w)) t _ _ entry-between (none-between (beatKey f) low high (omega arith))
+    or-none : (t : Bool) → Segment (beatKey f) low high (writtenList (pick t (entryAt beat value) Nothing))
+    or-none t = either (λ (w : Written). Segment (beatKey f) low high (writtenList w)) t _ _ entry-between (none-between (beatKey f) low high (omega arith))
 
   module _ (warp : Opened) (b : Beat (warp .start)) (low high : ℕ) (h : low ≤ spot f (warp .start)) (k : spot f (warp .start) ≤ high) where
-    warp-between : (end : Float) → Segment (beatKey f) low high (listOf (warpOver (warp .start) end))
+    warp-between : (end : Float) → Segment (beatKey f) low high (writtenList (warpOver (warp .start) end))
     unfolding warpOver
     warp-between end = or-none (warp .start) (quantized32 (sub binary32 end (warp .start))) b low high h k (lt (warp .start) end)
 
-    warp-on-row : (end : Float) → Each (beatKey f) OnRow (listOf (warpOver (warp .start) end))
+    warp-on-row : (end : Float) → Each (beatKey f) OnRow (writtenList (warpOver (warp .start) end))
     unfolding warpOver
     warp-on-row end =
-        either (λ (w : Written). Each (beatKey f) OnRow (listOf w)) (lt (warp .start) end) _ _
+        either (λ (w : Written). Each (beatKey f) OnRow (writtenList w)) (lt (warp .start) end) _ _
         (entry-on-row (warp .start) (quantized32 (sub binary32 end (warp .start))) b low high h k) tt
 
-    tempo-between : (tempo : Float) → Segment (beatKey f) low high (listOf (tempoAfter warp tempo))
+    tempo-between : (tempo : Float) → Segment (beatKey f) low high (writtenList (tempoAfter warp tempo))
     unfolding tempoAfter
     tempo-between tempo =
-        either (λ (w : Written). Segment (beatKey f) low high (listOf w)) (eq tempo (warp .former)) _ _
+        either (λ (w : Written). Segment (beatKey f) low high (writtenList w)) (eq tempo (warp .former)) _ _
         (none-between (beatKey f) low high (omega arith)) (entry-between (warp .start) tempo b low high h k)
 
-    tempo-one-of : (tempo : Float) → P tempo → Each (beatKey f) OneOf (listOf (tempoAfter warp tempo))
+    tempo-one-of : (tempo : Float) → P tempo → Each (beatKey f) OneOf (writtenList (tempoAfter warp tempo))
     unfolding tempoAfter
     tempo-one-of tempo p =
-        either (λ (w : Written). Each (beatKey f) OneOf (listOf w)) (eq tempo (warp .former)) _ _ tt
+        either (λ (w : Written). Each (beatKey f) OneOf (writtenList w)) (eq tempo (warp .former)) _ _ tt
         (entry-one-of (warp .start) tempo b low high h k p)
 
   -- ---- nothing is written
@@ -124,7 +124,7 @@ module _ (f : Format) (P : Float → Type 0) where
       tempoOrder = or-none plusZero32 tempo b (spot f plusZero32) (spot f plusZero32) (omega arith) (omega arith) (fits tempo);
       stopOrder = none-between (beatKey f) (spot f plusZero32) (spot f plusZero32) (omega arith);
       warpOrder = none-between (beatKey f) (spot f plusZero32) (spot f plusZero32) (omega arith);
-      temposAre = either (λ (w : Written). Each (beatKey f) OneOf (listOf w)) (fits tempo) _ _ (entry-one-of plusZero32 tempo b (spot f plusZero32) (spot f plusZero32) (omega arith) (omega arith) p) tt;
+      temposAre = either (λ (w : Written). Each (beatKey f) OneOf (writtenList w)) (fits tempo) _ _ (entry-one-of plusZero32 tempo b (spot f plusZero32) (spot f plusZero32) (omega arith) (omega arith) p) tt;
       stopsAre = tt;
       warpsAre = tt;
     };
@@ -273,10 +273,10 @@ module _ (f : Format) (P : Float → Type 0) where
         behind = record {
           tempoOrder = tempo-between warp (g .low) (spot f (warp .start)) (spot f beat) (omega arith) first tempo;
           stopOrder = none-between (beatKey f) (spot f beat) (spot f beat) (omega arith);
-          warpOrder = warp-between warp (g .low) (spot f (warp .start)) (spot f beat) (omega arith) first (endOf tempo beat (warp .owed));
+          warpOrder = warp-between warp (g .low) (spot f (warp .start)) (spot f beat) (omega arith) first (warpEndOf tempo beat (warp .owed));
           temposAre = tempo-one-of warp (g .low) (spot f (warp .start)) (spot f beat) (omega arith) first tempo (g .tempo);
           stopsAre = tt;
-          warpsAre = warp-on-row warp (g .low) (spot f (warp .start)) (spot f beat) (omega arith) first (endOf tempo beat (warp .owed));
+          warpsAre = warp-on-row warp (g .low) (spot f (warp .start)) (spot f beat) (omega arith) first (warpEndOf tempo beat (warp .owed));
         };
       }
 

@@ -16,7 +16,7 @@ use Rattle.order.specs.Order.{From, NeverFalls}
 use Rattle.order.proofs.OrderedList.{Each, from-le}
 use Rattle.process_sm_machine.specs.declared.Change.{Change}
 use Rattle.process_sm_machine.specs.Machine.{beatAt}
-use Rattle.process_sm_walk.specs.Changes.{tempoOf, stopOf, weave, merged}
+use Rattle.process_sm_walk.specs.Changes.{tempoOf, stopOf, weave, mergedChanges}
 use Rattle.process_sm_walk.specs.Chart.{temposBy0, stopsBefore}
 use Rattle.process_sm_laws.specs.Beats.{Beat, beatKey, at}
 use Rattle.process_sm_laws.proofs.BeatsOnRows.{at-le, at-lt}
@@ -31,62 +31,62 @@ Beats list = Each (beatKey binary32) (λ (e : Float × Float). Beat (e .0)) list
 -- ---- what holds of all entries holds of all changes
 
 module _ (Q : Change → Type 0) where
-  each-stops : (stops : List (Float × Float)) → Each (beatKey binary32) (λ (e : Float × Float). Q (stopOf e)) stops → Each changeKey Q (merged [] stops)
+  each-stops : (stops : List (Float × Float)) → Each (beatKey binary32) (λ (e : Float × Float). Q (stopOf e)) stops → Each changeKey Q (mergedChanges [] stops)
   each-stops [] q = tt
   each-stops (stop ∷ stops) q = (q .0, each-stops stops (q .1))
 
   each-weave : (tempo : Float × Float) (tempos : List (Float × Float)) → Q (tempoOf tempo)
-      → ((stops : List (Float × Float)) → Each (beatKey binary32) (λ (e : Float × Float). Q (stopOf e)) stops → Each changeKey Q (merged tempos stops))
-      → (stops : List (Float × Float)) → Each (beatKey binary32) (λ (e : Float × Float). Q (stopOf e)) stops → Each changeKey Q (weave tempo (merged tempos) stops)
+      → ((stops : List (Float × Float)) → Each (beatKey binary32) (λ (e : Float × Float). Q (stopOf e)) stops → Each changeKey Q (mergedChanges tempos stops))
+      → (stops : List (Float × Float)) → Each (beatKey binary32) (λ (e : Float × Float). Q (stopOf e)) stops → Each changeKey Q (weave tempo (mergedChanges tempos) stops)
   each-weave tempo tempos p ih [] q = (p, ih [] tt)
   each-weave tempo tempos p ih (stop ∷ stops) q = by (le (tempo .0) (stop .0)) (ih (stop ∷ stops) q) (each-weave tempo tempos p ih stops (q .1))
     where
-      by : (b : Bool) → Each changeKey Q (merged tempos (stop ∷ stops)) → Each changeKey Q (weave tempo (merged tempos) stops)
-          → Each changeKey Q (pick b (tempoOf tempo ∷ merged tempos (stop ∷ stops)) (stopOf stop ∷ weave tempo (merged tempos) stops))
+      by : (b : Bool) → Each changeKey Q (mergedChanges tempos (stop ∷ stops)) → Each changeKey Q (weave tempo (mergedChanges tempos) stops)
+          → Each changeKey Q (pick b (tempoOf tempo ∷ mergedChanges tempos (stop ∷ stops)) (stopOf stop ∷ weave tempo (mergedChanges tempos) stops))
       by true a b = (p, a)
       by false a b = (q .0, b)
 
   pub each-merged : (tempos stops : List (Float × Float)) → Each (beatKey binary32) (λ (e : Float × Float). Q (tempoOf e)) tempos
-      → Each (beatKey binary32) (λ (e : Float × Float). Q (stopOf e)) stops → Each changeKey Q (merged tempos stops)
+      → Each (beatKey binary32) (λ (e : Float × Float). Q (stopOf e)) stops → Each changeKey Q (mergedChanges tempos stops)
   each-merged [] stops p q = each-stops stops q
   each-merged (tempo ∷ tempos) stops p q = each-weave tempo tempos (p .0) (λ (s : List (Float × Float)). each-merged tempos s (p .1)) stops q
 
 -- ---- none is before a beat that is before all
 
 module _ (k : ℕ) where
-  from-stops : (stops : List (Float × Float)) → From (beatKey binary32) k stops → From changeKey k (merged [] stops)
+  from-stops : (stops : List (Float × Float)) → From (beatKey binary32) k stops → From changeKey k (mergedChanges [] stops)
   from-stops [] q = tt
   from-stops (stop ∷ stops) q = (q .0, from-stops stops (q .1))
 
   from-weave : (tempo : Float × Float) (tempos : List (Float × Float)) → k ≤ at (tempo .0)
-      → ((stops : List (Float × Float)) → From (beatKey binary32) k stops → From changeKey k (merged tempos stops))
-      → (stops : List (Float × Float)) → From (beatKey binary32) k stops → From changeKey k (weave tempo (merged tempos) stops)
+      → ((stops : List (Float × Float)) → From (beatKey binary32) k stops → From changeKey k (mergedChanges tempos stops))
+      → (stops : List (Float × Float)) → From (beatKey binary32) k stops → From changeKey k (weave tempo (mergedChanges tempos) stops)
   from-weave tempo tempos p ih [] q = (p, ih [] tt)
   from-weave tempo tempos p ih (stop ∷ stops) q = by (le (tempo .0) (stop .0)) (ih (stop ∷ stops) q) (from-weave tempo tempos p ih stops (q .1))
     where
-      by : (b : Bool) → From changeKey k (merged tempos (stop ∷ stops)) → From changeKey k (weave tempo (merged tempos) stops)
-          → From changeKey k (pick b (tempoOf tempo ∷ merged tempos (stop ∷ stops)) (stopOf stop ∷ weave tempo (merged tempos) stops))
+      by : (b : Bool) → From changeKey k (mergedChanges tempos (stop ∷ stops)) → From changeKey k (weave tempo (mergedChanges tempos) stops)
+          → From changeKey k (pick b (tempoOf tempo ∷ mergedChanges tempos (stop ∷ stops)) (stopOf stop ∷ weave tempo (mergedChanges tempos) stops))
       by true a b = (p, a)
       by false a b = (q .0, b)
 
-  pub from-merged : (tempos stops : List (Float × Float)) → From (beatKey binary32) k tempos → From (beatKey binary32) k stops → From changeKey k (merged tempos stops)
+  pub from-merged : (tempos stops : List (Float × Float)) → From (beatKey binary32) k tempos → From (beatKey binary32) k stops → From changeKey k (mergedChanges tempos stops)
   from-merged [] stops p q = from-stops stops q
   from-merged (tempo ∷ tempos) stops p q = from-weave tempo tempos (p .0) (λ (s : List (Float × Float)). from-merged tempos s (p .1)) stops q
 
 -- ---- the changes never fall
 
-rises-stops : (stops : List (Float × Float)) → NeverFalls (beatKey binary32) stops → NeverFalls changeKey (merged [] stops)
+rises-stops : (stops : List (Float × Float)) → NeverFalls (beatKey binary32) stops → NeverFalls changeKey (mergedChanges [] stops)
 rises-stops [] r = tt
 rises-stops (stop ∷ stops) r = (from-stops (at (stop .0)) stops (r .0), rises-stops stops (r .1))
 
 rises-weave : (tempo : Float × Float) (tempos : List (Float × Float)) → Beat (tempo .0) → From (beatKey binary32) (at (tempo .0)) tempos
-    → ((stops : List (Float × Float)) → Beats stops → NeverFalls (beatKey binary32) stops → NeverFalls changeKey (merged tempos stops))
-    → (stops : List (Float × Float)) → Beats stops → NeverFalls (beatKey binary32) stops → NeverFalls changeKey (weave tempo (merged tempos) stops)
+    → ((stops : List (Float × Float)) → Beats stops → NeverFalls (beatKey binary32) stops → NeverFalls changeKey (mergedChanges tempos stops))
+    → (stops : List (Float × Float)) → Beats stops → NeverFalls (beatKey binary32) stops → NeverFalls changeKey (weave tempo (mergedChanges tempos) stops)
 rises-weave tempo tempos b p ih [] q r = (from-merged (at (tempo .0)) tempos [] p tt, ih [] tt tt)
 rises-weave tempo tempos b p ih (stop ∷ stops) q r = by (le (tempo .0) (stop .0)) (sym (at-le (tempo .0) (stop .0) b (q .0))) (rises-weave tempo tempos b p ih stops (q .1) (r .1))
   where
-    by : (t : Bool) → leb (at (tempo .0)) (at (stop .0)) ≡ t → NeverFalls changeKey (weave tempo (merged tempos) stops)
-        → NeverFalls changeKey (pick t (tempoOf tempo ∷ merged tempos (stop ∷ stops)) (stopOf stop ∷ weave tempo (merged tempos) stops))
+    by : (t : Bool) → leb (at (tempo .0)) (at (stop .0)) ≡ t → NeverFalls changeKey (weave tempo (mergedChanges tempos) stops)
+        → NeverFalls changeKey (pick t (tempoOf tempo ∷ mergedChanges tempos (stop ∷ stops)) (stopOf stop ∷ weave tempo (mergedChanges tempos) stops))
     by true e rest =
         let less : at (tempo .0) ≤ at (stop .0) = leb-true (at (tempo .0)) (at (stop .0)) e in
         (from-merged (at (tempo .0)) tempos (stop ∷ stops) p (less, from-le (beatKey binary32) (at (tempo .0)) (at (stop .0)) stops less (r .0)), ih (stop ∷ stops) q r)
@@ -95,7 +95,7 @@ rises-weave tempo tempos b p ih (stop ∷ stops) q r = by (le (tempo .0) (stop .
         (from-merged (at (stop .0)) (tempo ∷ tempos) stops (omega arith, from-le (beatKey binary32) (at (stop .0)) (at (tempo .0)) tempos (omega arith) p) (r .0), rest)
 
 pub rises-merged : (tempos stops : List (Float × Float)) → Beats tempos → NeverFalls (beatKey binary32) tempos → Beats stops → NeverFalls (beatKey binary32) stops
-    → NeverFalls changeKey (merged tempos stops)
+    → NeverFalls changeKey (mergedChanges tempos stops)
 rises-merged [] stops b r q s = rises-stops stops s
 rises-merged (tempo ∷ tempos) stops b r q s = rises-weave tempo tempos (b .0) (r .0) (λ (l : List (Float × Float)). rises-merged tempos l (b .1) (r .1)) stops q s
 
@@ -147,7 +147,7 @@ tempos-after (tempo ∷ tempos) b r = by (le (tempo .0) plusZero32) (sym (at-le 
 
 -- the opening has used up one at least
 pub after-opening : (tempos stops : List (Float × Float)) → Beats tempos → NeverFalls (beatKey binary32) tempos → Beats stops → NeverFalls (beatKey binary32) stops
-    → From changeKey (at plusZero32) (merged (drop (max (temposBy0 tempos) 1) tempos) (drop (stopsBefore stops) stops))
+    → From changeKey (at plusZero32) (mergedChanges (drop (max (temposBy0 tempos) 1) tempos) (drop (stopsBefore stops) stops))
 after-opening tempos stops b r q s =
     from-merged (at plusZero32) (drop (max (temposBy0 tempos) 1) tempos) (drop (stopsBefore stops) stops)
     (by (temposBy0 tempos) (tempos-after tempos b r)) (stops-after stops q s)

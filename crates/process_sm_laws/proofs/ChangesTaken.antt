@@ -22,12 +22,12 @@ use Rattle.order.proofs.EachEntry.{each-so}
 use Rattle.columns.specs.Kept.{kept}
 use Rattle.columns.proofs.KeptLaid.{few-kept}
 use Rattle.process_raw.specs.RawLists.{rawNumber}
-use Rattle.process_sm_changes.specs.SmChanges.{staysSm, narrowed, stayed, beatKey32, smChanges}
+use Rattle.process_sm_changes.specs.SmChanges.{staysSm, narrowed, stayedSm, beatKey32, smChanges}
 use Rattle.process_sm_changes.proofs.Narrowed.{stays-says, beat-allowed, value-taken}
 use Rattle.process_sm_walk.specs.Chart.{processed}
-use Rattle.process_sm_walk.specs.Columns.{Columns, most}
+use Rattle.process_sm_walk.specs.Columns.{Columns, mostWritten}
 use Rattle.process_sm_walk.specs.Walking.{isNumber, walkNumber}
-use Rattle.process_sm_walk.specs.Inside.{Room, Numbers, Chart}
+use Rattle.process_sm_walk.specs.Inside.{Room, TemposNumbers, Chart}
 use Rattle.process_sm_walk.proofs.Lengths.{Bounded, bounded}
 use Rattle.process_sm_laws.specs.Beats.{Beat}
 use Rattle.process_sm_laws.proofs.ChangesInOrder.{Beats}
@@ -41,7 +41,7 @@ pub tempo-or-zero : (x : Float) → IsTempo x → inRange (rangeOf TidyTempo) x 
 unfolding inRange
 tempo-or-zero x h = go (le (sizeOf x) (power (pos 30))) (le (power (negsuc 19)) (sizeOf x)) (eq (sizeOf x) plusZero) (lt (sizeOf x) (inf false)) h
   where
-    go : (most least level beyond : Bool) → pick most (pick least true (pick level false false)) (pick beyond false false) ≡ true → pick most (pick least true (pick level true false)) (pick beyond false false) ≡ true
+    go : (mostWritten least level beyond : Bool) → pick mostWritten (pick least true (pick level false false)) (pick beyond false false) ≡ true → pick mostWritten (pick least true (pick level true false)) (pick beyond false false) ≡ true
     go true true level beyond k = refl
     go true false true beyond k = refl
     go true false false beyond k = k
@@ -52,7 +52,7 @@ pub record Good (e : Float × Float) : Type 0 where
   pub beat : Beat (e .0)
   pub value : IsTempo (e .1)
 
-stayed-good : (beats values : List Float) → allIn (rangeOf RawBeat) beats ≡ true → allIn (rangeOf RawTempo) values ≡ true → Each beatKey32 Good (stayed beats values)
+stayed-good : (beats values : List Float) → allIn (rangeOf RawBeat) beats ≡ true → allIn (rangeOf RawTempo) values ≡ true → Each beatKey32 Good (stayedSm beats values)
 unfolding entries kept
 stayed-good [] values b v = tt
 stayed-good (beat ∷ beats) [] b v = tt
@@ -61,8 +61,8 @@ stayed-good (beat ∷ beats) (value ∷ values) b v =
     let vs = every-rest (inRange (rangeOf RawTempo)) value values v in
     go (staysSm (beat, value)) refl (stayed-good beats values (bs .1) (vs .1)) (bs .0) (vs .0)
   where
-    go : (t : Bool) → staysSm (beat, value) ≡ t → Each beatKey32 Good (stayed beats values) → inRange (rangeOf RawBeat) beat ≡ true → inRange (rangeOf RawTempo) value ≡ true
-        → Each beatKey32 Good (pick t (narrowed (beat, value) ∷ stayed beats values) (stayed beats values))
+    go : (t : Bool) → staysSm (beat, value) ≡ t → Each beatKey32 Good (stayedSm beats values) → inRange (rangeOf RawBeat) beat ≡ true → inRange (rangeOf RawTempo) value ≡ true
+        → Each beatKey32 Good (pick t (narrowed (beat, value) ∷ stayedSm beats values) (stayedSm beats values))
     go true h rest p q =
         let says = stays-says beat value h in
         (record { beat = record { held = narrow-fits beat; allowed = beat-allowed beat (says .beatFinite) p }; value = value-taken false value (says .valueFinite) (says .other) q }, rest)
@@ -79,25 +79,25 @@ all-tempos (e ∷ list) p = rw (tempo-or-zero (e .1) (p .0 .value)) (all-tempos 
 numbers : (list : List (Float × Float)) → Each beatKey32 Good list → every isNumber (map second list) ≡ true
 numbers list p = tempos-numbers (map second list) (all-tempos list p)
 
-each-number : (list : List (Float × Float)) → every isNumber (map second list) ≡ true → Numbers list
+each-number : (list : List (Float × Float)) → every isNumber (map second list) ≡ true → TemposNumbers list
 each-number [] h = tt
 each-number (e ∷ list) h = let k = every-rest isNumber (e .1) (map second list) h in (k .0, each-number list (k .1))
 
 module _ (beats values : List Float) (taken : rawNumber beats values ≡ 0) where
   pub changes-good : Each beatKey32 Good (smChanges beats values)
-  changes-good = let raw = list-taken taken in each-ordered beatKey32 Good (stayed beats values) (stayed-good beats values (raw .beatsIn) (raw .valuesIn))
+  changes-good = let raw = list-taken taken in each-ordered beatKey32 Good (stayedSm beats values) (stayed-good beats values (raw .beatsIn) (raw .valuesIn))
 
   pub changes-numbers : every isNumber (map second (smChanges beats values)) ≡ true
   changes-numbers = numbers (smChanges beats values) changes-good
 
   pub few-changes : length (smChanges beats values) ≤ length beats
-  few-changes = omega (arith, ordered-length beatKey32 (stayed beats values), few-kept staysSm narrowed (entries beats values), length-entries beats values (list-taken taken .even))
+  few-changes = omega (arith, ordered-length beatKey32 (stayedSm beats values), few-kept staysSm narrowed (entries beats values), length-entries beats values (list-taken taken .even))
 
   pub changes-most : length (smChanges beats values) ≤ 1024
   changes-most = omega (arith, few-changes, list-taken taken .few)
 
   pub in-order : NeverFalls beatKey32 (smChanges beats values)
-  in-order = ordered-never-falls beatKey32 (stayed beats values)
+  in-order = ordered-never-falls beatKey32 (stayedSm beats values)
 
   pub on-beats : Beats (smChanges beats values)
   on-beats = each-so beatKey32 (λ e g. g .beat) (smChanges beats values) changes-good
@@ -122,7 +122,7 @@ module _ (tempoBeats tempoValues stopBeats stopValues : List Float) (t : rawNumb
       let S = smChanges stopBeats stopValues in
       rw (entries-columns T, entries-columns S, length-map T first, length-map S first) at (bounded (map first T) (map second T) (map first S) (map second S) chart)
 
-  pub walk-takes : (into : Columns) → Room (most (length (smChanges tempoBeats tempoValues)) (length (smChanges stopBeats stopValues))) into
+  pub walk-takes : (into : Columns) → Room (mostWritten (length (smChanges tempoBeats tempoValues)) (length (smChanges stopBeats stopValues))) into
       → walkNumber (map first (smChanges tempoBeats tempoValues)) (map second (smChanges tempoBeats tempoValues)) (map first (smChanges stopBeats stopValues)) (map second (smChanges stopBeats stopValues)) into ≡ 0
   walk-takes into room =
       let T = smChanges tempoBeats tempoValues in

@@ -22,8 +22,8 @@ use Rattle.process_sm_machine.specs.declared.Opened.{Opened}
 use Rattle.process_sm_machine.specs.declared.Warp.{Warp}
 use Rattle.process_sm_machine.specs.declared.Warp.the-variants.{Closed, Open}
 use Rattle.process_sm_machine.specs.declared.State.{State}
-use Rattle.process_sm_machine.specs.Machine.{endless, owedAt, settledAt, openChart, beatAt, passed, met}
-use Rattle.process_sm_walk.specs.Changes.{left}
+use Rattle.process_sm_machine.specs.Machine.{endless, owedAt, settledAt, openChart, beatAt, timePassed, met}
+use Rattle.process_sm_walk.specs.Changes.{changesLeft}
 use Rattle.process_sm_walk.specs.Chart.{openingTempo, openingPlaces}
 use Rattle.process_sm_laws.specs.Beats.{Beat}
 use Rattle.process_sm_laws.proofs.ChangesInOrder.{changeKey}
@@ -78,7 +78,7 @@ abbrev pub Reckoned : List Change → State → Type 0
 Reckoned [] state = AtEnd (state .warp) (state .tempo) (state .beat)
 Reckoned (change ∷ changes) state =
     AtTime (state .warp) (state .tempo) (state .beat) (beatAt change)
-    × AtStop (passed state change .state .warp) (passed state change .state .beat) change
+    × AtStop (timePassed state change .state .warp) (timePassed state change .state .beat) change
     × Reckoned changes (met state change .state)
 
 -- ---- bounds
@@ -144,7 +144,7 @@ walk-reckoned : (changes : List Change) (state : State) → Along (Within 4096) 
 walk-reckoned [] state a e = at-end (state .warp) (state .tempo) (state .beat) (a .0)
 walk-reckoned (change ∷ changes) state a e = (
   time-reckoned (state .warp) (state .tempo) (state .beat) (beatAt change) (a .0 .warp) (a .0 .tempo) (a .0 .beat) (e .0 .0),
-  stop-reckoned (passed state change .state .warp) (passed state change .state .tempo) (passed state change .state .beat) change (a .1) (e .0),
+  stop-reckoned (timePassed state change .state .warp) (timePassed state change .state .tempo) (timePassed state change .state .beat) change (a .1) (e .0),
   walk-reckoned changes (met state change .state) (a .2) (e .1),
 )
 
@@ -160,7 +160,7 @@ module _ (tempoBeats tempoValues stopBeats stopValues : List Float) (taken : raw
   opened = openChart (openingTempo tempos) .state
 
   abbrev changes : List Change
-  changes = left tempos stops (openingPlaces tempos stops)
+  changes = changesLeft tempos stops (openingPlaces tempos stops)
 
   t : rawNumber tempoBeats tempoValues ≡ 0
   t = both-taken taken .tempos

@@ -11,8 +11,8 @@ use lib.IntN.{pos, negsuc}
 use lib.Count.{trailingZeros}
 use lib.Ieee.{Float, fin, add, sub, mul, div, neg, lt, le, eq, ofInt, ofBits, ofFields, round, sum, size, span, climb, units, odd}
 use Rattle.ieee.specs.Rounding.{rint, hold}
-use Rattle.process_sm_machine.specs.Machine.{fits, warpOver, tempoAfter, openChart, owedAt, keepWarp, closeByTime, passInWarp, pass, tempoOutside, meetTempo, stopOutside, closeByStop, beginAgain, stopInWarp, meetStop, endOf, finishWarp, finish}
-use Rattle.process_sm_walk.specs.Chart.{Output, walk, stopsBefore, lastTempo, temposBy0, processed}
+use Rattle.process_sm_machine.specs.Machine.{fits, warpOver, tempoAfter, openChart, owedAt, keepWarp, closeByTime, passInWarp, pass, tempoOutside, meetTempo, stopOutside, closeByStop, beginAgain, stopInWarp, meetStop, warpEndOf, finishWarp, finish}
+use Rattle.process_sm_walk.specs.Chart.{Output, walkChanges, stopsBefore, lastTempo, temposBy0, processed}
 
 abbrev start : Float
 start = fin false 0 (pos 0)
@@ -60,17 +60,17 @@ abbrev goesOn : Output
 goesOn = record { tempos = (start, forward) ∷ (four, backward) ∷ []; stops = []; warps = (four, toTheLastRow) ∷ [] }
 
 pub pause-of-one : processed given ((eight, one) ∷ []) ≡ goesOn
-unfolding walk stopsBefore lastTempo temposBy0 openChart fits warpOver tempoAfter owedAt keepWarp closeByTime passInWarp pass tempoOutside meetTempo stopOutside closeByStop beginAgain stopInWarp meetStop endOf finishWarp finish rint hold add sub mul div neg lt le eq ofInt ofBits ofFields round sum size span climb units odd trailingZeros
+unfolding walkChanges stopsBefore lastTempo temposBy0 openChart fits warpOver tempoAfter owedAt keepWarp closeByTime passInWarp pass tempoOutside meetTempo stopOutside closeByStop beginAgain stopInWarp meetStop warpEndOf finishWarp finish rint hold add sub mul div neg lt le eq ofInt ofBits ofFields round sum size span climb units odd trailingZeros
 pause-of-one = refl
 
 pub pause-of-two : processed given ((eight, two) ∷ []) ≡ goesOn
-unfolding walk stopsBefore lastTempo temposBy0 openChart fits warpOver tempoAfter owedAt keepWarp closeByTime passInWarp pass tempoOutside meetTempo stopOutside closeByStop beginAgain stopInWarp meetStop endOf finishWarp finish rint hold add sub mul div neg lt le eq ofInt ofBits ofFields round sum size span climb units odd trailingZeros
+unfolding walkChanges stopsBefore lastTempo temposBy0 openChart fits warpOver tempoAfter owedAt keepWarp closeByTime passInWarp pass tempoOutside meetTempo stopOutside closeByStop beginAgain stopInWarp meetStop warpEndOf finishWarp finish rint hold add sub mul div neg lt le eq ofInt ofBits ofFields round sum size span climb units odd trailingZeros
 pause-of-two = refl
 
 pub pause-of-three : processed given ((eight, three) ∷ []) ≡ record { tempos = (start, forward) ∷ (eight, backward) ∷ []; stops = (eight, one) ∷ []; warps = (four, four) ∷ (eight, toTheLastRow) ∷ [] }
-unfolding walk stopsBefore lastTempo temposBy0 openChart fits warpOver tempoAfter owedAt keepWarp closeByTime passInWarp pass tempoOutside meetTempo stopOutside closeByStop beginAgain stopInWarp meetStop endOf finishWarp finish rint hold add sub mul div neg lt le eq ofInt ofBits ofFields round sum size span climb units odd trailingZeros
+unfolding walkChanges stopsBefore lastTempo temposBy0 openChart fits warpOver tempoAfter owedAt keepWarp closeByTime passInWarp pass tempoOutside meetTempo stopOutside closeByStop beginAgain stopInWarp meetStop warpEndOf finishWarp finish rint hold add sub mul div neg lt le eq ofInt ofBits ofFields round sum size span climb units odd trailingZeros
 pause-of-three = refl
 
 pub pause-worked-off : processed ((start, forward) ∷ (four, backward) ∷ (eight, forward) ∷ []) ((ten, half) ∷ []) ≡ record { tempos = (start, forward) ∷ []; stops = []; warps = (four, seven) ∷ [] }
-unfolding walk stopsBefore lastTempo temposBy0 openChart fits warpOver tempoAfter owedAt keepWarp closeByTime passInWarp pass tempoOutside meetTempo stopOutside closeByStop beginAgain stopInWarp meetStop endOf finishWarp finish rint hold add sub mul div neg lt le eq ofInt ofBits ofFields round sum size span climb units odd trailingZeros
+unfolding walkChanges stopsBefore lastTempo temposBy0 openChart fits warpOver tempoAfter owedAt keepWarp closeByTime passInWarp pass tempoOutside meetTempo stopOutside closeByStop beginAgain stopInWarp meetStop warpEndOf finishWarp finish rint hold add sub mul div neg lt le eq ofInt ofBits ofFields round sum size span climb units odd trailingZeros
 pause-worked-off = refl

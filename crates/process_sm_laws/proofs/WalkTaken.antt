@@ -12,11 +12,11 @@ use borrow.Author.Tests.{eq-eqb, le-leb}
 use Rattle.limits.specs.Numbers.{inRange, every, allIn, rangeOf}
 use Rattle.limits.specs.declared.Kind.the-variants.{TidyTempo}
 use Rattle.limits.proofs.Every.{every-rest}
-use Rattle.process_sm_walk.specs.Columns.{Columns, most}
+use Rattle.process_sm_walk.specs.Columns.{Columns, mostWritten}
 use Rattle.process_sm_walk.specs.Walking.{isNumber, chartNumber, hasRoom, walkNumber}
 use Rattle.process_sm_walk.specs.Inside.{Room}
 
-pub walk-taken : (tb tv sb sv : List Float) (into : Columns) → length tb ≡ length tv → length sb ≡ length sv → every isNumber tv ≡ true → Room (most (length tb) (length sb)) into
+pub walk-taken : (tb tv sb sv : List Float) (into : Columns) → length tb ≡ length tv → length sb ≡ length sv → every isNumber tv ≡ true → Room (mostWritten (length tb) (length sb)) into
     → walkNumber tb tv sb sv into ≡ 0
 unfolding walkNumber chartNumber hasRoom
 walk-taken tb tv sb sv into t s n r =

@@ -21,11 +21,11 @@ use Rattle.process_sm_machine.specs.declared.State.{State}
 use Rattle.process_sm_machine.specs.declared.Written.{Written}
 use Rattle.process_sm_machine.specs.declared.Written.the-variants.{Nothing, One}
 use Rattle.process_sm_machine.specs.declared.Moved.{Moved}
-use Rattle.process_sm_machine.specs.Machine.{beatAt, openChart, passed, met, finish}
+use Rattle.process_sm_machine.specs.Machine.{beatAt, openChart, timePassed, met, finish}
 use Rattle.process_sm_machine.proofs.Either.{either}
 use Rattle.process_sm_machine.proofs.Reached.{pass-reaches, meet-stays}
-use Rattle.process_sm_walk.specs.Changes.{tempoOf, stopOf, weave, merged, left}
-use Rattle.process_sm_walk.specs.Chart.{listOf, walk, firstTempo, temposBy0, stopsBefore, openingTempo, openingPlaces, processed}
+use Rattle.process_sm_walk.specs.Changes.{tempoOf, stopOf, weave, mergedChanges, changesLeft}
+use Rattle.process_sm_walk.specs.Chart.{writtenList, walkChanges, firstTempo, temposBy0, stopsBefore, openingTempo, openingPlaces, processed}
 use Rattle.process_sm_laws.specs.Beats.{Beat, beatKey, at}
 use Rattle.process_sm_laws.proofs.BeatsOnRows.{at-le}
 use Rattle.process_sm_laws.proofs.Segments.{each-append}
@@ -42,11 +42,11 @@ pub record Fine (stops warps : List (Float × Float)) : Type 0 where
   pub stopsAre : Values IsStop stops
   pub warpsAre : Values IsLength warps
 
-said : (P : Float → Type 0) (w : Written) → Said P w → Values P (listOf w)
+said : (P : Float → Type 0) (w : Written) → Said P w → Values P (writtenList w)
 said P Nothing h = tt
 said P (One entry) h = (h, tt)
 
-said-fine : {n : ℕ} (moved : Moved) → Kept n moved → Fine (listOf (moved .stop)) (listOf (moved .warp))
+said-fine : {n : ℕ} (moved : Moved) → Kept n moved → Fine (writtenList (moved .stop)) (writtenList (moved .warp))
 said-fine moved k = record { stopsAre = said IsStop (moved .stop) (k .stop); warpsAre = said IsLength (moved .warp) (k .warp) }
 
 fine-then : {s w s′ w′ : List (Float × Float)} → Fine s w → Fine s′ w′ → Fine (s ++ s′) (w ++ w′)
@@ -64,7 +64,7 @@ GoodChange change = Beat (beatAt change) × IsTempo (valueOf change)
 -- what holds of each state: before a change, after the time up to it, after the change, and after the end
 abbrev pub Along : (State → Type 0) → List Change → State → Type 0
 Along Q [] state = Q state × Q (finish state .state)
-Along Q (change ∷ changes) state = Q state × Q (passed state change .state) × Along Q changes (met state change .state)
+Along Q (change ∷ changes) state = Q state × Q (timePassed state change .state) × Along Q changes (met state change .state)
 
 within-wider : {n m : ℕ} → n ≤ m → (state : State) → Within n state → Within m state
 within-wider {n} {m} h state w = record { tempo = w .tempo; beat = w .beat; warp = wider (state .warp) (w .warp) }
@@ -75,24 +75,24 @@ within-wider {n} {m} h state w = record { tempo = w .tempo; beat = w .beat; warp
 
 pub record Walked (m : ℕ) (changes : List Change) (state : State) : Type 0 where
   pub states : Along (Within m) changes state
-  pub lists : Fine (walk changes state .stops) (walk changes state .warps)
+  pub lists : Fine (walkChanges changes state .stops) (walkChanges changes state .warps)
 
 -- m is at least two for each change
 walk-within : (m : ℕ) → m < 2 ^ 24 → (changes : List Change) (state : State) (n : ℕ) → n + 2 * length changes ≤ m → Within n state → Each changeKey GoodChange changes → From changeKey (at (state .beat)) changes → NeverFalls changeKey changes
     → Walked m changes state
-unfolding walk
+unfolding walkChanges
 walk-within m few [] state n h w e k r =
     let last = finish-within n state w in
     record { states = (within-wider (omega arith) state w, within-wider (omega arith) (finish state .state) (last .state)); lists = said-fine (finish state) last }
 walk-within m few (change ∷ changes) state n h w e k r =
     let forth : T (le (state .beat) (beatAt change)) = subst T (sym (at-le (state .beat) (beatAt change) (w .beat) (e .0 .0) ∙ le-leb (at (state .beat)) (at (beatAt change)) (k .0))) tt in
     let one = pass-within n (omega arith) state (beatAt change) w (e .0 .0) forth in
-    let two = meet-within (suc n) (omega arith) (passed state change .state) change (one .state) (e .0 .1) in
-    let here : met state change .state .beat ≡ beatAt change = meet-stays (passed state change .state) change ∙ pass-reaches state (beatAt change) in
+    let two = meet-within (suc n) (omega arith) (timePassed state change .state) change (one .state) (e .0 .1) in
+    let here : met state change .state .beat ≡ beatAt change = meet-stays (timePassed state change .state) change ∙ pass-reaches state (beatAt change) in
     let rest = walk-within m few changes (met state change .state) (suc (suc n)) (omega arith) (two .state) (e .1) (rw here (r .0)) (r .1) in
     record {
-      states = (within-wider (omega arith) state w, within-wider (omega arith) (passed state change .state) (one .state), rest .states);
-      lists = fine-then (fine-then (said-fine (passed state change) one) (said-fine (met state change) two)) (rest .lists);
+      states = (within-wider (omega arith) state w, within-wider (omega arith) (timePassed state change .state) (one .state), rest .states);
+      lists = fine-then (fine-then (said-fine (timePassed state change) one) (said-fine (met state change) two)) (rest .lists);
     }
 
 pub sixty-taken : IsTempo sixty32
@@ -100,16 +100,16 @@ unfolding inRange ofBits lt le neg eq
 sixty-taken = refl
 
 -- ---- how many changes there are
-length-stops : (stops : List (Float × Float)) → length (merged [] stops) ≡ length stops
+length-stops : (stops : List (Float × Float)) → length (mergedChanges [] stops) ≡ length stops
 length-stops stops = length-map stops stopOf
 
-length-weave : (tempo : Float × Float) (tempos : List (Float × Float)) → ((stops : List (Float × Float)) → length (merged tempos stops) ≡ length tempos + length stops)
-    → (stops : List (Float × Float)) → length (weave tempo (merged tempos) stops) ≡ suc (length tempos) + length stops
+length-weave : (tempo : Float × Float) (tempos : List (Float × Float)) → ((stops : List (Float × Float)) → length (mergedChanges tempos stops) ≡ length tempos + length stops)
+    → (stops : List (Float × Float)) → length (weave tempo (mergedChanges tempos) stops) ≡ suc (length tempos) + length stops
 length-weave tempo tempos ih [] = omega (arith, ih [])
 length-weave tempo tempos ih (stop ∷ stops) =
     either (λ (l : List Change). length l ≡ suc (length tempos) + suc (length stops)) (le (tempo .0) (stop .0)) _ _ (omega (arith, ih (stop ∷ stops))) (omega (arith, length-weave tempo tempos ih stops))
 
-length-merged : (tempos stops : List (Float × Float)) → length (merged tempos stops) ≡ length tempos + length stops
+length-merged : (tempos stops : List (Float × Float)) → length (mergedChanges tempos stops) ≡ length tempos + length stops
 length-merged [] stops = omega (arith, length-stops stops)
 length-merged (tempo ∷ tempos) stops = length-weave tempo tempos (length-merged tempos) stops
 
@@ -121,7 +121,7 @@ module _ (tempos stops : List (Float × Float)) (tempoGood : Each (beatKey binar
   opened = openChart (openingTempo tempos) .state
 
   abbrev changes : List Change
-  changes = left tempos stops (openingPlaces tempos stops)
+  changes = changesLeft tempos stops (openingPlaces tempos stops)
 
   tempo-beats : Beats tempos
   tempo-beats = each-so (beatKey binary32) (λ e g. g .beat) tempos tempoGood

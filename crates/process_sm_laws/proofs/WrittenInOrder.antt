@@ -12,10 +12,10 @@ use Rattle.order.specs.Order.{From, NeverFalls, ordered}
 use Rattle.order.proofs.OrderedList.{Each, ordered-still}
 use Rattle.process_sm_machine.specs.declared.Change.{Change}
 use Rattle.process_sm_machine.specs.declared.State.{State}
-use Rattle.process_sm_machine.specs.Machine.{openChart, beatAt, passed, met, finish}
+use Rattle.process_sm_machine.specs.Machine.{openChart, beatAt, timePassed, met, finish}
 use Rattle.process_sm_machine.proofs.Reached.{pass-reaches, meet-stays}
-use Rattle.process_sm_walk.specs.Changes.{tempoOf, stopOf, left}
-use Rattle.process_sm_walk.specs.Chart.{walk, firstTempo, lastTempo, temposBy0, stopsBefore, openingTempo, openingPlaces, processed}
+use Rattle.process_sm_walk.specs.Changes.{tempoOf, stopOf, changesLeft}
+use Rattle.process_sm_walk.specs.Chart.{walkChanges, firstTempo, lastTempo, temposBy0, stopsBefore, openingTempo, openingPlaces, processed}
 use Rattle.process_sm_laws.specs.Beats.{Beat, beatKey, at}
 use Rattle.process_sm_laws.proofs.Segments.{one-behind-other, each-append}
 use Rattle.process_sm_laws.proofs.ArrowsKeepOrder.{Good, OnRow, OneOf, Behind, Fair, ChangeIn, fair-opening, fair-pass, fair-meet, fair-finish}
@@ -41,13 +41,13 @@ module _ (f : Format) (P : Float → Type 0) where
   GoodChange change = Beat (beatAt change) × ChangeIn f P change
 
   walk-behind : (changes : List Change) (state : State) → Good f P state → Each changeKey GoodChange changes → From changeKey (at (state .beat)) changes → NeverFalls changeKey changes
-      → Behind f P state (lastState changes state) (walk changes state .tempos) (walk changes state .stops) (walk changes state .warps)
-  unfolding walk
+      → Behind f P state (lastState changes state) (walkChanges changes state .tempos) (walkChanges changes state .stops) (walkChanges changes state .warps)
+  unfolding walkChanges
   walk-behind [] state g e k r = fair-finish f P state g .behind
   walk-behind (change ∷ changes) state g e k r =
-      let one : Fair f P state (passed state change) = fair-pass f P state (beatAt change) g (e .0 .0) (k .0) in
-      let two : Fair f P (passed state change .state) (met state change) = fair-meet f P (passed state change .state) change (one .good) (e .0 .1) in
-      let here : met state change .state .beat ≡ beatAt change = meet-stays (passed state change .state) change ∙ pass-reaches state (beatAt change) in
+      let one : Fair f P state (timePassed state change) = fair-pass f P state (beatAt change) g (e .0 .0) (k .0) in
+      let two : Fair f P (timePassed state change .state) (met state change) = fair-meet f P (timePassed state change .state) change (one .good) (e .0 .1) in
+      let here : met state change .state .beat ≡ beatAt change = meet-stays (timePassed state change .state) change ∙ pass-reaches state (beatAt change) in
       behind-then (behind-then (one .behind) (two .behind))
       (walk-behind changes (met state change .state) (two .good) (e .1) (rw here (r .0)) (r .1))
 
@@ -85,7 +85,7 @@ module _ (f : Format) (P : Float → Type 0) where
     first = openChart (openingTempo tempos) .state
 
     abbrev changes : List Change
-    changes = left tempos stops (openingPlaces tempos stops)
+    changes = changesLeft tempos stops (openingPlaces tempos stops)
 
     pub all-behind : Behind f P first (lastState changes first) (processed tempos stops .tempos) (processed tempos stops .stops) (processed tempos stops .warps)
     unfolding openChart

@@ -18,7 +18,7 @@ use Rattle.process_sm_machine.specs.declared.Warp.the-variants.{Open}
 use Rattle.process_sm_machine.specs.declared.State.{State}
 use Rattle.process_sm_machine.specs.Machine.{fits, still, meetStop, met}
 use Rattle.process_sm_machine.specs.Fate.{owing, owedBy}
-use Rattle.process_sm_walk.specs.Chart.{Output, joined, writtenAt, walk}
+use Rattle.process_sm_walk.specs.Chart.{Output, joined, writtenAt, walkChanges}
 
 -- ---- a walk up to a change: what it has written, and the state it has come to
 
@@ -43,6 +43,6 @@ pub record PauseKeepsWarp : Type 0 where
   pub onTheWalk : (before after : List Change) (start : State) (warp : Opened) (stop : Entry) → comeTo before start .warp ≡ Open warp
       → fits (comeTo before start .tempo) && lt plusZero32 (owedBy (comeTo before start) warp (Stop stop)) ≡ false
       → lt plusZero32 (add binary32 (owedBy (comeTo before start) warp (Stop stop)) (stop .value)) ≡ false
-      → walk (before ++ Stop stop ∷ after) start
+      → walkChanges (before ++ Stop stop ∷ after) start
       ≡ joined (writtenSoFar before start)
-      (walk after (record { tempo = comeTo before start .tempo; beat = stop .beat; warp = owing warp (add binary32 (owedBy (comeTo before start) warp (Stop stop)) (stop .value)) }))
+      (walkChanges after (record { tempo = comeTo before start .tempo; beat = stop .beat; warp = owing warp (add binary32 (owedBy (comeTo before start) warp (Stop stop)) (stop .value)) }))

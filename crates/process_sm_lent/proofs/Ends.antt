@@ -15,7 +15,7 @@ use Rattle.columns.specs.declared.Outcome.{Outcome}
 use Rattle.columns.specs.Laying.{roomNumber, LaidPair}
 use Rattle.columns.proofs.Rooms.{number-of-tests, number-no-room, number-taken, list-refused, list-laid, list-of-pair, pair-fits, pair-short, pair-untouched}
 use Rattle.process_raw.specs.RawLists.{roomFor, processedNothing}
-use Rattle.process_sm_lent.specs.Sm.{tidied, SmLaid}
+use Rattle.process_sm_lent.specs.Sm.{tidiedTempos, SmLaid}
 
 stays : (n count room : ℕ) → (n ≡ 0 → ⊥) → (m : ℕ) → m ≡ n → m ≡ roomNumber n count room
 stays n count room h m e = e ∙ number-of-tests n count room h
@@ -67,7 +67,7 @@ module _ {tests : ℕ} {tempos stops warps : List (Float × Float)} {offset : Fl
 module _ (T : List (Float × Float)) {tests : ℕ} {S W : List (Float × Float)} {o offset : Float} {outcome : Processed} {tb tv sb sv wb wl : List Float} {tempoBeatsOld tempoBeatsNew tempoValuesOld tempoValuesNew stopBeatsOld stopBeatsNew stopValuesOld stopValuesNew warpBeatsOld warpBeatsNew warpLengthsOld warpLengthsNew : List Float} where
   pub as-read : SmLaid 0 (tidyTempos tb tv) (entries sb sv) (entries wb wl) o outcome tempoBeatsOld tempoBeatsNew tempoValuesOld tempoValuesNew stopBeatsOld stopBeatsNew stopValuesOld stopValuesNew warpBeatsOld warpBeatsNew warpLengthsOld warpLengthsNew
       → tests ≡ 0 → tb ≡ map first T → tv ≡ map second T → sb ≡ map first S → sv ≡ map second S → wb ≡ map first W → wl ≡ map second W → o ≡ offset
-      → SmLaid tests (tidied T) S W offset outcome tempoBeatsOld tempoBeatsNew tempoValuesOld tempoValuesNew stopBeatsOld stopBeatsNew stopValuesOld stopValuesNew warpBeatsOld warpBeatsNew warpLengthsOld warpLengthsNew
+      → SmLaid tests (tidiedTempos T) S W offset outcome tempoBeatsOld tempoBeatsNew tempoValuesOld tempoValuesNew stopBeatsOld stopBeatsNew stopValuesOld stopValuesNew warpBeatsOld warpBeatsNew warpLengthsOld warpLengthsNew
   as-read p t a b c d e f g =
       let laid-stops : entries sb sv ≡ S = rw (c, d) (entries-columns S) in
       let laid-warps : entries wb wl ≡ W = rw (e, f) (entries-columns W) in

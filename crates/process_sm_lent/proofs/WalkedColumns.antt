@@ -16,7 +16,7 @@ use Rattle.process_raw.specs.RawLists.{rawNumbers}
 use Rattle.process_sm_changes.specs.SmChanges.{smChanges}
 use Rattle.process_sm_walk.specs.declared.Walked.{Walked}
 use Rattle.process_sm_walk.specs.Chart.{processed, offsetOf}
-use Rattle.process_sm_walk.specs.Columns.{Columns, most}
+use Rattle.process_sm_walk.specs.Columns.{Columns, mostWritten}
 use Rattle.process_sm_walk.specs.Walking.{WalkLaid}
 use Rattle.process_sm_walk.specs.Inside.{Room}
 use Rattle.process_sm_walk.proofs.Lengths.{Bounded}
@@ -32,7 +32,7 @@ pub record Fronts (tempos stops : List (Float × Float)) (outcome : Walked) (new
   pub warpLengths : Front (outcome .warps) (new .warpLengths) (map second (processed tempos stops .warps))
   pub offset : outcome .offset ≡ offsetOf stops
 
-pub walked-fronts : {tempos stops : List (Float × Float)} {outcome : Walked} {old new : Columns} → WalkLaid tempos stops 0 outcome old new → Bounded (length tempos) (length stops) (processed tempos stops) → Room (most (length tempos) (length stops)) old → Fronts tempos stops outcome new
+pub walked-fronts : {tempos stops : List (Float × Float)} {outcome : Walked} {old new : Columns} → WalkLaid tempos stops 0 outcome old new → Bounded (length tempos) (length stops) (processed tempos stops) → Room (mostWritten (length tempos) (length stops)) old → Fronts tempos stops outcome new
 unfolding given
 walked-fronts {tempos} {stops} {outcome} {old} {new} w b r =
     let out = processed tempos stops in
@@ -52,7 +52,7 @@ module _ (tempoBeats tempoValues stopBeats stopValues : List Float) (into : Colu
   pub raw-taken : rawNumbers tempoBeats tempoValues stopBeats stopValues ≡ 0
   raw-taken = ⊎-elim (λ z. z) (λ h. sym (number-refused tempoBeats tempoValues stopBeats stopValues into h) ∙ taken) (same? (rawNumbers tempoBeats tempoValues stopBeats stopValues) 0)
 
-  pub room-taken : Room (most (length (smChanges tempoBeats tempoValues)) (length (smChanges stopBeats stopValues))) into
+  pub room-taken : Room (mostWritten (length (smChanges tempoBeats tempoValues)) (length (smChanges stopBeats stopValues))) into
   room-taken =
       let T = smChanges tempoBeats tempoValues in
       let S = smChanges stopBeats stopValues in

@@ -9,7 +9,7 @@ use Rattle.process_raw.specs.declared.Processed.{Processed}
 use Rattle.process_sm_walk.specs.Chart.{Output}
 use Rattle.process_sm_walk.specs.Columns.{Columns}
 use Rattle.process_sm_walk_raw.specs.RawWalk.{walkedNumber}
-use Rattle.process_sm_lent.specs.Sm.{written, SmListsLaid}
+use Rattle.process_sm_lent.specs.Sm.{smWritten, SmListsLaid}
 
 -- what the walk writes stands in the fronts of the work columns
 pub record WorkLaid (number : ℕ) (out : Output) (old new : Columns) : Type 0 where
@@ -26,4 +26,4 @@ pub record LentLaid (tempoBeats tempoValues stopBeats stopValues : List Float) (
   pub lists :
       SmListsLaid (walkedNumber tempoBeats tempoValues stopBeats stopValues workOld) tempoBeats tempoValues stopBeats stopValues outcome
       tempoBeatsOld tempoBeatsNew tempoValuesOld tempoValuesNew stopBeatsOld stopBeatsNew stopValuesOld stopValuesNew warpBeatsOld warpBeatsNew warpLengthsOld warpLengthsNew
-  pub work : WorkLaid (walkedNumber tempoBeats tempoValues stopBeats stopValues workOld) (written tempoBeats tempoValues stopBeats stopValues) workOld workNew
+  pub work : WorkLaid (walkedNumber tempoBeats tempoValues stopBeats stopValues workOld) (smWritten tempoBeats tempoValues stopBeats stopValues) workOld workNew

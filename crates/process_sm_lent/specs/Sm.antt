@@ -17,12 +17,12 @@ use Rattle.process_sm_changes.specs.SmChanges.{smChanges}
 use Rattle.process_sm_walk.specs.Chart.{Output, processed, offsetOf}
 
 -- what the walk writes of both lists, as changes in order. Its stops and warps are in order by beat already, which is proved of the walk
-abbrev pub written : (tempoBeats tempoValues stopBeats stopValues : List Float) → Output
-written tempoBeats tempoValues stopBeats stopValues = processed (smChanges tempoBeats tempoValues) (smChanges stopBeats stopValues)
+abbrev pub smWritten : (tempoBeats tempoValues stopBeats stopValues : List Float) → Output
+smWritten tempoBeats tempoValues stopBeats stopValues = processed (smChanges tempoBeats tempoValues) (smChanges stopBeats stopValues)
 
 -- tempos as tidying takes them: two columns
-abbrev pub tidied : List (Float × Float) → List (Float × Float)
-tidied list = tidyTempos (map first list) (map second list)
+abbrev pub tidiedTempos : List (Float × Float) → List (Float × Float)
+tidiedTempos list = tidyTempos (map first list) (map second list)
 
 -- Three lists and an offset under one number: that of the tests, then 7 where a list is longer than its room. After a refusal the offset is 0.
 pub record SmLaid (tests : ℕ) (tempos stops warps : List (Float × Float)) (offset : Float) (outcome : Processed)
@@ -41,5 +41,5 @@ pub record SmLaid (tests : ℕ) (tempos stops warps : List (Float × Float)) (of
 abbrev pub SmListsLaid : ℕ → (tempoBeats tempoValues stopBeats stopValues : List Float) → Processed
     → (tempoBeatsOld tempoBeatsNew tempoValuesOld tempoValuesNew stopBeatsOld stopBeatsNew stopValuesOld stopValuesNew warpBeatsOld warpBeatsNew warpLengthsOld warpLengthsNew : List Float) → Type 0
 SmListsLaid tests tempoBeats tempoValues stopBeats stopValues outcome =
-    SmLaid tests (tidied (written tempoBeats tempoValues stopBeats stopValues .tempos))
-    (written tempoBeats tempoValues stopBeats stopValues .stops) (written tempoBeats tempoValues stopBeats stopValues .warps) (offsetOf (smChanges stopBeats stopValues)) outcome
+    SmLaid tests (tidiedTempos (smWritten tempoBeats tempoValues stopBeats stopValues .tempos))
+    (smWritten tempoBeats tempoValues stopBeats stopValues .stops) (smWritten tempoBeats tempoValues stopBeats stopValues .warps) (offsetOf (smChanges stopBeats stopValues)) outcome

@@ -10,7 +10,7 @@ use Rattle.process_sm_machine.specs.declared.State.{State}
 use Rattle.process_sm_machine.specs.declared.Written.the-variants.{Nothing}
 use Rattle.process_sm_machine.specs.Fate.{owing}
 pub use Rattle.process_sm_machine.proofs.PauseKeeps.{pause-keeps}
-use Rattle.process_sm_machine.specs.Machine.{fits, entryAt, warpOver, tempoAfter, still, openChart, owedAt, settledAt, keepWarp, closeByTime, passInWarp, pass, tempoOutside, meetTempo, stopOutside, closeByStop, beginAgain, stopInWarp, meetStop, endOf, finishWarp, finish}
+use Rattle.process_sm_machine.specs.Machine.{fits, entryAt, warpOver, tempoAfter, still, openChart, owedAt, settledAt, keepWarp, closeByTime, passInWarp, pass, tempoOutside, meetTempo, stopOutside, closeByStop, beginAgain, stopInWarp, meetStop, warpEndOf, finishWarp, finish}
 
 abbrev at : Float → Float → Warp → State
 at tempo beat warp = record { tempo = tempo; beat = beat; warp = warp }
@@ -104,6 +104,6 @@ module _ (state : State) (warp : Opened) (in-warp : state .warp ≡ Open warp) w
     unfolding meetStop stopInWarp keepWarp
     stop-keeps h = rw (in-warp, h)
 
-  pub end-in-warp : finish state ≡ record { state = at (state .tempo) (state .beat) Closed; tempo = tempoAfter warp (state .tempo); stop = Nothing; warp = warpOver (warp .start) (endOf (state .tempo) (state .beat) (warp .owed)) }
+  pub end-in-warp : finish state ≡ record { state = at (state .tempo) (state .beat) Closed; tempo = tempoAfter warp (state .tempo); stop = Nothing; warp = warpOver (warp .start) (warpEndOf (state .tempo) (state .beat) (warp .owed)) }
   unfolding finish finishWarp
   end-in-warp = rw in-warp

@@ -9,7 +9,7 @@ use Rattle.process_sm_machine.specs.declared.Opened.{Opened}
 use Rattle.process_sm_machine.specs.declared.Warp.{Warp}
 use Rattle.process_sm_machine.specs.declared.Warp.the-variants.{Closed, Open}
 use Rattle.process_sm_machine.specs.declared.State.{State}
-use Rattle.process_sm_machine.specs.Machine.{fits, still, beatAt, finishWarp, finishBy, finish, passed, met}
+use Rattle.process_sm_machine.specs.Machine.{fits, still, beatAt, finishWarp, finishBy, finish, timePassed, met}
 use Rattle.process_sm_machine.specs.Fate.{owing, owedBy, Fate, goesOn, endedByTime, endedByStop}
 use Rattle.process_sm_machine.proofs.EachArrow.{time-keeps, tempo-keeps, stop-keeps}
 
@@ -22,18 +22,18 @@ module _ (state : State) (warp : Opened) (in-warp : state .warp ≡ Open warp) w
   held change = record { start = warp .start; former = warp .former; owed = owedBy state warp change }
 
   -- then the change ends it, or nothing does
-  by-change : (change : Change) → passed state change ≡ still (there change) → Fate state warp change (passed state change) (met state change)
+  by-change : (change : Change) → timePassed state change ≡ still (there change) → Fate state warp change (timePassed state change) (met state change)
   by-change (Tempo entry) p = goesOn p (rw p (tempo-keeps (there (Tempo entry)) (held (Tempo entry)) refl (entry .value)))
   by-change (Stop entry) p = go (lt plusZero32 (entry .value) && lt plusZero32 (add binary32 (owedBy state warp (Stop entry)) (entry .value))) refl
     where
-      go : (b : Bool) → lt plusZero32 (entry .value) && lt plusZero32 (add binary32 (owedBy state warp (Stop entry)) (entry .value)) ≡ b → Fate state warp (Stop entry) (passed state (Stop entry)) (met state (Stop entry))
+      go : (b : Bool) → lt plusZero32 (entry .value) && lt plusZero32 (add binary32 (owedBy state warp (Stop entry)) (entry .value)) ≡ b → Fate state warp (Stop entry) (timePassed state (Stop entry)) (met state (Stop entry))
       go true h = endedByStop entry refl h
       go false h = goesOn p (rw p (stop-keeps (there (Stop entry)) (held (Stop entry)) refl (entry .value) h))
 
-  pub what-ends-a-warp : (change : Change) → Fate state warp change (passed state change) (met state change)
+  pub what-ends-a-warp : (change : Change) → Fate state warp change (timePassed state change) (met state change)
   what-ends-a-warp change = go (fits (state .tempo) && lt plusZero32 (owedBy state warp change)) refl
     where
-      go : (b : Bool) → fits (state .tempo) && lt plusZero32 (owedBy state warp change) ≡ b → Fate state warp change (passed state change) (met state change)
+      go : (b : Bool) → fits (state .tempo) && lt plusZero32 (owedBy state warp change) ≡ b → Fate state warp change (timePassed state change) (met state change)
       go true h = endedByTime h
       go false h = by-change change (time-keeps state warp in-warp (beatAt change) h)
 

@@ -181,23 +181,23 @@ abbrev pub meet : State → Change → Moved
 meet state (Tempo entry) = meetTempo state (entry .value)
 meet state (Stop entry) = meetStop state (entry .value)
 
-abbrev pub passed : State → Change → Moved
-passed state change = pass state (beatAt change)
+abbrev pub timePassed : State → Change → Moved
+timePassed state change = pass state (beatAt change)
 
 abbrev pub met : State → Change → Moved
-met state change = meet (passed state change .state) change
+met state change = meet (timePassed state change .state) change
 
 -- ---- the end of the chart: a warp that is open ends where nothing is owed, or under a tempo that doesn't fit never
 
-unfoldable pub endOf : Float → Float → Float → Float
-endOf tempo beat owed = pick (fits tempo) (settledAt tempo beat owed) endless
+unfoldable pub warpEndOf : Float → Float → Float → Float
+warpEndOf tempo beat owed = pick (fits tempo) (settledAt tempo beat owed) endless
 
 unfoldable pub finishWarp : Float → Float → Opened → Moved
 finishWarp tempo beat warp = record {
   state = record { tempo = tempo; beat = beat; warp = Closed };
   tempo = tempoAfter warp tempo;
   stop = Nothing;
-  warp = warpOver (warp .start) (endOf tempo beat (warp .owed));
+  warp = warpOver (warp .start) (warpEndOf tempo beat (warp .owed));
 }
 
 abbrev pub finishBy : Warp → Float → Float → Moved

@@ -1,6 +1,6 @@
 // SM timing as a state machine. The arrows are calls on values: each takes a state and gives the next one with what it writes.
 ghost use mathlib.Core.Path.{_≡_};
-ghost use Rattle.process_sm_machine.specs.Machine.{fits, entryAt, warpOver, tempoAfter, still, openChart, owedAt, keepWarp, closeByTime, passInWarp, pass, tempoOutside, meetTempo, stopOutside, closeByStop, beginAgain, stopInWarp, meetStop, beatAt, meet, endOf, finishWarp, finish};
+ghost use Rattle.process_sm_machine.specs.Machine.{fits, entryAt, warpOver, tempoAfter, still, openChart, owedAt, keepWarp, closeByTime, passInWarp, pass, tempoOutside, meetTempo, stopOutside, closeByStop, beginAgain, stopInWarp, meetStop, beatAt, meet, warpEndOf, finishWarp, finish};
 
 // A change, or what is written: a beat and a value.
 pub struct Entry {
@@ -366,7 +366,7 @@ pub fn meet(state: State, change: Change) -> Moved
 // ---- the end
 
 fn end_of(tempo: f32, beat: f32, owed: f32) -> f32
-    ensures { λ r. ⌜ r ≡ endOf tempo beat owed ⌝ }
+    ensures { λ r. ⌜ r ≡ warpEndOf tempo beat owed ⌝ }
 {
     let fit = fits(tempo);
     if fit {

@@ -10,9 +10,9 @@ use lib.Ieee.{Float, eq, le}
 use Rattle.process_sm_machine.specs.declared.Change.{Change}
 use Rattle.process_sm_machine.specs.declared.State.{State}
 use Rattle.order.specs.Entries.{entries}
-use Rattle.process_sm_walk.specs.Changes.{tempoOf, stopOf, merged, weave, left, advanced}
-use Rattle.process_sm_walk.specs.Chart.{Output, writtenBy, writtenAt, walk, openingTempo, openingPlaces, processed}
-use Rattle.process_sm_walk.specs.Inside.{counted, noneCounted, Within, Numbers, Chart}
+use Rattle.process_sm_walk.specs.Changes.{tempoOf, stopOf, mergedChanges, weave, changesLeft, advanced}
+use Rattle.process_sm_walk.specs.Chart.{Output, writtenBy, writtenAt, walkChanges, openingTempo, openingPlaces, processed}
+use Rattle.process_sm_walk.specs.Inside.{counted, noneCounted, WrittenWithin, TemposNumbers, Chart}
 use Rattle.process_sm_machine.specs.Machine.{openChart}
 use Rattle.process_sm_walk.specs.declared.Places.{Places}
 use Rattle.process_sm_walk.specs.declared.Counts.{Counts}
@@ -36,12 +36,12 @@ abbrev AllNumbers : List Change → Type 0
 AllNumbers [] = Unit {0}
 AllNumbers (change ∷ changes) = Number change × AllNumbers changes
 
-within-walk : (changes : List Change) (state : State) (places : Places) (counts : Counts) → AllNumbers changes → Within places state counts
-    → Within (advancedBy changes places) (lastState changes state) (counted counts (walk changes state))
-unfolding walk
+within-walk : (changes : List Change) (state : State) (places : Places) (counts : Counts) → AllNumbers changes → WrittenWithin places state counts
+    → WrittenWithin (advancedBy changes places) (lastState changes state) (counted counts (walkChanges changes state))
+unfolding walkChanges
 within-walk [] state places counts n w = within-finish places counts state w
 within-walk (change ∷ changes) state places counts n w =
-    rw (counted-more counts (writtenAt state change) (walk changes (met state change .state)))
+    rw (counted-more counts (writtenAt state change) (walkChanges changes (met state change .state)))
     (within-walk changes (met state change .state) (advanced places change) (counted counts (writtenAt state change)) (n .1) (within-step places counts state change (n .0) w))
 
 -- a merged list has all tempos and all stops
@@ -49,49 +49,49 @@ record Through (changes : List Change) (places : Places) (tempos stops : ℕ) : 
   tempo : advancedBy changes places .tempo ≡ places .tempo + tempos
   stop : advancedBy changes places .stop ≡ places .stop + stops
 
-through-none : (stops : List (Float × Float)) (places : Places) → Through (merged [] stops) places 0 (length stops)
+through-none : (stops : List (Float × Float)) (places : Places) → Through (mergedChanges [] stops) places 0 (length stops)
 through-none [] places = record { tempo = omega arith; stop = omega arith }
 through-none (s ∷ stops) places =
     let t = through-none stops (advanced places (stopOf s)) in let a = t .tempo in let b = t .stop in
     record { tempo = omega arith; stop = omega arith }
 
-through-weave : (tempo : Float × Float) (tempos : List (Float × Float)) → ((stops : List (Float × Float)) (places : Places) → Through (merged tempos stops) places (length tempos) (length stops))
-    → (stops : List (Float × Float)) (places : Places) → Through (weave tempo (merged tempos) stops) places (suc (length tempos)) (length stops)
+through-weave : (tempo : Float × Float) (tempos : List (Float × Float)) → ((stops : List (Float × Float)) (places : Places) → Through (mergedChanges tempos stops) places (length tempos) (length stops))
+    → (stops : List (Float × Float)) (places : Places) → Through (weave tempo (mergedChanges tempos) stops) places (suc (length tempos)) (length stops)
 through-weave tempo tempos ih [] places =
     let t = ih [] (advanced places (tempoOf tempo)) in let a = t .tempo in let b = t .stop in
     record { tempo = omega arith; stop = omega arith }
 through-weave tempo tempos ih (stop ∷ stops) places =
     by (le (tempo .0) (stop .0)) (ih (stop ∷ stops) (advanced places (tempoOf tempo))) (through-weave tempo tempos ih stops (advanced places (stopOf stop)))
   where
-    by : (b : Bool) → Through (merged tempos (stop ∷ stops)) (advanced places (tempoOf tempo)) (length tempos) (suc (length stops))
-        → Through (weave tempo (merged tempos) stops) (advanced places (stopOf stop)) (suc (length tempos)) (length stops)
-        → Through (pick b (tempoOf tempo ∷ merged tempos (stop ∷ stops)) (stopOf stop ∷ weave tempo (merged tempos) stops)) places (suc (length tempos)) (suc (length stops))
+    by : (b : Bool) → Through (mergedChanges tempos (stop ∷ stops)) (advanced places (tempoOf tempo)) (length tempos) (suc (length stops))
+        → Through (weave tempo (mergedChanges tempos) stops) (advanced places (stopOf stop)) (suc (length tempos)) (length stops)
+        → Through (pick b (tempoOf tempo ∷ mergedChanges tempos (stop ∷ stops)) (stopOf stop ∷ weave tempo (mergedChanges tempos) stops)) places (suc (length tempos)) (suc (length stops))
     by true t u = let a = t .tempo in let b = t .stop in record { tempo = omega arith; stop = omega arith }
     by false t u = let a = u .tempo in let b = u .stop in record { tempo = omega arith; stop = omega arith }
 
-through : (tempos stops : List (Float × Float)) (places : Places) → Through (merged tempos stops) places (length tempos) (length stops)
+through : (tempos stops : List (Float × Float)) (places : Places) → Through (mergedChanges tempos stops) places (length tempos) (length stops)
 through [] stops places = through-none stops places
 through (tempo ∷ tempos) stops places = through-weave tempo tempos (through tempos) stops places
 
-numbers-none : (stops : List (Float × Float)) → AllNumbers (merged [] stops)
+numbers-none : (stops : List (Float × Float)) → AllNumbers (mergedChanges [] stops)
 numbers-none [] = tt
 numbers-none (s ∷ stops) = (tt, numbers-none stops)
 
-numbers-weave : (tempo : Float × Float) (tempos : List (Float × Float)) → eq (tempo .1) (tempo .1) ≡ true → ((stops : List (Float × Float)) → AllNumbers (merged tempos stops))
-    → (stops : List (Float × Float)) → AllNumbers (weave tempo (merged tempos) stops)
+numbers-weave : (tempo : Float × Float) (tempos : List (Float × Float)) → eq (tempo .1) (tempo .1) ≡ true → ((stops : List (Float × Float)) → AllNumbers (mergedChanges tempos stops))
+    → (stops : List (Float × Float)) → AllNumbers (weave tempo (mergedChanges tempos) stops)
 numbers-weave tempo tempos n ih [] = (n, ih [])
 numbers-weave tempo tempos n ih (stop ∷ stops) = by (le (tempo .0) (stop .0)) (ih (stop ∷ stops)) (numbers-weave tempo tempos n ih stops)
   where
-    by : (b : Bool) → AllNumbers (merged tempos (stop ∷ stops)) → AllNumbers (weave tempo (merged tempos) stops)
-        → AllNumbers (pick b (tempoOf tempo ∷ merged tempos (stop ∷ stops)) (stopOf stop ∷ weave tempo (merged tempos) stops))
+    by : (b : Bool) → AllNumbers (mergedChanges tempos (stop ∷ stops)) → AllNumbers (weave tempo (mergedChanges tempos) stops)
+        → AllNumbers (pick b (tempoOf tempo ∷ mergedChanges tempos (stop ∷ stops)) (stopOf stop ∷ weave tempo (mergedChanges tempos) stops))
     by true a b = (n, a)
     by false a b = (tt, b)
 
-numbers-merged : (tempos stops : List (Float × Float)) → Numbers tempos → AllNumbers (merged tempos stops)
+numbers-merged : (tempos stops : List (Float × Float)) → TemposNumbers tempos → AllNumbers (mergedChanges tempos stops)
 numbers-merged [] stops n = numbers-none stops
 numbers-merged (tempo ∷ tempos) stops n = numbers-weave tempo tempos (n .0) (λ (s : List (Float × Float)). numbers-merged tempos s (n .1)) stops
 
-numbers-drop : (i : ℕ) (tempos : List (Float × Float)) → Numbers tempos → Numbers (drop i tempos)
+numbers-drop : (i : ℕ) (tempos : List (Float × Float)) → TemposNumbers tempos → TemposNumbers (drop i tempos)
 numbers-drop zero tempos n = n
 numbers-drop (suc i) [] n = tt
 numbers-drop (suc i) (x ∷ tempos) n = numbers-drop i tempos (n .1)
@@ -106,9 +106,9 @@ pub bounded : (tb tv sb sv : List Float) → Chart tb tv sb sv → Bounded (leng
 bounded tb tv sb sv chart =
     let first = openingPlaces (entries tb tv) (entries sb sv) in
     let opening = openChart (openingTempo (entries tb tv)) in
-    let rest = left (entries tb tv) (entries sb sv) first in
+    let rest = changesLeft (entries tb tv) (entries sb sv) first in
     let n = numbers-merged (drop (first .tempo) (entries tb tv)) (drop (first .stop) (entries sb sv)) (numbers-drop (first .tempo) (entries tb tv) (chart .numbers)) in
-    let w = rw (← counted-more noneCounted (writtenBy opening) (walk rest (opening .state))) at (within-walk rest (opening .state) first (counted noneCounted (writtenBy opening)) n (opening-within tb tv sb sv chart)) in
+    let w = rw (← counted-more noneCounted (writtenBy opening) (walkChanges rest (opening .state))) at (within-walk rest (opening .state) first (counted noneCounted (writtenBy opening)) n (opening-within tb tv sb sv chart)) in
     let t = through (drop (first .tempo) (entries tb tv)) (drop (first .stop) (entries sb sv)) first in
     let a = w .tempos in let b = w .stops in let d = w .warps in let e = t .tempo in let f = t .stop in
     let g = length-drop (first .tempo) (entries tb tv) in let h = length-drop (first .stop) (entries sb sv) in

@@ -13,7 +13,7 @@ use Rattle.process_sm_machine.specs.declared.Entry.{Entry}
 use Rattle.process_sm_machine.specs.declared.Change.{Change}
 use Rattle.process_sm_machine.specs.declared.Change.the-variants.{Tempo, Stop}
 use Rattle.order.specs.Entries.{entries}
-use Rattle.process_sm_walk.specs.Changes.{entryOf, pairOf, tempoOf, stopOf, merged, headOf, left, advanced}
+use Rattle.process_sm_walk.specs.Changes.{entryOf, pairOf, tempoOf, stopOf, mergedChanges, headOf, changesLeft, advanced}
 use Rattle.process_sm_walk.specs.declared.Next.the-variants.{Here, End}
 use Rattle.process_sm_walk.specs.declared.Places.{Places}
 
@@ -53,11 +53,11 @@ From tempos stops (Tempo entry) = tempos ≡ pairOf entry ∷ restOfTempos tempo
 From tempos stops (Stop entry) = stops ≡ pairOf entry ∷ restOfStops stops (Stop entry)
 
 pub record Taken (tempos stops : List (Float × Float)) (change : Change) : Type 0 where
-  pub same : merged tempos stops ≡ change ∷ merged (restOfTempos tempos change) (restOfStops stops change)
+  pub same : mergedChanges tempos stops ≡ change ∷ mergedChanges (restOfTempos tempos change) (restOfStops stops change)
   pub from : From tempos stops change
 
 taken-by : (tempo stop : Float × Float) (tempos stops : List (Float × Float)) (b : Bool) → le (tempo .0) (stop .0) ≡ b → (change : Change)
-    → headOf (merged (tempo ∷ tempos) (stop ∷ stops)) ≡ Here change → Taken (tempo ∷ tempos) (stop ∷ stops) change
+    → headOf (mergedChanges (tempo ∷ tempos) (stop ∷ stops)) ≡ Here change → Taken (tempo ∷ tempos) (stop ∷ stops) change
 taken-by tempo stop tempos stops true h change e =
     let c : change ≡ tempoOf tempo = let k = rw h at e in cc in
     rw c (record { same = rw h; from = refl })
@@ -65,7 +65,7 @@ taken-by tempo stop tempos stops false h change e =
     let c : change ≡ stopOf stop = let k = rw h at e in cc in
     rw c (record { same = rw h; from = refl })
 
-pub taken : (tempos stops : List (Float × Float)) (change : Change) → headOf (merged tempos stops) ≡ Here change → Taken tempos stops change
+pub taken : (tempos stops : List (Float × Float)) (change : Change) → headOf (mergedChanges tempos stops) ≡ Here change → Taken tempos stops change
 taken [] [] change e = absurd (let z : _≡_ {A = ℕ} 0 1 = cc in omega arith)
 taken [] (stop ∷ stops) change e = let c : change ≡ stopOf stop = cc in rw c (record { same = refl; from = refl })
 taken (tempo ∷ tempos) [] change e = let c : change ≡ tempoOf tempo = cc in rw c (record { same = refl; from = refl })
@@ -104,8 +104,8 @@ stops-left stops i tempos (Tempo entry) places e f = rw e (kept (drop i stops))
     kept (x ∷ l) = refl
 
 -- what is left, where the next change is this one
-pub left-on : (tempos stops : List (Float × Float)) (places : Places) (change : Change) → headOf (left tempos stops places) ≡ Here change
-    → left tempos stops places ≡ change ∷ left tempos stops (advanced places change)
+pub left-on : (tempos stops : List (Float × Float)) (places : Places) (change : Change) → headOf (changesLeft tempos stops places) ≡ Here change
+    → changesLeft tempos stops places ≡ change ∷ changesLeft tempos stops (advanced places change)
 left-on tempos stops places change e =
     let t = taken (drop (places .tempo) tempos) (drop (places .stop) stops) change e in
     t .same ∙ rw (tempos-left tempos (places .tempo) (drop (places .stop) stops) change places refl (t .from), stops-left stops (places .stop) (drop (places .tempo) tempos) change places refl (t .from))
@@ -124,27 +124,27 @@ in-list : (tempos stops : List (Float × Float)) (places : Places) (change : Cha
 in-list tempos stops places (Tempo entry) f = drop-within tempos (places .tempo) (pairOf entry) (restOfTempos (drop (places .tempo) tempos) (Tempo entry)) f
 in-list tempos stops places (Stop entry) f = drop-within stops (places .stop) (pairOf entry) (restOfStops (drop (places .stop) stops) (Stop entry)) f
 
-pub next-in-list : (tempos stops : List (Float × Float)) (places : Places) (change : Change) → headOf (left tempos stops places) ≡ Here change → InList tempos stops places change
+pub next-in-list : (tempos stops : List (Float × Float)) (places : Places) (change : Change) → headOf (changesLeft tempos stops places) ≡ Here change → InList tempos stops places change
 next-in-list tempos stops places change e = in-list tempos stops places change (taken (drop (places .tempo) tempos) (drop (places .stop) stops) change e .from)
 
 -- ---- the code's three tests
 
 module _ (tb tv sb sv : List Float) (places : Places) (tl : length tb ≡ length tv) (sl : length sb ≡ length sv) where
   pub next-tempo : (tempo stop : Entry) → tempo ≡ entryOf (at tb tv (places .tempo)) → stop ≡ entryOf (at sb sv (places .stop)) → places .tempo < length tb → places .stop < length sb
-      → le (tempo .beat) (stop .beat) ≡ true → Here (Tempo tempo) ≡ headOf (left (entries tb tv) (entries sb sv) places)
+      → le (tempo .beat) (stop .beat) ≡ true → Here (Tempo tempo) ≡ headOf (changesLeft (entries tb tv) (entries sb sv) places)
   next-tempo tempo stop t s h k b = let b′ = rw (t, s) at b in rw (t, entries-from tb tv (places .tempo) tl h, entries-from sb sv (places .stop) sl k, b′)
 
   pub next-stop : (tempo stop : Entry) → tempo ≡ entryOf (at tb tv (places .tempo)) → stop ≡ entryOf (at sb sv (places .stop)) → places .tempo < length tb → places .stop < length sb
-      → le (tempo .beat) (stop .beat) ≡ false → Here (Stop stop) ≡ headOf (left (entries tb tv) (entries sb sv) places)
+      → le (tempo .beat) (stop .beat) ≡ false → Here (Stop stop) ≡ headOf (changesLeft (entries tb tv) (entries sb sv) places)
   next-stop tempo stop t s h k b = let b′ = rw (t, s) at b in rw (s, entries-from tb tv (places .tempo) tl h, entries-from sb sv (places .stop) sl k, b′)
 
   pub next-last-tempo : (tempo : Entry) → tempo ≡ entryOf (at tb tv (places .tempo)) → places .tempo < length tb → length sb ≤ places .stop
-      → Here (Tempo tempo) ≡ headOf (left (entries tb tv) (entries sb sv) places)
+      → Here (Tempo tempo) ≡ headOf (changesLeft (entries tb tv) (entries sb sv) places)
   next-last-tempo tempo t h k = rw (entries-from tb tv (places .tempo) tl h, entries-end sb sv (places .stop) k, ← t)
 
   pub next-last-stop : (stop : Entry) → stop ≡ entryOf (at sb sv (places .stop)) → length tb ≤ places .tempo → places .stop < length sb
-      → Here (Stop stop) ≡ headOf (left (entries tb tv) (entries sb sv) places)
+      → Here (Stop stop) ≡ headOf (changesLeft (entries tb tv) (entries sb sv) places)
   next-last-stop stop s h k = rw (entries-end tb tv (places .tempo) h, entries-from sb sv (places .stop) sl k, ← s)
 
-  pub next-none : length tb ≤ places .tempo → length sb ≤ places .stop → End ≡ headOf (left (entries tb tv) (entries sb sv) places)
+  pub next-none : length tb ≤ places .tempo → length sb ≤ places .stop → End ≡ headOf (changesLeft (entries tb tv) (entries sb sv) places)
   next-none h k = rw (entries-end tb tv (places .tempo) h, entries-end sb sv (places .stop) k)

@@ -10,11 +10,11 @@ use Rattle.process_sm_machine.specs.declared.Moved.{Moved}
 use Rattle.order.specs.Entries.{first, second}
 use Rattle.process_sm_walk.specs.Chart.{Output, joined, writtenBy, writtenAt}
 use Rattle.process_sm_walk.specs.Columns.{Columns}
-use Rattle.process_sm_walk.specs.Inside.{written, counted, Room}
+use Rattle.process_sm_walk.specs.Inside.{writtenInto, counted, Room}
 use Rattle.process_sm_walk.specs.declared.Counts.{Counts}
 use Rattle.process_sm_walk.specs.declared.Standing.{Standing}
 use Rattle.process_sm_machine.specs.Machine.{meet}
-use Rattle.process_sm_machine.specs.Machine.{passed, met}
+use Rattle.process_sm_machine.specs.Machine.{timePassed, met}
 use Rattle.process_sm_walk.proofs.PlacedInColumns.{written-more, counted-more, placed-length}
 
 -- ---- lengths
@@ -30,7 +30,7 @@ pub record SameLengths (a b : Columns) : Type 0 where
 pub same-refl : (a : Columns) → SameLengths a a
 same-refl a = record { tempoBeats = refl; tempoValues = refl; stopBeats = refl; stopValues = refl; warpBeats = refl; warpLengths = refl }
 
-pub same-written : (counts : Counts) (out : Output) (a b : Columns) → a ≡ written counts out b → SameLengths a b
+pub same-written : (counts : Counts) (out : Output) (a b : Columns) → a ≡ writtenInto counts out b → SameLengths a b
 same-written counts out a b e = record {
   tempoBeats = ap (λ (c : Columns). length (c .tempoBeats)) e ∙ placed-length (map first (out .tempos)) (counts .tempos) (b .tempoBeats);
   tempoValues = ap (λ (c : Columns). length (c .tempoValues)) e ∙ placed-length (map second (out .tempos)) (counts .tempos) (b .tempoValues);
@@ -73,34 +73,34 @@ room-first counts a b into r =
     room-less (counted counts a) (counted counts (joined a b)) into
     (simp length-append (omega arith)) (simp length-append (omega arith)) (simp length-append (omega arith)) r
 
-module _ (state : State) (change : Change) (counts : Counts) (passing : Moved) (p : passing ≡ passed state change) (into : Columns)
+module _ (state : State) (change : Change) (counts : Counts) (passing : Moved) (p : passing ≡ timePassed state change) (into : Columns)
     (room : Room (counted counts (writtenAt state change)) into) where
   pub room-passing : Room (counted counts (writtenBy passing)) into
-  room-passing = rw p (room-first counts (writtenBy (passed state change)) (writtenBy (met state change)) into room)
+  room-passing = rw p (room-first counts (writtenBy (timePassed state change)) (writtenBy (met state change)) into room)
 
   pub room-meeting : (meeting : Moved) → meeting ≡ meet (passing .state) change → (midway : Counts) → midway ≡ counted counts (writtenBy passing)
-      → (mid : Columns) → mid ≡ written counts (writtenBy passing) into → Room (counted midway (writtenBy meeting)) mid
+      → (mid : Columns) → mid ≡ writtenInto counts (writtenBy passing) into → Room (counted midway (writtenBy meeting)) mid
   room-meeting meeting m midway n mid e =
       let m′ : meeting ≡ met state change = m ∙ ap (λ (s : Moved). meet (s .state) change) p in
-      let n′ : midway ≡ counted counts (writtenBy (passed state change)) = n ∙ ap (λ (s : Moved). counted counts (writtenBy s)) p in
-      let r : Room (counted (counted counts (writtenBy (passed state change))) (writtenBy (met state change))) into =
-      rw (counted-more counts (writtenBy (passed state change)) (writtenBy (met state change))) at room in
+      let n′ : midway ≡ counted counts (writtenBy (timePassed state change)) = n ∙ ap (λ (s : Moved). counted counts (writtenBy s)) p in
+      let r : Room (counted (counted counts (writtenBy (timePassed state change))) (writtenBy (met state change))) into =
+      rw (counted-more counts (writtenBy (timePassed state change)) (writtenBy (met state change))) at room in
       let q : Room (counted midway (writtenBy meeting)) into = rw (n′, m′) r in
       room-same (counted midway (writtenBy meeting)) mid into (same-written counts (writtenBy passing) mid into e) q
 
   pub turned : (meeting : Moved) → meeting ≡ meet (passing .state) change → (midway after : Counts) → midway ≡ counted counts (writtenBy passing) → after ≡ counted midway (writtenBy meeting)
-      → (mid last : Columns) → mid ≡ written counts (writtenBy passing) into → last ≡ written midway (writtenBy meeting) mid
+      → (mid last : Columns) → mid ≡ writtenInto counts (writtenBy passing) into → last ≡ writtenInto midway (writtenBy meeting) mid
       → (_≡_ {A = Standing} (record { state = meeting .state; counts = after }) (record { state = met state change .state; counts = counted counts (writtenAt state change) }))
-      × (last ≡ written counts (writtenAt state change) into)
+      × (last ≡ writtenInto counts (writtenAt state change) into)
   turned meeting m midway after n k mid last e f =
       let m′ : meeting ≡ met state change = m ∙ ap (λ (s : Moved). meet (s .state) change) p in
       let k′ : after ≡ counted counts (writtenAt state change) =
       k ∙ ap (λ (s : Counts). counted s (writtenBy meeting)) n ∙ sym (counted-more counts (writtenBy passing) (writtenBy meeting))
       ∙ ap (λ (s : Moved). counted counts (joined (writtenBy s) (writtenBy meeting))) p
-      ∙ ap (λ (s : Moved). counted counts (joined (writtenBy (passed state change)) (writtenBy s))) m′ in
-      let f′ : last ≡ written counts (writtenAt state change) into =
-      f ∙ ap (λ (s : Counts). written s (writtenBy meeting) mid) n ∙ ap (λ (s : Columns). written (counted counts (writtenBy passing)) (writtenBy meeting) s) e
+      ∙ ap (λ (s : Moved). counted counts (joined (writtenBy (timePassed state change)) (writtenBy s))) m′ in
+      let f′ : last ≡ writtenInto counts (writtenAt state change) into =
+      f ∙ ap (λ (s : Counts). writtenInto s (writtenBy meeting) mid) n ∙ ap (λ (s : Columns). writtenInto (counted counts (writtenBy passing)) (writtenBy meeting) s) e
       ∙ sym (written-more counts (writtenBy passing) (writtenBy meeting) into)
-      ∙ ap (λ (s : Moved). written counts (joined (writtenBy s) (writtenBy meeting)) into) p
-      ∙ ap (λ (s : Moved). written counts (joined (writtenBy (passed state change)) (writtenBy s)) into) m′ in
+      ∙ ap (λ (s : Moved). writtenInto counts (joined (writtenBy s) (writtenBy meeting)) into) p
+      ∙ ap (λ (s : Moved). writtenInto counts (joined (writtenBy (timePassed state change)) (writtenBy s)) into) m′ in
       (rw (m′, k′), f′)

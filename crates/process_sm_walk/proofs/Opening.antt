@@ -12,7 +12,7 @@ use Rattle.ieee.specs.Constants.{plusZero32, sixty32}
 use Rattle.picks.specs.Pick.{pick}
 use Rattle.order.specs.Entries.{entries}
 use Rattle.process_sm_walk.specs.Chart.{takenOff, stopsBefore, firstValue, firstTempo, lastTempo, temposBy0}
-use Rattle.process_sm_walk.specs.Inside.{Numbers}
+use Rattle.process_sm_walk.specs.Inside.{TemposNumbers}
 use Rattle.process_sm_walk.proofs.NextChange.{at, entries-from, entries-end}
 
 pub first-is : (beats values : List Float) → length beats ≡ length values → firstTempo (entries beats values) ≡ firstValue values
@@ -100,7 +100,7 @@ fewer-stops (x ∷ l) = let h = fewer-stops l in go (lt (x .0) plusZero32) h
     go true h = omega arith
     go false h = omega arith
 
-pub last-number : (l : List (Float × Float)) (tempo : Float) → Numbers l → eq tempo tempo ≡ true → eq (lastTempo tempo l) (lastTempo tempo l) ≡ true
+pub last-number : (l : List (Float × Float)) (tempo : Float) → TemposNumbers l → eq tempo tempo ≡ true → eq (lastTempo tempo l) (lastTempo tempo l) ≡ true
 unfolding lastTempo
 last-number [] tempo n e = e
 last-number (x ∷ l) tempo n e = go (le (x .0) plusZero32) (last-number l (x .1) (n .1) (n .0))

@@ -19,9 +19,9 @@ use Rattle.columns.specs.Laying.{given, columnLaid}
 use Rattle.columns.proofs.Rooms.{nothing-given}
 use Rattle.process_sm_walk.specs.declared.Finished.{Finished}
 use Rattle.process_sm_walk.specs.Chart.{processed, offsetOf}
-use Rattle.process_sm_walk.specs.Columns.{Columns, most}
-use Rattle.process_sm_walk.specs.Walking.{isNumber, roomFor, hasRoom, chartNumber, walkNumber, WalkLaid}
-use Rattle.process_sm_walk.specs.Inside.{placed, written, counted, noneCounted, Room, Numbers, Chart}
+use Rattle.process_sm_walk.specs.Columns.{Columns, mostWritten}
+use Rattle.process_sm_walk.specs.Walking.{isNumber, roomForCounts, hasRoom, chartNumber, walkNumber, WalkLaid}
+use Rattle.process_sm_walk.specs.Inside.{laidFrom, writtenInto, counted, noneCounted, Room, TemposNumbers, Chart}
 use Rattle.process_sm_walk.proofs.PlacedInColumns.{placed-laid}
 use Rattle.process_sm_walk.proofs.Lengths.{bounded}
 
@@ -30,7 +30,7 @@ use Rattle.process_sm_walk.proofs.Lengths.{bounded}
 pub number-by-rooms : (tb tv sb sv : List Float) (into : Columns) (number tempoRoom stopRoom warpRoom : ℕ)
     → tempoRoom ≡ min (length (into .tempoBeats)) (length (into .tempoValues)) → stopRoom ≡ min (length (into .stopBeats)) (length (into .stopValues))
     → warpRoom ≡ min (length (into .warpBeats)) (length (into .warpLengths))
-    → number ≡ pick (eqb (chartNumber tb tv sb sv) 0) (pick (roomFor (most (length tb) (length sb)) tempoRoom stopRoom warpRoom) 0 7) (chartNumber tb tv sb sv)
+    → number ≡ pick (eqb (chartNumber tb tv sb sv) 0) (pick (roomForCounts (mostWritten (length tb) (length sb)) tempoRoom stopRoom warpRoom) 0 7) (chartNumber tb tv sb sv)
     → number ≡ walkNumber tb tv sb sv into
 unfolding walkNumber hasRoom
 number-by-rooms tb tv sb sv into number tempoRoom stopRoom warpRoom t s w e = rw (← t, ← s, ← w) e
@@ -77,16 +77,16 @@ walk-passed zero true h = (refl, refl)
 walk-passed zero false h = absurd (omega arith)
 walk-passed (suc n) room h = let k = rw (ne-eqb (suc n) 0 (λ e. omega arith)) at h in absurd (omega arith)
 
-numbers : (beats values : List Float) → every isNumber values ≡ true → Numbers (entries beats values)
+numbers : (beats values : List Float) → every isNumber values ≡ true → TemposNumbers (entries beats values)
 unfolding entries
 numbers [] values h = tt
 numbers (b ∷ beats) [] h = tt
 numbers (b ∷ beats) (v ∷ values) h = let k = every-rest isNumber v values h in (k .0, numbers beats values (k .1))
 
 module _ (tb tv sb sv : List Float) (into : Columns) (h : walkNumber tb tv sb sv into ≡ 0) where
-  passed : (chartNumber tb tv sb sv ≡ 0) × (hasRoom (most (length tb) (length sb)) into ≡ true)
+  passed : (chartNumber tb tv sb sv ≡ 0) × (hasRoom (mostWritten (length tb) (length sb)) into ≡ true)
   unfolding walkNumber
-  passed = walk-passed (chartNumber tb tv sb sv) (hasRoom (most (length tb) (length sb)) into) h
+  passed = walk-passed (chartNumber tb tv sb sv) (hasRoom (mostWritten (length tb) (length sb)) into) h
 
   pub chart-taken : Chart tb tv sb sv
   unfolding chartNumber
@@ -94,7 +94,7 @@ module _ (tb tv sb sv : List Float) (into : Columns) (h : walkNumber tb tv sb sv
       let p = chart-passed (eqb (length tb) (length tv)) (eqb (length sb) (length sv)) (every isNumber tv) (passed .0) in
       record { tempos = eqb-true (length tb) (length tv) (p .0); stops = eqb-true (length sb) (length sv) (p .1); numbers = numbers tb tv (p .2) }
 
-  pub room-taken : Room (most (length tb) (length sb)) into
+  pub room-taken : Room (mostWritten (length tb) (length sb)) into
   unfolding hasRoom
   room-taken =
       let p =
@@ -114,13 +114,13 @@ module _ (tb tv sb sv : List Float) (into : Columns) (h : walkNumber tb tv sb sv
 
   -- ---- a chart that is taken
 
-  column-laid : (field : Float × Float → Float) (list : List (Float × Float)) (old : List Float) → length list ≤ length old → placed 0 (map field list) old ≡ columnLaid field 0 list old
+  column-laid : (field : Float × Float → Float) (list : List (Float × Float)) (old : List Float) → length list ≤ length old → laidFrom 0 (map field list) old ≡ columnLaid field 0 list old
   unfolding given
   column-laid field list old k = placed-laid (map field list) old (rw (length-map list field) k)
 
   pub taken-laid : (done : Finished) (last : Columns)
       → done ≡ record { offset = offsetOf (entries sb sv); counts = counted noneCounted (processed (entries tb tv) (entries sb sv)) }
-      → last ≡ written noneCounted (processed (entries tb tv) (entries sb sv)) into
+      → last ≡ writtenInto noneCounted (processed (entries tb tv) (entries sb sv)) into
       → WalkLaid (entries tb tv) (entries sb sv) 0 (record { number = 0; tempos = done .counts .tempos; stops = done .counts .stops; warps = done .counts .warps; offset = done .offset }) into last
   unfolding given
   taken-laid done last d e =

@@ -9,19 +9,19 @@ use lib.Ieee.{Float}
 use Rattle.order.specs.Entries.{entries, first, second}
 use Rattle.order.proofs.Columns.{length-entries}
 use Rattle.process_sm_machine.specs.declared.State.{State}
-use Rattle.process_sm_walk.specs.Changes.{left}
-use Rattle.process_sm_walk.specs.Chart.{walk}
-use Rattle.process_sm_walk.specs.Columns.{Columns, columns, most}
-use Rattle.process_sm_walk.specs.Inside.{placed, written, counted, Room, Within, Chart, Reached, NoWarp, onRow, rowed}
+use Rattle.process_sm_walk.specs.Changes.{changesLeft}
+use Rattle.process_sm_walk.specs.Chart.{walkChanges}
+use Rattle.process_sm_walk.specs.Columns.{Columns, columns, mostWritten}
+use Rattle.process_sm_walk.specs.Inside.{laidFrom, writtenInto, counted, Room, WrittenWithin, Chart, Reached, NoWarp, quantizedEntry32, rowed}
 use Rattle.process_sm_walk.specs.declared.Counts.{Counts}
 use Rattle.process_sm_walk.specs.declared.Places.{Places}
 use Rattle.process_sm_walk.proofs.NoWarpOpens.{walk-by-lists}
 
 rowed-length : (beats values : List Float) (from : ℕ) → length beats ≡ length values → length (rowed beats values from) ≡ length beats - from
-rowed-length beats values from e = length-map (drop from (entries beats values)) onRow ∙ length-drop from (entries beats values) ∙ rw (length-entries beats values e)
+rowed-length beats values from e = length-map (drop from (entries beats values)) quantizedEntry32 ∙ length-drop from (entries beats values) ∙ rw (length-entries beats values e)
 
 module _ (tb tv sb sv : List Float) (chart : Chart tb tv sb sv) (from : Places) (opening : State) (so-far : Counts) where
-  module _ (reached : Reached (length tb) (length sb) from) (within : Within from opening so-far) (into : Columns) (room : Room (most (length tb) (length sb)) into) where
+  module _ (reached : Reached (length tb) (length sb) from) (within : WrittenWithin from opening so-far) (into : Columns) (room : Room (mostWritten (length tb) (length sb)) into) where
     pub room-tempos : (so-far .tempos + length (rowed tb tv (from .tempo)) ≤ length (into .tempoBeats)) × (so-far .tempos + length (rowed tb tv (from .tempo)) ≤ length (into .tempoValues))
     room-tempos =
         let n = rowed-length tb tv (from .tempo) (chart .tempos) in let a = reached .tempo in let b = within .tempos in let m = le-max-left (length tb) 1 in
@@ -36,12 +36,12 @@ module _ (tb tv sb sv : List Float) (chart : Chart tb tv sb sv) (from : Places) 
 
   pub by-lists : NoWarp tv sv from opening → (tempos stops : ℕ) → tempos ≡ so-far .tempos + length (rowed tb tv (from .tempo)) → stops ≡ so-far .stops + length (rowed sb sv (from .stop))
       → (otb otv osb osv owb owl : List Float) {a b c d : List Float}
-      → a ≡ placed (so-far .tempos) (map first (rowed tb tv (from .tempo))) otb
-      → b ≡ placed (so-far .tempos) (map second (rowed tb tv (from .tempo))) otv
-      → c ≡ placed (so-far .stops) (map first (rowed sb sv (from .stop))) osb
-      → d ≡ placed (so-far .stops) (map second (rowed sb sv (from .stop))) osv
-      → (_≡_ {A = Counts} (record { tempos = tempos; stops = stops; warps = so-far .warps }) (counted so-far (walk (left (entries tb tv) (entries sb sv) from) opening)))
-      × (columns a b c d owb owl ≡ written so-far (walk (left (entries tb tv) (entries sb sv) from) opening) (columns otb otv osb osv owb owl))
-  unfolding placed
+      → a ≡ laidFrom (so-far .tempos) (map first (rowed tb tv (from .tempo))) otb
+      → b ≡ laidFrom (so-far .tempos) (map second (rowed tb tv (from .tempo))) otv
+      → c ≡ laidFrom (so-far .stops) (map first (rowed sb sv (from .stop))) osb
+      → d ≡ laidFrom (so-far .stops) (map second (rowed sb sv (from .stop))) osv
+      → (_≡_ {A = Counts} (record { tempos = tempos; stops = stops; warps = so-far .warps }) (counted so-far (walkChanges (changesLeft (entries tb tv) (entries sb sv) from) opening)))
+      × (columns a b c d owb owl ≡ writtenInto so-far (walkChanges (changesLeft (entries tb tv) (entries sb sv) from) opening) (columns otb otv osb osv owb owl))
+  unfolding laidFrom
   by-lists none tempos stops t s otb otv osb osv owb owl e f g h =
       rw (walk-by-lists tb tv sb sv from opening chart none, t, s, e, f, g, h, add-zero (so-far .warps)) (refl, refl)

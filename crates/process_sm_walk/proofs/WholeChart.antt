@@ -11,10 +11,10 @@ use Rattle.ieee.specs.Constants.{sixty32}
 use Rattle.process_sm_machine.specs.declared.Written.{Written}
 use Rattle.process_sm_machine.specs.declared.Moved.{Moved}
 use Rattle.order.specs.Entries.{entries}
-use Rattle.process_sm_walk.specs.Changes.{left}
-use Rattle.process_sm_walk.specs.Chart.{Output, listOf, writtenBy, walk, firstTempo, temposBy0, stopsBefore, openingTempo, offsetOf, openingPlaces, processed}
-use Rattle.process_sm_walk.specs.Columns.{Columns, most}
-use Rattle.process_sm_walk.specs.Inside.{written, counted, noneCounted, Room, Within, Numbers, Chart, Reached}
+use Rattle.process_sm_walk.specs.Changes.{changesLeft}
+use Rattle.process_sm_walk.specs.Chart.{Output, writtenList, writtenBy, walkChanges, firstTempo, temposBy0, stopsBefore, openingTempo, offsetOf, openingPlaces, processed}
+use Rattle.process_sm_walk.specs.Columns.{Columns, mostWritten}
+use Rattle.process_sm_walk.specs.Inside.{writtenInto, counted, noneCounted, Room, WrittenWithin, TemposNumbers, Chart, Reached}
 use Rattle.process_sm_machine.specs.Machine.{openChart}
 use Rattle.process_sm_walk.specs.declared.Places.{Places}
 use Rattle.process_sm_walk.specs.declared.Counts.{Counts}
@@ -28,15 +28,15 @@ use Rattle.process_sm_machine.proofs.Either.{either}
 use Rattle.process_sm_walk.proofs.OneChange.{room-less}
 use Rattle.process_sm_walk.proofs.Opening.{fewer-tempos, fewer-stops, last-number}
 
-opening-one : (tempo : Float) → length (listOf (openChart tempo .tempo)) ≤ 1
+opening-one : (tempo : Float) → length (writtenList (openChart tempo .tempo)) ≤ 1
 unfolding openChart
-opening-one tempo = either (λ (w : Written). length (listOf w) ≤ 1) (fits tempo) _ _ (omega arith) (omega arith)
+opening-one tempo = either (λ (w : Written). length (writtenList w) ≤ 1) (fits tempo) _ _ (omega arith) (omega arith)
 
 sixty-number : eq sixty32 sixty32 ≡ true
 unfolding eq ofBits
 sixty-number = refl
 
-first-number : (l : List (Float × Float)) → Numbers l → eq (firstTempo l) (firstTempo l) ≡ true
+first-number : (l : List (Float × Float)) → TemposNumbers l → eq (firstTempo l) (firstTempo l) ≡ true
 first-number [] n = sixty-number
 first-number (x ∷ l) n = n .0
 
@@ -47,7 +47,7 @@ module _ (tb tv sb sv : List Float) (chart : Chart tb tv sb sv) where
       let f = le-max-left (length tb) 1 in
       record { tempo = max-le {a = temposBy0 (entries tb tv)} {b = 1} {k = max (length tb) 1} (omega arith) (le-max-right (length tb) 1); stop = omega arith }
 
-  pub opening-within : Within (openingPlaces (entries tb tv) (entries sb sv)) (openChart (openingTempo (entries tb tv)) .state) (counted noneCounted (writtenBy (openChart (openingTempo (entries tb tv)))))
+  pub opening-within : WrittenWithin (openingPlaces (entries tb tv) (entries sb sv)) (openChart (openingTempo (entries tb tv)) .state) (counted noneCounted (writtenBy (openChart (openingTempo (entries tb tv)))))
   unfolding openChart
   opening-within =
       let a = opening-one (openingTempo (entries tb tv)) in let b = le-max-right (temposBy0 (entries tb tv)) 1 in
@@ -60,7 +60,7 @@ module _ (tb tv sb sv : List Float) (chart : Chart tb tv sb sv) where
 
   module _ (opener : Opener) (o : opener ≡ record { tempo = openingTempo (entries tb tv); used = max (temposBy0 (entries tb tv)) 1 })
       (early : Early) (e : early ≡ record { offset = offsetOf (entries sb sv); used = stopsBefore (entries sb sv) })
-      (opening : Moved) (m : opening ≡ openChart (opener .tempo)) (into : Columns) (room : Room (most (length tb) (length sb)) into) where
+      (opening : Moved) (m : opening ≡ openChart (opener .tempo)) (into : Columns) (room : Room (mostWritten (length tb) (length sb)) into) where
     opening-is : opening ≡ openChart (openingTempo (entries tb tv))
     opening-is = m ∙ ap (λ (a : Opener). openChart (a .tempo)) o
 
@@ -72,28 +72,28 @@ module _ (tb tv sb sv : List Float) (chart : Chart tb tv sb sv) where
     room-opening =
         rw opening-is
         (let a = opening-one (openingTempo (entries tb tv)) in let b = le-max-right (length tb) 1 in
-        room-less (counted noneCounted (writtenBy (openChart (openingTempo (entries tb tv))))) (most (length tb) (length sb)) into (omega arith) (omega arith) (omega arith) room)
+        room-less (counted noneCounted (writtenBy (openChart (openingTempo (entries tb tv))))) (mostWritten (length tb) (length sb)) into (omega arith) (omega arith) (omega arith) room)
 
     pub reached-here : Reached (length tb) (length sb) (record { tempo = opener .used; stop = early .used })
     reached-here = rw places-are opening-reached
 
-    pub within-here : (so-far : Counts) → so-far ≡ counted noneCounted (writtenBy opening) → Within (record { tempo = opener .used; stop = early .used }) (opening .state) so-far
+    pub within-here : (so-far : Counts) → so-far ≡ counted noneCounted (writtenBy opening) → WrittenWithin (record { tempo = opener .used; stop = early .used }) (opening .state) so-far
     within-here so-far s = rw (s, places-are, opening-is) opening-within
 
-    pub whole : (so-far counts : Counts) (mid last : Columns) → so-far ≡ counted noneCounted (writtenBy opening) → mid ≡ written noneCounted (writtenBy opening) into
-        → counts ≡ counted so-far (walk (left (entries tb tv) (entries sb sv) (record { tempo = opener .used; stop = early .used })) (opening .state))
-        → last ≡ written so-far (walk (left (entries tb tv) (entries sb sv) (record { tempo = opener .used; stop = early .used })) (opening .state)) mid
+    pub whole : (so-far counts : Counts) (mid last : Columns) → so-far ≡ counted noneCounted (writtenBy opening) → mid ≡ writtenInto noneCounted (writtenBy opening) into
+        → counts ≡ counted so-far (walkChanges (changesLeft (entries tb tv) (entries sb sv) (record { tempo = opener .used; stop = early .used })) (opening .state))
+        → last ≡ writtenInto so-far (walkChanges (changesLeft (entries tb tv) (entries sb sv) (record { tempo = opener .used; stop = early .used })) (opening .state)) mid
         → (_≡_ {A = Finished} (record { offset = early .offset; counts = counts }) (record { offset = offsetOf (entries sb sv); counts = counted noneCounted (processed (entries tb tv) (entries sb sv)) }))
-        × (last ≡ written noneCounted (processed (entries tb tv) (entries sb sv)) into)
+        × (last ≡ writtenInto noneCounted (processed (entries tb tv) (entries sb sv)) into)
     whole so-far counts mid last s n k f =
         let first = writtenBy (openChart (openingTempo (entries tb tv))) in
-        let rest = walk (left (entries tb tv) (entries sb sv) (openingPlaces (entries tb tv) (entries sb sv))) (openChart (openingTempo (entries tb tv)) .state) in
-        let r : walk (left (entries tb tv) (entries sb sv) (record { tempo = opener .used; stop = early .used })) (opening .state) ≡ rest =
-        ap (λ (p : Places). walk (left (entries tb tv) (entries sb sv) p) (opening .state)) places-are ∙ ap (λ (a : Moved). walk (left (entries tb tv) (entries sb sv) (openingPlaces (entries tb tv) (entries sb sv))) (a .state)) opening-is in
+        let rest = walkChanges (changesLeft (entries tb tv) (entries sb sv) (openingPlaces (entries tb tv) (entries sb sv))) (openChart (openingTempo (entries tb tv)) .state) in
+        let r : walkChanges (changesLeft (entries tb tv) (entries sb sv) (record { tempo = opener .used; stop = early .used })) (opening .state) ≡ rest =
+        ap (λ (p : Places). walkChanges (changesLeft (entries tb tv) (entries sb sv) p) (opening .state)) places-are ∙ ap (λ (a : Moved). walkChanges (changesLeft (entries tb tv) (entries sb sv) (openingPlaces (entries tb tv) (entries sb sv))) (a .state)) opening-is in
         let s′ : so-far ≡ counted noneCounted first = s ∙ ap (λ (a : Moved). counted noneCounted (writtenBy a)) opening-is in
-        let n′ : mid ≡ written noneCounted first into = n ∙ ap (λ (a : Moved). written noneCounted (writtenBy a) into) opening-is in
+        let n′ : mid ≡ writtenInto noneCounted first into = n ∙ ap (λ (a : Moved). writtenInto noneCounted (writtenBy a) into) opening-is in
         let k′ : counts ≡ counted noneCounted (processed (entries tb tv) (entries sb sv)) =
         k ∙ ap (λ (a : Output). counted so-far a) r ∙ ap (λ (a : Counts). counted a rest) s′ ∙ sym (counted-more noneCounted first rest) in
-        let f′ : last ≡ written noneCounted (processed (entries tb tv) (entries sb sv)) into =
-        f ∙ ap (λ (a : Output). written so-far a mid) r ∙ ap (λ (a : Counts). written a rest mid) s′ ∙ ap (λ (a : Columns). written (counted noneCounted first) rest a) n′ ∙ sym (written-more noneCounted first rest into) in
+        let f′ : last ≡ writtenInto noneCounted (processed (entries tb tv) (entries sb sv)) into =
+        f ∙ ap (λ (a : Output). writtenInto so-far a mid) r ∙ ap (λ (a : Counts). writtenInto a rest mid) s′ ∙ ap (λ (a : Columns). writtenInto (counted noneCounted first) rest a) n′ ∙ sym (written-more noneCounted first rest into) in
         (rw (k′, e), f′)

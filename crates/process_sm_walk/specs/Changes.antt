@@ -29,14 +29,14 @@ abbrev pub weave : Float × Float → (List (Float × Float) → List Change) �
 weave tempo rest [] = tempoOf tempo ∷ rest []
 weave tempo rest (stop ∷ stops) = pick (le (tempo .0) (stop .0)) (tempoOf tempo ∷ rest (stop ∷ stops)) (stopOf stop ∷ weave tempo rest stops)
 
-abbrev pub merged : List (Float × Float) → List (Float × Float) → List Change
-merged [] stops = map stopOf stops
-merged (tempo ∷ tempos) stops = weave tempo (merged tempos) stops
+abbrev pub mergedChanges : List (Float × Float) → List (Float × Float) → List Change
+mergedChanges [] stops = map stopOf stops
+mergedChanges (tempo ∷ tempos) stops = weave tempo (mergedChanges tempos) stops
 
 -- ---- the changes from a place in each list on
 
-abbrev pub left : List (Float × Float) → List (Float × Float) → Places → List Change
-left tempos stops places = merged (drop (places .tempo) tempos) (drop (places .stop) stops)
+abbrev pub changesLeft : List (Float × Float) → List (Float × Float) → Places → List Change
+changesLeft tempos stops places = mergedChanges (drop (places .tempo) tempos) (drop (places .stop) stops)
 
 -- the places after a change
 abbrev pub advanced : Places → Change → Places

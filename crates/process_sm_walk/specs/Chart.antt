@@ -4,14 +4,14 @@ use mathlib.Core.List.{List, [], _∷_, _++_}
 use lib.Ieee.{Float, binary32, sub, lt, le}
 use Rattle.ieee.specs.Constants.{plusZero32, sixty32}
 use Rattle.picks.specs.Pick.{pick}
-use Rattle.process_sm_machine.specs.Machine.{openChart, passed, met, finish}
+use Rattle.process_sm_machine.specs.Machine.{openChart, timePassed, met, finish}
 use Rattle.process_sm_machine.specs.declared.Change.{Change}
 use Rattle.process_sm_machine.specs.declared.State.{State}
 use Rattle.process_sm_machine.specs.declared.Written.{Written}
 use Rattle.process_sm_machine.specs.declared.Written.the-variants.{Nothing, One}
 use Rattle.process_sm_machine.specs.declared.Moved.{Moved}
 use Rattle.process_sm_walk.specs.declared.Places.{Places}
-use Rattle.process_sm_walk.specs.Changes.{pairOf, left}
+use Rattle.process_sm_walk.specs.Changes.{pairOf, changesLeft}
 
 -- ---- what is written, in order
 
@@ -20,12 +20,12 @@ pub record Output : Type 0 where
   pub stops : List (Float × Float)
   pub warps : List (Float × Float)
 
-abbrev pub listOf : Written → List (Float × Float)
-listOf Nothing = []
-listOf (One entry) = pairOf entry ∷ []
+abbrev pub writtenList : Written → List (Float × Float)
+writtenList Nothing = []
+writtenList (One entry) = pairOf entry ∷ []
 
 abbrev pub writtenBy : Moved → Output
-writtenBy moved = record { tempos = listOf (moved .tempo); stops = listOf (moved .stop); warps = listOf (moved .warp) }
+writtenBy moved = record { tempos = writtenList (moved .tempo); stops = writtenList (moved .stop); warps = writtenList (moved .warp) }
 
 -- one after the other
 abbrev pub joined : Output → Output → Output
@@ -39,12 +39,12 @@ joined first second = record {
 
 -- what one change writes: by the time up to it, then by itself
 abbrev pub writtenAt : State → Change → Output
-writtenAt state change = joined (writtenBy (passed state change)) (writtenBy (met state change))
+writtenAt state change = joined (writtenBy (timePassed state change)) (writtenBy (met state change))
 
 -- what is written from a state on
-unfoldable pub walk : List Change → State → Output
-walk [] state = writtenBy (finish state)
-walk (change ∷ changes) state = joined (writtenAt state change) (walk changes (met state change .state))
+unfoldable pub walkChanges : List Change → State → Output
+walkChanges [] state = writtenBy (finish state)
+walkChanges (change ∷ changes) state = joined (writtenAt state change) (walkChanges changes (met state change .state))
 
 -- ---- the opening
 
@@ -85,7 +85,7 @@ openingPlaces tempos stops = record { tempo = max (temposBy0 tempos) 1; stop = s
 
 abbrev pub processed : List (Float × Float) → List (Float × Float) → Output
 processed tempos stops =
-    joined (writtenBy (openChart (openingTempo tempos))) (walk (left tempos stops (openingPlaces tempos stops)) (openChart (openingTempo tempos) .state))
+    joined (writtenBy (openChart (openingTempo tempos))) (walkChanges (changesLeft tempos stops (openingPlaces tempos stops)) (openChart (openingTempo tempos) .state))
 
 abbrev pub offsetOf : List (Float × Float) → Float
 offsetOf stops = takenOff plusZero32 stops

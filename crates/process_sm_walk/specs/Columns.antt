@@ -23,5 +23,5 @@ columns tempoBeats tempoValues stopBeats stopValues warpBeats warpLengths = reco
 }
 
 -- the most that a chart of so many tempos and stops writes
-abbrev pub most : ℕ → ℕ → Counts
-most tempos stops = record { tempos = max tempos 1; stops = stops; warps = tempos + stops }
+abbrev pub mostWritten : ℕ → ℕ → Counts
+mostWritten tempos stops = record { tempos = max tempos 1; stops = stops; warps = tempos + stops }

@@ -20,19 +20,19 @@ use Rattle.process_sm_walk.specs.declared.Counts.{Counts}
 use Rattle.process_sm_walk.specs.declared.Places.{Places}
 
 -- a list written into a column, from a place on
-unfoldable pub placed : ℕ → List Float → List Float → List Float
-placed at [] column = column
-placed at (x ∷ xs) column = placed (at + 1) xs (set column at x)
+unfoldable pub laidFrom : ℕ → List Float → List Float → List Float
+laidFrom at [] column = column
+laidFrom at (x ∷ xs) column = laidFrom (at + 1) xs (set column at x)
 
 -- each list from its count on
-abbrev pub written : Counts → Output → Columns → Columns
-written counts out into = record {
-  tempoBeats = placed (counts .tempos) (map first (out .tempos)) (into .tempoBeats);
-  tempoValues = placed (counts .tempos) (map second (out .tempos)) (into .tempoValues);
-  stopBeats = placed (counts .stops) (map first (out .stops)) (into .stopBeats);
-  stopValues = placed (counts .stops) (map second (out .stops)) (into .stopValues);
-  warpBeats = placed (counts .warps) (map first (out .warps)) (into .warpBeats);
-  warpLengths = placed (counts .warps) (map second (out .warps)) (into .warpLengths);
+abbrev pub writtenInto : Counts → Output → Columns → Columns
+writtenInto counts out into = record {
+  tempoBeats = laidFrom (counts .tempos) (map first (out .tempos)) (into .tempoBeats);
+  tempoValues = laidFrom (counts .tempos) (map second (out .tempos)) (into .tempoValues);
+  stopBeats = laidFrom (counts .stops) (map first (out .stops)) (into .stopBeats);
+  stopValues = laidFrom (counts .stops) (map second (out .stops)) (into .stopValues);
+  warpBeats = laidFrom (counts .warps) (map first (out .warps)) (into .warpBeats);
+  warpLengths = laidFrom (counts .warps) (map second (out .warps)) (into .warpLengths);
 }
 
 abbrev pub counted : Counts → Output → Counts
@@ -68,21 +68,21 @@ warpingIn Closed = 0
 warpingIn (Open warp) = 1
 
 -- no more was written than the changes met account for
-pub record Within (places : Places) (state : State) (counts : Counts) : Type 0 where
+pub record WrittenWithin (places : Places) (state : State) (counts : Counts) : Type 0 where
   pub number : eq (state .tempo) (state .tempo) ≡ true
   pub tempos : counts .tempos + pending state ≤ places .tempo
   pub stops : counts .stops ≤ places .stop
   pub warps : counts .warps + warpingIn (state .warp) + 1 ≤ places .tempo + places .stop
 
 -- no tempo is a NaN
-abbrev pub Numbers : List (Float × Float) → Type 0
-Numbers [] = Unit {0}
-Numbers (entry ∷ list) = (eq (entry .1) (entry .1) ≡ true) × Numbers list
+abbrev pub TemposNumbers : List (Float × Float) → Type 0
+TemposNumbers [] = Unit {0}
+TemposNumbers (entry ∷ list) = (eq (entry .1) (entry .1) ≡ true) × TemposNumbers list
 
 pub record Chart (tempoBeats tempoValues stopBeats stopValues : List Float) : Type 0 where
   pub tempos : length tempoBeats ≡ length tempoValues
   pub stops : length stopBeats ≡ length stopValues
-  pub numbers : Numbers (entries tempoBeats tempoValues)
+  pub numbers : TemposNumbers (entries tempoBeats tempoValues)
 
 -- places within lists of so many tempos and stops
 pub record Reached (tempos stops : ℕ) (places : Places) : Type 0 where
@@ -92,19 +92,19 @@ pub record Reached (tempos stops : ℕ) (places : Places) : Type 0 where
 -- ---- changes that open no warp
 
 -- a stop that is written as it is
-abbrev pub pauses : Float → Bool
-pauses length = not (lt length plusZero32)
+abbrev pub isPause : Float → Bool
+isPause length = not (lt length plusZero32)
 
 -- no warp is open, and neither a tempo nor a stop from these places on opens one
 pub record NoWarp (tempoValues stopValues : List Float) (places : Places) (state : State) : Type 0 where
   pub closed : state .warp ≡ Closed
   pub tempos : every fits (drop (places .tempo) tempoValues) ≡ true
-  pub stops : every pauses (drop (places .stop) stopValues) ≡ true
+  pub stops : every isPause (drop (places .stop) stopValues) ≡ true
 
 -- an entry with its beat on its row
-abbrev pub onRow : Float × Float → Float × Float
-onRow e = (quantized32 (e .0), e .1)
+abbrev pub quantizedEntry32 : Float × Float → Float × Float
+quantizedEntry32 e = (quantized32 (e .0), e .1)
 
 -- the entries from a place on, with their beats on their rows
 abbrev pub rowed : List Float → List Float → ℕ → List (Float × Float)
-rowed beats values from = map onRow (drop from (entries beats values))
+rowed beats values from = map quantizedEntry32 (drop from (entries beats values))

@@ -15,20 +15,20 @@ use Rattle.columns.specs.Laying.{given, columnLaid}
 use Rattle.process_sm_walk.specs.declared.Counts.{Counts}
 use Rattle.process_sm_walk.specs.declared.Walked.{Walked}
 use Rattle.process_sm_walk.specs.Chart.{processed, offsetOf}
-use Rattle.process_sm_walk.specs.Columns.{Columns, most}
+use Rattle.process_sm_walk.specs.Columns.{Columns, mostWritten}
 
 -- a NaN differs from itself
 abbrev pub isNumber : Float → Bool
 isNumber x = eq x x
 
 -- room for so many of each list, by the room of each
-abbrev pub roomFor : Counts → (tempoRoom stopRoom warpRoom : ℕ) → Bool
-roomFor counts tempoRoom stopRoom warpRoom = pick (leb (counts .tempos) tempoRoom) (pick (leb (counts .stops) stopRoom) (leb (counts .warps) warpRoom) false) false
+abbrev pub roomForCounts : Counts → (tempoRoom stopRoom warpRoom : ℕ) → Bool
+roomForCounts counts tempoRoom stopRoom warpRoom = pick (leb (counts .tempos) tempoRoom) (pick (leb (counts .stops) stopRoom) (leb (counts .warps) warpRoom) false) false
 
 -- the columns of a list have one room, the shorter
 unfoldable pub hasRoom : Counts → Columns → Bool
 hasRoom counts into =
-    roomFor counts
+    roomForCounts counts
     (min (length (into .tempoBeats)) (length (into .tempoValues)))
     (min (length (into .stopBeats)) (length (into .stopValues)))
     (min (length (into .warpBeats)) (length (into .warpLengths)))
@@ -46,7 +46,7 @@ chartNumber tempoBeats tempoValues stopBeats stopValues =
 unfoldable pub walkNumber : (tempoBeats tempoValues stopBeats stopValues : List Float) → Columns → ℕ
 walkNumber tempoBeats tempoValues stopBeats stopValues into =
     pick (eqb (chartNumber tempoBeats tempoValues stopBeats stopValues) 0)
-    (pick (hasRoom (most (length tempoBeats) (length stopBeats)) into) 0 noRoom)
+    (pick (hasRoom (mostWritten (length tempoBeats) (length stopBeats)) into) 0 noRoom)
     (chartNumber tempoBeats tempoValues stopBeats stopValues)
 
 -- Number, counts, offset, and each of the six rooms to its last place. After a refusal all counts are 0, the offset is 0 and the rooms are as they were.

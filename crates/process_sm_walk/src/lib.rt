@@ -1,4 +1,4 @@
-// The walk of SM timing over tempos and stops that are in order by beat.
+// The walkChanges of SM timing over tempos and stops that are in order by beat.
 use process_sm_machine::Change;
 use process_sm_machine::Entry;
 use process_sm_machine::Moved;
@@ -15,13 +15,13 @@ ghost use Rattle.ieee.specs.Constants.{plusZero32};
 ghost use Rattle.limits.specs.Numbers.{every};
 ghost use Rattle.order.specs.Entries.{entries, first, second};
 ghost use Rattle.process_sm_machine.specs.Machine.{fits, met};
-ghost use Rattle.process_sm_walk.specs.Changes.{headOf, left, advanced};
-ghost use Rattle.process_sm_walk.specs.Chart.{listOf, writtenBy, writtenAt, walk, stopsBefore, offsetOf, temposBy0, firstValue, openingTempo, processed};
-ghost use Rattle.process_sm_walk.specs.Columns.{columns, most};
+ghost use Rattle.process_sm_walk.specs.Changes.{headOf, changesLeft, advanced};
+ghost use Rattle.process_sm_walk.specs.Chart.{writtenList, writtenBy, writtenAt, walkChanges, stopsBefore, offsetOf, temposBy0, firstValue, openingTempo, processed};
+ghost use Rattle.process_sm_walk.specs.Columns.{columns, mostWritten};
 ghost use lib.Dec.{eqb};
 ghost use Rattle.picks.specs.Pick.{pick};
-ghost use Rattle.process_sm_walk.specs.Walking.{isNumber, roomFor, chartNumber, walkNumber, WalkLaid};
-ghost use Rattle.process_sm_walk.specs.Inside.{placed, written, counted, noneCounted, Room, Within, Chart, Reached, pauses, NoWarp, rowed};
+ghost use Rattle.process_sm_walk.specs.Walking.{isNumber, roomForCounts, chartNumber, walkNumber, WalkLaid};
+ghost use Rattle.process_sm_walk.specs.Inside.{laidFrom, writtenInto, counted, noneCounted, Room, WrittenWithin, Chart, Reached, isPause, NoWarp, rowed};
 
 // The change that comes next, if there is one.
 pub enum Next {
@@ -35,14 +35,14 @@ pub struct Places {
     pub stop: usize,
 }
 
-// How many entries of each list are written.
+// How many entries of each list are writtenInto.
 pub struct Counts {
     pub tempos: usize,
     pub stops: usize,
     pub warps: usize,
 }
 
-// The refusal number, 0 where the call is taken; how many entries of each list were written; what beat 0 is moved by.
+// The refusal number, 0 where the call is taken; how many entries of each list were writtenInto; what beat 0 is moved by.
 pub struct Walked {
     pub number: u32,
     pub tempos: usize,
@@ -72,7 +72,7 @@ fn next_change(
 ) -> Next
     requires { ⌜ length (now «tempo_beats») ≡ length (now «tempo_values») ⌝ }
     requires { ⌜ length (now «stop_beats») ≡ length (now «stop_values») ⌝ }
-    ensures { λ r. ⌜ r ≡ headOf (left (entries (now («tempo_beats» .entry)) (now («tempo_values» .entry))) (entries (now («stop_beats» .entry)) (now («stop_values» .entry))) places) ⌝ }
+    ensures { λ r. ⌜ r ≡ headOf (changesLeft (entries (now («tempo_beats» .entry)) (now («tempo_values» .entry))) (entries (now («stop_beats» .entry)) (now («stop_values» .entry))) places) ⌝ }
 {
     let tempo_at = places.tempo;
     let stop_at = places.stop;
@@ -115,10 +115,10 @@ fn advance(places: Places, change: Change) -> Places
 // ---- writing
 
 fn put(beats: &mut [f64], values: &mut [f64], at: usize, what: Written) -> usize
-    requires { ⌜ (at + length (listOf what) ≤ length (now beats)) × (at + length (listOf what) ≤ length (now values)) ⌝ }
-    ensures { λ r. ⌜ r ≡ at + length (listOf what) ⌝ }
-    ensures { λ r. ⌜ now (beats .exit) ≡ placed at (map first (listOf what)) (now (beats .entry)) ⌝ }
-    ensures { λ r. ⌜ now (values .exit) ≡ placed at (map second (listOf what)) (now (values .entry)) ⌝ }
+    requires { ⌜ (at + length (writtenList what) ≤ length (now beats)) × (at + length (writtenList what) ≤ length (now values)) ⌝ }
+    ensures { λ r. ⌜ r ≡ at + length (writtenList what) ⌝ }
+    ensures { λ r. ⌜ now (beats .exit) ≡ laidFrom at (map first (writtenList what)) (now (beats .entry)) ⌝ }
+    ensures { λ r. ⌜ now (values .exit) ≡ laidFrom at (map second (writtenList what)) (now (values .entry)) ⌝ }
 {
     match what {
         Written::Nothing => at,
@@ -142,7 +142,7 @@ fn write(
 ) -> Counts
     requires { ⌜ Room (counted counts (writtenBy moved)) (columns (now «tempo_beats») (now «tempo_values») (now «stop_beats») (now «stop_values») (now «warp_beats») (now «warp_lengths»)) ⌝ }
     ensures { λ r. ⌜ r ≡ counted counts (writtenBy moved) ⌝ }
-    ensures { λ r. ⌜ columns (now («tempo_beats» .exit)) (now («tempo_values» .exit)) (now («stop_beats» .exit)) (now («stop_values» .exit)) (now («warp_beats» .exit)) (now («warp_lengths» .exit)) ≡ written counts (writtenBy moved) (columns (now («tempo_beats» .entry)) (now («tempo_values» .entry)) (now («stop_beats» .entry)) (now («stop_values» .entry)) (now («warp_beats» .entry)) (now («warp_lengths» .entry))) ⌝ }
+    ensures { λ r. ⌜ columns (now («tempo_beats» .exit)) (now («tempo_values» .exit)) (now («stop_beats» .exit)) (now («stop_values» .exit)) (now («warp_beats» .exit)) (now («warp_lengths» .exit)) ≡ writtenInto counts (writtenBy moved) (columns (now («tempo_beats» .entry)) (now («tempo_values» .entry)) (now («stop_beats» .entry)) (now («stop_values» .entry)) (now («warp_beats» .entry)) (now («warp_lengths» .entry))) ⌝ }
 {
     let tempo = moved.tempo;
     let stop = moved.stop;
@@ -177,7 +177,7 @@ fn take_change(
 ) -> Standing
     requires { ⌜ Room (counted counts (writtenAt state change)) (columns (now «tempo_beats») (now «tempo_values») (now «stop_beats») (now «stop_values») (now «warp_beats») (now «warp_lengths»)) ⌝ }
     ensures { λ r. ⌜ r ≡ record { state = met state change .state; counts = counted counts (writtenAt state change) } ⌝ }
-    ensures { λ r. ⌜ columns (now («tempo_beats» .exit)) (now («tempo_values» .exit)) (now («stop_beats» .exit)) (now («stop_values» .exit)) (now («warp_beats» .exit)) (now («warp_lengths» .exit)) ≡ written counts (writtenAt state change) (columns (now («tempo_beats» .entry)) (now («tempo_values» .entry)) (now («stop_beats» .entry)) (now («stop_values» .entry)) (now («warp_beats» .entry)) (now («warp_lengths» .entry))) ⌝ }
+    ensures { λ r. ⌜ columns (now («tempo_beats» .exit)) (now («tempo_values» .exit)) (now («stop_beats» .exit)) (now («stop_values» .exit)) (now («warp_beats» .exit)) (now («warp_lengths» .exit)) ≡ writtenInto counts (writtenAt state change) (columns (now («tempo_beats» .entry)) (now («tempo_values» .entry)) (now («stop_beats» .entry)) (now («stop_values» .entry)) (now («warp_beats» .entry)) (now («warp_lengths» .entry))) ⌝ }
 {
     let passing = process_sm_machine::pass(state, process_sm_machine::beat_at(change));
     let midway = write(
@@ -209,7 +209,7 @@ fn take_change(
     }
 }
 
-// ---- the walk over the changes, from a place and a state on
+// ---- the walkChanges over the changes, from a place and a state on
 
 fn run(
     tempo_beats: &[f32],
@@ -228,10 +228,10 @@ fn run(
 ) -> Counts
     requires { ⌜ Chart (now «tempo_beats») (now «tempo_values») (now «stop_beats») (now «stop_values») ⌝ }
     requires { ⌜ Reached (length (now «tempo_beats»)) (length (now «stop_beats»)) first ⌝ }
-    requires { ⌜ Within first opening «so_far» ⌝ }
-    requires { ⌜ Room (most (length (now «tempo_beats»)) (length (now «stop_beats»))) (columns (now «out_tempo_beats») (now «out_tempo_values») (now «out_stop_beats») (now «out_stop_values») (now «out_warp_beats») (now «out_warp_lengths»)) ⌝ }
-    ensures { λ r. ⌜ r ≡ counted «so_far» (walk (left (entries (now («tempo_beats» .entry)) (now («tempo_values» .entry))) (entries (now («stop_beats» .entry)) (now («stop_values» .entry))) first) opening) ⌝ }
-    ensures { λ r. ⌜ columns (now («out_tempo_beats» .exit)) (now («out_tempo_values» .exit)) (now («out_stop_beats» .exit)) (now («out_stop_values» .exit)) (now («out_warp_beats» .exit)) (now («out_warp_lengths» .exit)) ≡ written «so_far» (walk (left (entries (now («tempo_beats» .entry)) (now («tempo_values» .entry))) (entries (now («stop_beats» .entry)) (now («stop_values» .entry))) first) opening) (columns (now («out_tempo_beats» .entry)) (now («out_tempo_values» .entry)) (now («out_stop_beats» .entry)) (now («out_stop_values» .entry)) (now («out_warp_beats» .entry)) (now («out_warp_lengths» .entry))) ⌝ }
+    requires { ⌜ WrittenWithin first opening «so_far» ⌝ }
+    requires { ⌜ Room (mostWritten (length (now «tempo_beats»)) (length (now «stop_beats»))) (columns (now «out_tempo_beats») (now «out_tempo_values») (now «out_stop_beats») (now «out_stop_values») (now «out_warp_beats») (now «out_warp_lengths»)) ⌝ }
+    ensures { λ r. ⌜ r ≡ counted «so_far» (walkChanges (changesLeft (entries (now («tempo_beats» .entry)) (now («tempo_values» .entry))) (entries (now («stop_beats» .entry)) (now («stop_values» .entry))) first) opening) ⌝ }
+    ensures { λ r. ⌜ columns (now («out_tempo_beats» .exit)) (now («out_tempo_values» .exit)) (now («out_stop_beats» .exit)) (now («out_stop_values» .exit)) (now («out_warp_beats» .exit)) (now («out_warp_lengths» .exit)) ≡ writtenInto «so_far» (walkChanges (changesLeft (entries (now («tempo_beats» .entry)) (now («tempo_values» .entry))) (entries (now («stop_beats» .entry)) (now («stop_values» .entry))) first) opening) (columns (now («out_tempo_beats» .entry)) (now («out_tempo_values» .entry)) (now («out_stop_beats» .entry)) (now («out_stop_values» .entry)) (now («out_warp_beats» .entry)) (now («out_warp_lengths» .entry))) ⌝ }
 {
     let mut places = first;
     let mut state = opening;
@@ -293,13 +293,13 @@ fn all_fit(tempos: &[f32], from: usize) -> bool
 }
 
 fn is_pause(length: f32) -> bool
-    ensures { λ r. ⌜ r ≡ pauses length ⌝ }
+    ensures { λ r. ⌜ r ≡ isPause length ⌝ }
 {
     !(length < 0.0)
 }
 
 fn all_pause(stops: &[f32], from: usize) -> bool
-    ensures { λ r. ⌜ r ≡ every pauses (drop from (now (stops .entry))) ⌝ }
+    ensures { λ r. ⌜ r ≡ every isPause (drop from (now (stops .entry))) ⌝ }
 {
     let mut so_far = true;
     let mut i = from;
@@ -325,23 +325,23 @@ fn no_warp(tempo_values: &[f32], stop_values: &[f32], first: Places, state: Stat
     }
 }
 
-// The entries from a place on, their beats on their rows, behind those that are written.
+// The entries from a place on, their beats on their rows, behind those that are writtenInto.
 fn lay_on_rows(
     beats: &[f32],
     values: &[f32],
     from: usize,
     out_beats: &mut [f64],
     out_values: &mut [f64],
-    written: usize,
+    writtenInto: usize,
 ) -> usize
     requires { ⌜ length (now beats) ≡ length (now values) ⌝ }
-    requires { ⌜ (written + length (rowed (now beats) (now values) from) ≤ length (now «out_beats»)) × (written + length (rowed (now beats) (now values) from) ≤ length (now «out_values»)) ⌝ }
-    ensures { λ r. ⌜ r ≡ written + length (rowed (now (beats .entry)) (now (values .entry)) from) ⌝ }
-    ensures { λ _. ⌜ now («out_beats» .exit) ≡ placed written (map first (rowed (now (beats .entry)) (now (values .entry)) from)) (now («out_beats» .entry)) ⌝ }
-    ensures { λ _. ⌜ now («out_values» .exit) ≡ placed written (map second (rowed (now (beats .entry)) (now (values .entry)) from)) (now («out_values» .entry)) ⌝ }
+    requires { ⌜ (writtenInto + length (rowed (now beats) (now values) from) ≤ length (now «out_beats»)) × (writtenInto + length (rowed (now beats) (now values) from) ≤ length (now «out_values»)) ⌝ }
+    ensures { λ r. ⌜ r ≡ writtenInto + length (rowed (now (beats .entry)) (now (values .entry)) from) ⌝ }
+    ensures { λ _. ⌜ now («out_beats» .exit) ≡ laidFrom writtenInto (map first (rowed (now (beats .entry)) (now (values .entry)) from)) (now («out_beats» .entry)) ⌝ }
+    ensures { λ _. ⌜ now («out_values» .exit) ≡ laidFrom writtenInto (map second (rowed (now (beats .entry)) (now (values .entry)) from)) (now («out_values» .entry)) ⌝ }
 {
     let mut i = from;
-    let mut count = written;
+    let mut count = writtenInto;
     while i < beats.len() {
         out_beats[count] = std::num::f32_to_f64_with_nan(rows::quantize_beat_f32(beats[i]));
         out_values[count] = std::num::f32_to_f64_with_nan(values[i]);
@@ -351,7 +351,7 @@ fn lay_on_rows(
     count
 }
 
-// The walk from a place and a state on, change by change only where a warp may open.
+// The walkChanges from a place and a state on, change by change only where a warp may open.
 fn walk_on(
     tempo_beats: &[f32],
     tempo_values: &[f32],
@@ -369,10 +369,10 @@ fn walk_on(
 ) -> Counts
     requires { ⌜ Chart (now «tempo_beats») (now «tempo_values») (now «stop_beats») (now «stop_values») ⌝ }
     requires { ⌜ Reached (length (now «tempo_beats»)) (length (now «stop_beats»)) first ⌝ }
-    requires { ⌜ Within first opening «so_far» ⌝ }
-    requires { ⌜ Room (most (length (now «tempo_beats»)) (length (now «stop_beats»))) (columns (now «out_tempo_beats») (now «out_tempo_values») (now «out_stop_beats») (now «out_stop_values») (now «out_warp_beats») (now «out_warp_lengths»)) ⌝ }
-    ensures { λ r. ⌜ r ≡ counted «so_far» (walk (left (entries (now («tempo_beats» .entry)) (now («tempo_values» .entry))) (entries (now («stop_beats» .entry)) (now («stop_values» .entry))) first) opening) ⌝ }
-    ensures { λ r. ⌜ columns (now («out_tempo_beats» .exit)) (now («out_tempo_values» .exit)) (now («out_stop_beats» .exit)) (now («out_stop_values» .exit)) (now («out_warp_beats» .exit)) (now («out_warp_lengths» .exit)) ≡ written «so_far» (walk (left (entries (now («tempo_beats» .entry)) (now («tempo_values» .entry))) (entries (now («stop_beats» .entry)) (now («stop_values» .entry))) first) opening) (columns (now («out_tempo_beats» .entry)) (now («out_tempo_values» .entry)) (now («out_stop_beats» .entry)) (now («out_stop_values» .entry)) (now («out_warp_beats» .entry)) (now («out_warp_lengths» .entry))) ⌝ }
+    requires { ⌜ WrittenWithin first opening «so_far» ⌝ }
+    requires { ⌜ Room (mostWritten (length (now «tempo_beats»)) (length (now «stop_beats»))) (columns (now «out_tempo_beats») (now «out_tempo_values») (now «out_stop_beats») (now «out_stop_values») (now «out_warp_beats») (now «out_warp_lengths»)) ⌝ }
+    ensures { λ r. ⌜ r ≡ counted «so_far» (walkChanges (changesLeft (entries (now («tempo_beats» .entry)) (now («tempo_values» .entry))) (entries (now («stop_beats» .entry)) (now («stop_values» .entry))) first) opening) ⌝ }
+    ensures { λ r. ⌜ columns (now («out_tempo_beats» .exit)) (now («out_tempo_values» .exit)) (now («out_stop_beats» .exit)) (now («out_stop_values» .exit)) (now («out_warp_beats» .exit)) (now («out_warp_lengths» .exit)) ≡ writtenInto «so_far» (walkChanges (changesLeft (entries (now («tempo_beats» .entry)) (now («tempo_values» .entry))) (entries (now («stop_beats» .entry)) (now («stop_values» .entry))) first) opening) (columns (now («out_tempo_beats» .entry)) (now («out_tempo_values» .entry)) (now («out_stop_beats» .entry)) (now («out_stop_values» .entry)) (now («out_warp_beats» .entry)) (now («out_warp_lengths» .entry))) ⌝ }
 {
     if no_warp(tempo_values, stop_values, first, opening) {
         let tempos = lay_on_rows(
@@ -502,9 +502,9 @@ fn walk_chart(
     out_warp_lengths: &mut [f64],
 ) -> Finished
     requires { ⌜ Chart (now «tempo_beats») (now «tempo_values») (now «stop_beats») (now «stop_values») ⌝ }
-    requires { ⌜ Room (most (length (now «tempo_beats»)) (length (now «stop_beats»))) (columns (now «out_tempo_beats») (now «out_tempo_values») (now «out_stop_beats») (now «out_stop_values») (now «out_warp_beats») (now «out_warp_lengths»)) ⌝ }
+    requires { ⌜ Room (mostWritten (length (now «tempo_beats»)) (length (now «stop_beats»))) (columns (now «out_tempo_beats») (now «out_tempo_values») (now «out_stop_beats») (now «out_stop_values») (now «out_warp_beats») (now «out_warp_lengths»)) ⌝ }
     ensures { λ r. ⌜ r ≡ record { offset = offsetOf (entries (now («stop_beats» .entry)) (now («stop_values» .entry))); counts = counted noneCounted (processed (entries (now («tempo_beats» .entry)) (now («tempo_values» .entry))) (entries (now («stop_beats» .entry)) (now («stop_values» .entry)))) } ⌝ }
-    ensures { λ r. ⌜ columns (now («out_tempo_beats» .exit)) (now («out_tempo_values» .exit)) (now («out_stop_beats» .exit)) (now («out_stop_values» .exit)) (now («out_warp_beats» .exit)) (now («out_warp_lengths» .exit)) ≡ written noneCounted (processed (entries (now («tempo_beats» .entry)) (now («tempo_values» .entry))) (entries (now («stop_beats» .entry)) (now («stop_values» .entry)))) (columns (now («out_tempo_beats» .entry)) (now («out_tempo_values» .entry)) (now («out_stop_beats» .entry)) (now («out_stop_values» .entry)) (now («out_warp_beats» .entry)) (now («out_warp_lengths» .entry))) ⌝ }
+    ensures { λ r. ⌜ columns (now («out_tempo_beats» .exit)) (now («out_tempo_values» .exit)) (now («out_stop_beats» .exit)) (now («out_stop_values» .exit)) (now («out_warp_beats» .exit)) (now («out_warp_lengths» .exit)) ≡ writtenInto noneCounted (processed (entries (now («tempo_beats» .entry)) (now («tempo_values» .entry))) (entries (now («stop_beats» .entry)) (now («stop_values» .entry)))) (columns (now («out_tempo_beats» .entry)) (now («out_tempo_values» .entry)) (now («out_stop_beats» .entry)) (now («out_stop_values» .entry)) (now («out_warp_beats» .entry)) (now («out_warp_lengths» .entry))) ⌝ }
 {
     let opener = opening_tempo(tempo_beats, tempo_values);
     let early = early_stops(stop_beats, stop_values);
@@ -600,7 +600,7 @@ fn at_least_one(n: usize) -> usize
 }
 
 fn room_for(counts: Counts, tempo_room: usize, stop_room: usize, warp_room: usize) -> bool
-    ensures { λ r. ⌜ r ≡ roomFor counts «tempo_room» «stop_room» «warp_room» ⌝ }
+    ensures { λ r. ⌜ r ≡ roomForCounts counts «tempo_room» «stop_room» «warp_room» ⌝ }
 {
     if counts.tempos <= tempo_room {
         if counts.stops <= stop_room {
@@ -613,7 +613,7 @@ fn room_for(counts: Counts, tempo_room: usize, stop_room: usize, warp_room: usiz
 
 fn most_of(tempos: usize, stops: usize) -> Counts
     requires { ⌜ tempos + stops < 2 ^ 64 ⌝ }
-    ensures { λ r. ⌜ r ≡ most tempos stops ⌝ }
+    ensures { λ r. ⌜ r ≡ mostWritten tempos stops ⌝ }
 {
     let at_least = at_least_one(tempos);
     Counts {
@@ -632,12 +632,12 @@ fn walk_number(
     stop_room: usize,
     warp_room: usize,
 ) -> u32
-    ensures { λ r. ⌜ r ≡ pick (eqb (chartNumber (now («tempo_beats» .entry)) (now («tempo_values» .entry)) (now («stop_beats» .entry)) (now («stop_values» .entry))) 0) (pick (roomFor (most (length (now («tempo_beats» .entry))) (length (now («stop_beats» .entry)))) «tempo_room» «stop_room» «warp_room») 0 7) (chartNumber (now («tempo_beats» .entry)) (now («tempo_values» .entry)) (now («stop_beats» .entry)) (now («stop_values» .entry))) ⌝ }
+    ensures { λ r. ⌜ r ≡ pick (eqb (chartNumber (now («tempo_beats» .entry)) (now («tempo_values» .entry)) (now («stop_beats» .entry)) (now («stop_values» .entry))) 0) (pick (roomForCounts (mostWritten (length (now («tempo_beats» .entry))) (length (now («stop_beats» .entry)))) «tempo_room» «stop_room» «warp_room») 0 7) (chartNumber (now («tempo_beats» .entry)) (now («tempo_values» .entry)) (now («stop_beats» .entry)) (now («stop_values» .entry))) ⌝ }
 {
     let number = chart_number(tempo_beats, tempo_values, stop_beats, stop_values);
     if number == 0 {
-        let most = most_of(tempo_beats.len(), stop_beats.len());
-        if room_for(most, tempo_room, stop_room, warp_room) {
+        let mostWritten = most_of(tempo_beats.len(), stop_beats.len());
+        if room_for(mostWritten, tempo_room, stop_room, warp_room) {
             return limits::TAKEN;
         }
         return limits::NO_ROOM;

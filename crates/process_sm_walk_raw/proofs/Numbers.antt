@@ -10,7 +10,7 @@ use Rattle.order.proofs.Compare.{same?}
 use Rattle.process_raw.specs.RawLists.{rawNumbers}
 use Rattle.process_raw.proofs.BothTaken.{both-taken}
 use Rattle.process_sm_changes.specs.SmChanges.{smChanges}
-use Rattle.process_sm_walk.specs.Columns.{Columns, most}
+use Rattle.process_sm_walk.specs.Columns.{Columns, mostWritten}
 use Rattle.process_sm_walk.specs.Walking.{chartNumber, walkNumber}
 use Rattle.process_sm_walk.specs.Inside.{Room}
 use Rattle.process_sm_laws.proofs.ChangesTaken.{same-columns, changes-numbers, walk-takes}
@@ -39,11 +39,11 @@ module _ (tempoBeats tempoValues stopBeats stopValues : List Float) (into : Colu
       )
 
   -- where there is room
-  pub number-with-room : (rawNumbers tempoBeats tempoValues stopBeats stopValues ≡ 0 → Room (most (length (smChanges tempoBeats tempoValues)) (length (smChanges stopBeats stopValues))) into)
+  pub number-with-room : (rawNumbers tempoBeats tempoValues stopBeats stopValues ≡ 0 → Room (mostWritten (length (smChanges tempoBeats tempoValues)) (length (smChanges stopBeats stopValues))) into)
       → walkedNumber tempoBeats tempoValues stopBeats stopValues into ≡ rawNumbers tempoBeats tempoValues stopBeats stopValues
   number-with-room room =
       let n = rawNumbers tempoBeats tempoValues stopBeats stopValues in
       ⊎-elim (λ z. taken z (room z) ∙ sym z) (λ h. number-refused h) (same? n 0)
     where
-      taken : rawNumbers tempoBeats tempoValues stopBeats stopValues ≡ 0 → Room (most (length (smChanges tempoBeats tempoValues)) (length (smChanges stopBeats stopValues))) into → walkedNumber tempoBeats tempoValues stopBeats stopValues into ≡ 0
+      taken : rawNumbers tempoBeats tempoValues stopBeats stopValues ≡ 0 → Room (mostWritten (length (smChanges tempoBeats tempoValues)) (length (smChanges stopBeats stopValues))) into → walkedNumber tempoBeats tempoValues stopBeats stopValues into ≡ 0
       taken z r = sym (number-walked z) ∙ walk-takes tempoBeats tempoValues stopBeats stopValues (both-taken z .tempos) (both-taken z .stops) into r

@@ -9,14 +9,14 @@ use Rattle.picks.specs.Pick.{pick}
 use Rattle.process_raw.specs.RawLists.{rawNumbers}
 use Rattle.process_sm_changes.specs.SmChanges.{smChanges}
 use Rattle.process_sm_walk.specs.declared.Walked.{Walked}
-use Rattle.process_sm_walk.specs.Columns.{Columns, most}
+use Rattle.process_sm_walk.specs.Columns.{Columns, mostWritten}
 use Rattle.process_sm_walk.specs.Walking.{hasRoom, WalkLaid}
 
 -- the number of both lists, then 7 where the most that their changes can write has no room
 unfoldable pub walkedNumber : (tempoBeats tempoValues stopBeats stopValues : List Float) → Columns → ℕ
 walkedNumber tempoBeats tempoValues stopBeats stopValues into =
     pick (eqb (rawNumbers tempoBeats tempoValues stopBeats stopValues) 0)
-    (pick (hasRoom (most (length (smChanges tempoBeats tempoValues)) (length (smChanges stopBeats stopValues))) into) 0 noRoom)
+    (pick (hasRoom (mostWritten (length (smChanges tempoBeats tempoValues)) (length (smChanges stopBeats stopValues))) into) 0 noRoom)
     (rawNumbers tempoBeats tempoValues stopBeats stopValues)
 
 -- the one outcome: what the walk lays of the changes of both lists

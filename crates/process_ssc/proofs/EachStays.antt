@@ -20,9 +20,9 @@ use Rattle.limits.proofs.ListTaken.{list-passes}
 use Rattle.limits.proofs.Every.{every-rest, every-more}
 use Rattle.order.specs.Entries.{entries}
 use Rattle.columns.specs.Kept.{kept}
-use Rattle.process_ssc.specs.Ssc.{staysSsc, stayed}
+use Rattle.process_ssc.specs.Ssc.{staysSsc, stayedSsc}
 use Rattle.process_ssc.specs.Tests.{beatStays, valueStays}
-use Rattle.process_raw.specs.RawLists.{Whole}
+use Rattle.process_raw.specs.RawLists.{TakenWhole}
 
 pub no : {A : Type 0} → false ≡ true → A
 no h = let z : _≡_ {A = ℕ} 0 1 = cc in absurd (omega arith)
@@ -91,7 +91,7 @@ entry-stays : (b v : Float) → beatStays b ≡ true → valueStays v ≡ true �
 unfolding staysSsc
 entry-stays b v h k = rw (finite-beat b h, finite-value v k, beat-ends b h .0, above v (subst T (sym (finite-value v k)) tt) (value-ends v k .0))
 
-each-stays : (beats values : List Float) → length beats ≡ length values → every beatStays beats ≡ true → every valueStays values ≡ true → length (stayed beats values) ≡ length beats
+each-stays : (beats values : List Float) → length beats ≡ length values → every beatStays beats ≡ true → every valueStays values ≡ true → length (stayedSsc beats values) ≡ length beats
 unfolding kept entries
 each-stays [] values same h k = refl
 each-stays (b ∷ beats) [] same h k = absurd (omega arith)
@@ -116,7 +116,7 @@ value-taken v h =
     let f : T (finite v) = subst T (sym (finite-value v h)) tt in
     rw (not-below v f (from-zero v (above v f (ends .0))), ends .1, ends .0)
 
-pub whole-list : (beats values : List Float) → length beats ≤ 1024 → length beats ≡ length values → every beatStays beats ≡ true → every valueStays values ≡ true → Whole stayed beats values
+pub whole-list : (beats values : List Float) → length beats ≤ 1024 → length beats ≡ length values → every beatStays beats ≡ true → every valueStays values ≡ true → TakenWhole stayedSsc beats values
 whole-list beats values few even h k = record {
   number = list-passes (rangeOf RawBeat) (rangeOf RawTempo) beats values few even (every-more beatStays (inRange (rangeOf RawBeat)) beat-taken beats h) (every-more valueStays (inRange (rangeOf RawTempo)) value-taken values k);
   stay = each-stays beats values even h k;

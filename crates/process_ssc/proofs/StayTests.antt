@@ -6,10 +6,10 @@ use lib.Ieee.Scale.{finite}
 use Rattle.ieee.specs.Constants.{plusZero}
 use Rattle.picks.specs.Pick.{pick}
 use Rattle.process_ssc.specs.Ssc.{staysSsc}
-use Rattle.process_ssc.specs.Tests.{within}
+use Rattle.process_ssc.specs.Tests.{staysByTests}
 
-pub stays-by-tests : (beat value : Float) → within beat value ≡ staysSsc (beat, value)
-unfolding within staysSsc le lt eq
+pub stays-by-tests : (beat value : Float) → staysByTests beat value ≡ staysSsc (beat, value)
+unfolding staysByTests staysSsc le lt eq
 stays-by-tests nan value = refl
 stays-by-tests (inf true) value = refl
 stays-by-tests (inf false) value = refl

@@ -22,7 +22,7 @@ use Rattle.order.proofs.Columns.{length-entries}
 use Rattle.columns.specs.Kept.{kept}
 use Rattle.columns.proofs.KeptLaid.{few-kept}
 use Rattle.process_raw.specs.RawLists.{rawNumber}
-use Rattle.process_ssc.specs.Ssc.{staysSsc, onRow, stayed}
+use Rattle.process_ssc.specs.Ssc.{staysSsc, quantizedEntry, stayedSsc}
 
 -- what stays is finite
 stays-finite : (beat value : Float) → staysSsc (beat, value) ≡ true → T (finite beat) × T (finite value)
@@ -40,7 +40,7 @@ one-taken beat value t b v =
     (within-taken 16 (quantized beat) (quantized-allowed beat (taken-within 16 beat (sym (finite-taken (upTo 16) beat (both .0)) ∙ b))), sym (finite-taken (tempo true) value (both .1)) ∙ v)
 
 all-taken : (beats values : List Float) → allIn (rangeOf RawBeat) beats ≡ true → allIn (rangeOf RawTempo) values ≡ true
-    → (allIn (rangeOf Beat) (map first (stayed beats values)) ≡ true) × (allIn (rangeOf TidyTempo) (map second (stayed beats values)) ≡ true)
+    → (allIn (rangeOf Beat) (map first (stayedSsc beats values)) ≡ true) × (allIn (rangeOf TidyTempo) (map second (stayedSsc beats values)) ≡ true)
 unfolding entries kept every
 all-taken [] values b v = (refl, refl)
 all-taken (beat ∷ beats) [] b v = (refl, refl)
@@ -50,16 +50,16 @@ all-taken (beat ∷ beats) (value ∷ values) b v =
     go (staysSsc (beat, value)) refl (all-taken beats values (bs .1) (vs .1)) (λ t. one-taken beat value t (bs .0) (vs .0))
   where
     go : (t : Bool) → staysSsc (beat, value) ≡ t
-        → (allIn (rangeOf Beat) (map first (stayed beats values)) ≡ true) × (allIn (rangeOf TidyTempo) (map second (stayed beats values)) ≡ true)
+        → (allIn (rangeOf Beat) (map first (stayedSsc beats values)) ≡ true) × (allIn (rangeOf TidyTempo) (map second (stayedSsc beats values)) ≡ true)
         → (staysSsc (beat, value) ≡ true → (inRange (rangeOf Beat) (quantized beat) ≡ true) × (inRange (rangeOf TidyTempo) value ≡ true))
-        → (allIn (rangeOf Beat) (map first (pick t (onRow (beat, value) ∷ stayed beats values) (stayed beats values))) ≡ true) × (allIn (rangeOf TidyTempo) (map second (pick t (onRow (beat, value) ∷ stayed beats values) (stayed beats values))) ≡ true)
+        → (allIn (rangeOf Beat) (map first (pick t (quantizedEntry (beat, value) ∷ stayedSsc beats values) (stayedSsc beats values))) ≡ true) × (allIn (rangeOf TidyTempo) (map second (pick t (quantizedEntry (beat, value) ∷ stayedSsc beats values) (stayedSsc beats values))) ≡ true)
     go true e rest one = let here = one e in (rw (here .0) (rest .0), rw (here .1) (rest .1))
     go false e rest one = rest
 
-pub tempos-taken : (beats values : List Float) → rawNumber beats values ≡ 0 → listNumber (rangeOf Beat) (rangeOf TidyTempo) (map first (stayed beats values)) (map second (stayed beats values)) ≡ 0
+pub tempos-taken : (beats values : List Float) → rawNumber beats values ≡ 0 → listNumber (rangeOf Beat) (rangeOf TidyTempo) (map first (stayedSsc beats values)) (map second (stayedSsc beats values)) ≡ 0
 tempos-taken beats values h =
     let raw = list-taken h in
     let all = all-taken beats values (raw .beatsIn) (raw .valuesIn) in
-    let list = stayed beats values in
-    let few : length list ≤ 1024 = omega (arith, few-kept staysSsc onRow (entries beats values), length-entries beats values (raw .even), raw .few) in
+    let list = stayedSsc beats values in
+    let few : length list ≤ 1024 = omega (arith, few-kept staysSsc quantizedEntry (entries beats values), length-entries beats values (raw .even), raw .few) in
     list-passes (rangeOf Beat) (rangeOf TidyTempo) (map first list) (map second list) (simp length-map few) (simp length-map) (all .0) (all .1)

@@ -21,16 +21,16 @@ unfoldable pub staysSsc : Float × Float → Bool
 staysSsc e = pick (finite (e .0)) (pick (finite (e .1)) (pick (le plusZero (e .0)) (lt plusZero (e .1)) false) false) false
 
 -- the beat on its row
-abbrev pub onRow : Float × Float → Float × Float
-onRow e = (quantized (e .0), e .1)
+abbrev pub quantizedEntry : Float × Float → Float × Float
+quantizedEntry e = (quantized (e .0), e .1)
 
 -- the entries that stay, in the order given
-abbrev pub stayed : List Float → List Float → List (Float × Float)
-stayed beats values = kept staysSsc onRow (entries beats values)
+abbrev pub stayedSsc : List Float → List Float → List (Float × Float)
+stayedSsc beats values = kept staysSsc quantizedEntry (entries beats values)
 
 -- stops are that; tempos are tidied besides
 abbrev pub sscTempos : List Float → List Float → List (Float × Float)
-sscTempos beats values = tidyTempos (map first (stayed beats values)) (map second (stayed beats values))
+sscTempos beats values = tidyTempos (map first (stayedSsc beats values)) (map second (stayedSsc beats values))
 
 -- The one outcome: the number by the tests of both lists, then 7 by the rooms of both results; under it the lists. SSC makes no warps and has no offset.
 pub record SscProcessed (tempoBeats tempoValues stopBeats stopValues : List Float) (outcome : Processed)
@@ -38,9 +38,9 @@ pub record SscProcessed (tempoBeats tempoValues stopBeats stopValues : List Floa
   pub number :
       outcome .number
       ≡ roomNumber
-      (roomNumber (rawNumbers tempoBeats tempoValues stopBeats stopValues) (length (stayed stopBeats stopValues)) (roomFor stopBeatsOld stopValuesOld))
+      (roomNumber (rawNumbers tempoBeats tempoValues stopBeats stopValues) (length (stayedSsc stopBeats stopValues)) (roomFor stopBeatsOld stopValuesOld))
       (length (sscTempos tempoBeats tempoValues)) (roomFor tempoBeatsOld tempoValuesOld)
   pub tempos : LaidList (outcome .number) (sscTempos tempoBeats tempoValues) (outcome .tempos) tempoBeatsOld tempoBeatsNew tempoValuesOld tempoValuesNew
-  pub stops : LaidList (outcome .number) (stayed stopBeats stopValues) (outcome .stops) stopBeatsOld stopBeatsNew stopValuesOld stopValuesNew
+  pub stops : LaidList (outcome .number) (stayedSsc stopBeats stopValues) (outcome .stops) stopBeatsOld stopBeatsNew stopValuesOld stopValuesNew
   pub warps : outcome .warps ≡ 0
   pub offset : outcome .offset ≡ plusZero

@@ -5,8 +5,8 @@ use lib.Ieee.{Float, inf, fin, lt, le}
 use Rattle.ieee.specs.Constants.{plusZero}
 use Rattle.picks.specs.Pick.{pick}
 
-unfoldable pub within : Float → Float → Bool
-within beat value =
+unfoldable pub staysByTests : Float → Float → Bool
+staysByTests beat value =
     pick (le plusZero beat)
     (pick (lt beat (inf false)) (pick (lt plusZero value) (lt value (inf false)) false) false)
     false

@@ -17,7 +17,7 @@ ghost use Rattle.columns.specs.Each.{laidEach};
 ghost use Rattle.columns.specs.Laying.{LaidPair};
 ghost use Rattle.process_raw.specs.RawLists.{rawNumber, rawNumbers, Known};
 ghost use Rattle.process_ssc.specs.Tests.{beatStays, valueStays};
-ghost use Rattle.process_ssc.specs.Ssc.{staysSsc, stayed, sscTempos, SscProcessed};
+ghost use Rattle.process_ssc.specs.Ssc.{staysSsc, stayedSsc, sscTempos, SscProcessed};
 
 // Whether an entry stays: finite, the beat not below 0, the value above it.
 fn stays(beat: f64, value: f64) -> bool
@@ -37,7 +37,7 @@ fn stays(beat: f64, value: f64) -> bool
 
 fn count_stayed(beats: &[f64], values: &[f64]) -> usize
     requires { ⌜ length (now beats) ≡ length (now values) ⌝ }
-    ensures { λ r. ⌜ r ≡ length (stayed (now (beats .entry)) (now (values .entry))) ⌝ }
+    ensures { λ r. ⌜ r ≡ length (stayedSsc (now (beats .entry)) (now (values .entry))) ⌝ }
 {
     let mut count = 0;
     let mut i = 0;
@@ -55,7 +55,7 @@ fn count_stayed(beats: &[f64], values: &[f64]) -> usize
 // Whether the entries that stay have room: counted only where there are more entries than room.
 fn have_room(beats: &[f64], values: &[f64], room: usize) -> bool
     requires { ⌜ length (now beats) ≡ length (now values) ⌝ }
-    ensures { λ r. ⌜ r ≡ leb (length (stayed (now (beats .entry)) (now (values .entry)))) room ⌝ }
+    ensures { λ r. ⌜ r ≡ leb (length (stayedSsc (now (beats .entry)) (now (values .entry)))) room ⌝ }
 {
     if beats.len() <= room {
         return true;
@@ -66,10 +66,10 @@ fn have_room(beats: &[f64], values: &[f64], room: usize) -> bool
 // Where some are dropped: one by one.
 fn lay_some(beats: &[f64], values: &[f64], out_beats: &mut [f64], out_values: &mut [f64]) -> usize
     requires { ⌜ length (now beats) ≡ length (now values) ⌝ }
-    requires { ⌜ length (stayed (now beats) (now values)) ≤ min (length (now «out_beats»)) (length (now «out_values»)) ⌝ }
-    ensures { λ r. ⌜ r ≡ length (stayed (now (beats .entry)) (now (values .entry))) ⌝ }
-    ensures { λ _. ⌜ now («out_beats» .exit) ≡ laid (map first (stayed (now (beats .entry)) (now (values .entry)))) (now («out_beats» .entry)) ⌝ }
-    ensures { λ _. ⌜ now («out_values» .exit) ≡ laid (map second (stayed (now (beats .entry)) (now (values .entry)))) (now («out_values» .entry)) ⌝ }
+    requires { ⌜ length (stayedSsc (now beats) (now values)) ≤ min (length (now «out_beats»)) (length (now «out_values»)) ⌝ }
+    ensures { λ r. ⌜ r ≡ length (stayedSsc (now (beats .entry)) (now (values .entry))) ⌝ }
+    ensures { λ _. ⌜ now («out_beats» .exit) ≡ laid (map first (stayedSsc (now (beats .entry)) (now (values .entry)))) (now («out_beats» .entry)) ⌝ }
+    ensures { λ _. ⌜ now («out_values» .exit) ≡ laid (map second (stayedSsc (now (beats .entry)) (now (values .entry)))) (now («out_values» .entry)) ⌝ }
 {
     let mut count = 0;
     let mut i = 0;
@@ -238,7 +238,7 @@ fn values_stay(values: &[f64]) -> bool
 
 // Whether the list is taken and every entry stays, by one test of each number.
 fn all_stay(beats: &[f64], values: &[f64]) -> bool
-    ensures { λ r. ⌜ Known stayed r (now (beats .entry)) (now (values .entry)) ⌝ }
+    ensures { λ r. ⌜ Known stayedSsc r (now (beats .entry)) (now (values .entry)) ⌝ }
 {
     if beats.len() > limits::MOST_ENTRIES {
         return false;
@@ -261,11 +261,11 @@ fn lay_stayed(
     whole: bool,
 ) -> usize
     requires { ⌜ length (now beats) ≡ length (now values) ⌝ }
-    requires { ⌜ length (stayed (now beats) (now values)) ≤ min (length (now «out_beats»)) (length (now «out_values»)) ⌝ }
-    requires { ⌜ Known stayed whole (now beats) (now values) ⌝ }
-    ensures { λ r. ⌜ r ≡ length (stayed (now (beats .entry)) (now (values .entry))) ⌝ }
-    ensures { λ _. ⌜ now («out_beats» .exit) ≡ laid (map first (stayed (now (beats .entry)) (now (values .entry)))) (now («out_beats» .entry)) ⌝ }
-    ensures { λ _. ⌜ now («out_values» .exit) ≡ laid (map second (stayed (now (beats .entry)) (now (values .entry)))) (now («out_values» .entry)) ⌝ }
+    requires { ⌜ length (stayedSsc (now beats) (now values)) ≤ min (length (now «out_beats»)) (length (now «out_values»)) ⌝ }
+    requires { ⌜ Known stayedSsc whole (now beats) (now values) ⌝ }
+    ensures { λ r. ⌜ r ≡ length (stayedSsc (now (beats .entry)) (now (values .entry))) ⌝ }
+    ensures { λ _. ⌜ now («out_beats» .exit) ≡ laid (map first (stayedSsc (now (beats .entry)) (now (values .entry)))) (now («out_beats» .entry)) ⌝ }
+    ensures { λ _. ⌜ now («out_values» .exit) ≡ laid (map second (stayedSsc (now (beats .entry)) (now (values .entry)))) (now («out_values» .entry)) ⌝ }
 {
     if whole {
         lay_all(beats, values, out_beats, out_values);
@@ -285,7 +285,7 @@ fn tidy_stayed(
     whole: bool,
 ) -> Outcome
     requires { ⌜ (rawNumber (now beats) (now values) ≡ 0) × (length (now beats) ≤ min (length (now «work_beats»)) (length (now «work_values»))) ⌝ }
-    requires { ⌜ Known stayed whole (now beats) (now values) ⌝ }
+    requires { ⌜ Known stayedSsc whole (now beats) (now values) ⌝ }
     ensures { λ r. ⌜ LaidPair 0 (sscTempos (now (beats .entry)) (now (values .entry))) r (now («out_beats» .entry)) (now («out_beats» .exit)) (now («out_values» .entry)) (now («out_values» .exit)) ⌝ }
 {
     let count = lay_stayed(beats, values, work_beats, work_values, whole);
@@ -306,7 +306,7 @@ fn tidy_few(
     whole: bool,
 ) -> Outcome
     requires { ⌜ (rawNumber (now beats) (now values) ≡ 0) × (length (now beats) ≤ 64) ⌝ }
-    requires { ⌜ Known stayed whole (now beats) (now values) ⌝ }
+    requires { ⌜ Known stayedSsc whole (now beats) (now values) ⌝ }
     ensures { λ r. ⌜ LaidPair 0 (sscTempos (now (beats .entry)) (now (values .entry))) r (now («out_beats» .entry)) (now («out_beats» .exit)) (now («out_values» .entry)) (now («out_values» .exit)) ⌝ }
 {
     let mut work_beats = [0.0; 64];
@@ -331,7 +331,7 @@ fn tidy_many(
     whole: bool,
 ) -> Outcome
     requires { ⌜ rawNumber (now beats) (now values) ≡ 0 ⌝ }
-    requires { ⌜ Known stayed whole (now beats) (now values) ⌝ }
+    requires { ⌜ Known stayedSsc whole (now beats) (now values) ⌝ }
     ensures { λ r. ⌜ LaidPair 0 (sscTempos (now (beats .entry)) (now (values .entry))) r (now («out_beats» .entry)) (now («out_beats» .exit)) (now («out_values» .entry)) (now («out_values» .exit)) ⌝ }
 {
     let mut work_beats = [0.0; 1024];
@@ -355,7 +355,7 @@ fn lay_tempos(
     whole: bool,
 ) -> Outcome
     requires { ⌜ rawNumber (now beats) (now values) ≡ 0 ⌝ }
-    requires { ⌜ Known stayed whole (now beats) (now values) ⌝ }
+    requires { ⌜ Known stayedSsc whole (now beats) (now values) ⌝ }
     ensures { λ r. ⌜ LaidPair 0 (sscTempos (now (beats .entry)) (now (values .entry))) r (now («out_beats» .entry)) (now («out_beats» .exit)) (now («out_values» .entry)) (now («out_values» .exit)) ⌝ }
 {
     if beats.len() <= 64 {
@@ -373,8 +373,8 @@ fn number_of(
     tempos_whole: bool,
     stops_whole: bool,
 ) -> u32
-    requires { ⌜ Known stayed «tempos_whole» (now «tempo_beats») (now «tempo_values») ⌝ }
-    requires { ⌜ Known stayed «stops_whole» (now «stop_beats») (now «stop_values») ⌝ }
+    requires { ⌜ Known stayedSsc «tempos_whole» (now «tempo_beats») (now «tempo_values») ⌝ }
+    requires { ⌜ Known stayedSsc «stops_whole» (now «stop_beats») (now «stop_values») ⌝ }
     ensures { λ r. ⌜ r ≡ rawNumbers (now («tempo_beats» .entry)) (now («tempo_values» .entry)) (now («stop_beats» .entry)) (now («stop_values» .entry)) ⌝ }
 {
     if tempos_whole {
@@ -397,8 +397,8 @@ fn process_known(
     tempos_whole: bool,
     stops_whole: bool,
 ) -> Processed
-    requires { ⌜ Known stayed «tempos_whole» (now «tempo_beats») (now «tempo_values») ⌝ }
-    requires { ⌜ Known stayed «stops_whole» (now «stop_beats») (now «stop_values») ⌝ }
+    requires { ⌜ Known stayedSsc «tempos_whole» (now «tempo_beats») (now «tempo_values») ⌝ }
+    requires { ⌜ Known stayedSsc «stops_whole» (now «stop_beats») (now «stop_values») ⌝ }
     ensures { λ r. ⌜ SscProcessed (now («tempo_beats» .entry)) (now («tempo_values» .entry)) (now («stop_beats» .entry)) (now («stop_values» .entry)) r (now («out_tempo_beats» .entry)) (now («out_tempo_beats» .exit)) (now («out_tempo_values» .entry)) (now («out_tempo_values» .exit)) (now («out_stop_beats» .entry)) (now («out_stop_beats» .exit)) (now («out_stop_values» .entry)) (now («out_stop_values» .exit)) ⌝ }
 {
     let number = number_of(

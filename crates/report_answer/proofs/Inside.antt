@@ -9,13 +9,13 @@ use lib.Dec.{ltb}
 use lib.ListN.{length, take, length-take}
 use Rattle.picks.specs.Pick.{pick}
 use Rattle.io.specs.Counts.{Counts}
-use Rattle.report_text.specs.Page.{onward, endOf, Wrote}
+use Rattle.report_text.specs.Page.{nextPlace, placeBehind, Wrote}
 use Rattle.report_text.proofs.Joined.{wrote-length}
 
-end-inside : (room at : ℕ) (bytes : List ℕ) → at ≤ room → endOf room at bytes ≤ room
-unfolding endOf onward
+end-inside : (room at : ℕ) (bytes : List ℕ) → at ≤ room → placeBehind room at bytes ≤ room
+unfolding placeBehind nextPlace
 end-inside room at [] h = h
-end-inside room at (byte ∷ bytes) h = end-inside room (onward room at) bytes (by-case (ltb at room) refl)
+end-inside room at (byte ∷ bytes) h = end-inside room (nextPlace room at) bytes (by-case (ltb at room) refl)
   where
     by-case : (t : Bool) → ltb at room ≡ t → pick (ltb at room) (at + 1) at ≤ room
     by-case true e = let l = ltb-true at room e in rw e (omega arith)

@@ -10,12 +10,12 @@ use lib.Seq.{drop-cons, set-out}
 use borrow.Author.Tests.{eq-eqb}
 use Rattle.report_form.specs.declared.Reading.{Reading}
 use Rattle.report_form.specs.declared.Store.{Store}
-use Rattle.report_form.specs.Form.{stepOf, after}
-use Rattle.report_form.specs.Stores.{storeOf, columnAfter, placed, countIn}
+use Rattle.report_form.specs.Form.{stepOf, readOn}
+use Rattle.report_form.specs.Stores.{storeOf, columnAfter, storedIn, countIn}
 
 -- the state after i bytes leads where the first one leads
 abbrev pub Read : List ℕ → Reading → Reading → ℕ → Type 0
-Read chunk begun reading i = after reading (drop i chunk) ≡ after begun chunk
+Read chunk begun reading i = readOn reading (drop i chunk) ≡ readOn begun chunk
 
 -- so does a column, which keeps its length
 pub record Column {A : Type 0} (change : Store → List A → List A) (chunk : List ℕ) (begun : Reading) (old : List A) (reading : Reading) (now : List A) (i : ℕ) : Type 0 where
@@ -23,11 +23,11 @@ pub record Column {A : Type 0} (change : Store → List A → List A) (chunk : L
   pub same : columnAfter change reading (drop i chunk) now ≡ columnAfter change begun chunk old
 
 pub read-turn : (chunk : List ℕ) (begun reading next : Reading) (i : ℕ) → i < length chunk → next ≡ stepOf reading (getD chunk i 0) → Read chunk begun reading i → Read chunk begun next (i + 1)
-unfolding after
+unfolding readOn
 read-turn chunk begun reading next i h e r = rw (add-one i, e) (rw (drop-cons chunk i 0 h) at r)
 
-pub read-end : (chunk : List ℕ) (begun reading : Reading) (i : ℕ) → length chunk ≤ i → Read chunk begun reading i → reading ≡ after begun chunk
-unfolding after
+pub read-end : (chunk : List ℕ) (begun reading : Reading) (i : ℕ) → length chunk ≤ i → Read chunk begun reading i → reading ≡ readOn begun chunk
+unfolding readOn
 read-end chunk begun reading i h r = rw (drop-of-length-le chunk h) at r
 
 module _ {A : Type 0} (change : Store → List A → List A) (chunk : List ℕ) (begun : Reading) (old : List A) where
@@ -44,8 +44,8 @@ module _ {A : Type 0} (change : Store → List A → List A) (chunk : List ℕ) 
   unfolding columnAfter
   column-end reading l i h r = rw (drop-of-length-le chunk h) at (r .same)
 
-pub placed-none : {A : Type 0} (value : ℕ → A) (list part : ℕ) (store : Store) (column : List A) → store .list ≡ 0 → eqb 0 list ≡ false → column ≡ placed value list part store column
-unfolding placed
+pub placed-none : {A : Type 0} (value : ℕ → A) (list part : ℕ) (store : Store) (column : List A) → store .list ≡ 0 → eqb 0 list ≡ false → column ≡ storedIn value list part store column
+unfolding storedIn
 placed-none value list part store column e n = rw (e, n)
 
 pub count-none : (store : Store) (counts : List ℕ) → store .list ≡ 0 → counts ≡ countIn store counts

@@ -2,7 +2,7 @@
 use report_form::Reading;
 use report_form::Store;
 ghost use mathlib.Core.Path.{_≡_};
-ghost use Rattle.report_form.specs.Form.{after};
+ghost use Rattle.report_form.specs.Form.{readOn};
 ghost use Rattle.report_form.specs.Stores.{numberIn, unitIn, countIn, columnAfter};
 
 // A number into its own column; any other column stays as it is, and so does a column that ends before the entry's place.
@@ -109,7 +109,7 @@ fn put(
     put_number(store, 8, 2, fake_values);
 }
 
-// Bytes, one after the other, from the state that the last piece left. Each column holds the numbers of one part of one list; `counts` has,
+// Bytes, one readOn the other, from the state that the last piece left. Each column holds the numbers of one part of one list; `counts` has,
 // at the number of a list, how many entries it has so far.
 pub fn feed(
     begun: Reading,
@@ -132,7 +132,7 @@ pub fn feed(
     fake_beats: &mut [f64],
     fake_values: &mut [f64],
 ) -> Reading
-    ensures { λ r. ⌜ r ≡ after begun (now (chunk .entry)) ⌝ }
+    ensures { λ r. ⌜ r ≡ readOn begun (now (chunk .entry)) ⌝ }
     ensures { λ _. ⌜ now (counts .exit) ≡ columnAfter countIn begun (now (chunk .entry)) (now (counts .entry)) ⌝ }
     ensures { λ _. ⌜ now («bpm_beats» .exit) ≡ columnAfter (numberIn 2 1) begun (now (chunk .entry)) (now («bpm_beats» .entry)) ⌝ }
     ensures { λ _. ⌜ now («bpm_values» .exit) ≡ columnAfter (numberIn 2 2) begun (now (chunk .entry)) (now («bpm_values» .entry)) ⌝ }

@@ -11,8 +11,8 @@ use Rattle.picks.specs.Pick.{pick}
 use Rattle.ieee_patterns.specs.Hex.{hexValue, hexDigit, hexText}
 use Rattle.report_form.specs.declared.Reading.{Reading}
 use Rattle.report_form.specs.declared.Store.{Store}
-use Rattle.report_form.specs.Form.{hexOf, unitOf, letterOf, characterOf, listOf, follows, begun, opened, namedOf, widthOf, lastDigits, commaOf, more, entryOf, endedOf, stepOf, after}
-use Rattle.report_form.specs.Stores.{nothing, storeOf, listed, storesOf}
+use Rattle.report_form.specs.Form.{hexOf, unitRead, letterOf, characterOf, listNamed, follows, begun, opened, namedOf, widthOf, lastDigits, commaOf, more, entryEnded, endedOf, stepOf, readOn}
+use Rattle.report_form.specs.Stores.{nothing, storeOf, storesWith, storesOf}
 use Rattle.report_form.specs.Text.{Pair, bpm, stop, delay, warp, scroll, fake, Entry, pair, speed, pairList, entryList, pairWord, speedWord, entryLine}
 use Rattle.report_form.specs.Orderly.{Fits, pair-fits, speed-fits}
 use Rattle.report_form.proofs.Pieces.{Reads, reads-none, reads-join, reads-byte, reads-store}
@@ -144,7 +144,7 @@ abbrev Worded : ℕ → ℕ → Bool → ℕ → ℕ → Reading
 Worded size number ssc list count = At ssc list 0 count size number
 
 pair-word : (of : Pair) → Word (pairList of) (pairWord of)
-unfolding after stepOf characterOf letterOf storesOf storeOf listed namedOf listOf
+unfolding readOn stepOf characterOf letterOf storesOf storeOf storesWith namedOf listNamed
 pair-word bpm =
     record {
       worded = Worded 3 0x62_706D;
@@ -183,7 +183,7 @@ pair-word fake =
     }
 
 speed-word : Word 6 speedWord
-unfolding after stepOf characterOf letterOf storesOf storeOf listed namedOf listOf
+unfolding readOn stepOf characterOf letterOf storesOf storeOf storesWith namedOf listNamed
 speed-word =
     record {
       worded = Worded 5 0x73_7065_6564;
@@ -229,7 +229,7 @@ pair-width scroll = refl
 pair-width fake = refl
 
 pair-end : (of : Pair) (ssc : Bool) (count N : ℕ) → Reads (At ssc (pairList of) 2 count 16 N) (10 ∷ []) (Between ssc (pairList of) (more count)) (Stored (pairList of) 2 count N (more count) ∷ [])
-unfolding stepOf endedOf entryOf widthOf lastDigits storeOf
+unfolding stepOf endedOf entryEnded widthOf lastDigits storeOf
 pair-end of ssc count N = reads-store _ _ 10 _ (ends of) stores (pair-named of)
   where
     ends : (of : Pair) → stepOf (At ssc (pairList of) 2 count 16 N) 10 ≡ Between ssc (pairList of) (more count)
@@ -244,7 +244,7 @@ pair-end of ssc count N = reads-store _ _ 10 _ (ends of) stores (pair-named of)
     stores = refl
 
 unit-read : (ssc : Bool) (count unit : ℕ) → unit < 10 → Reads (At ssc 6 4 count 0 0) ((unit + 48) ∷ []) (At ssc 6 4 count 1 unit) []
-unfolding stepOf characterOf unitOf
+unfolding stepOf characterOf unitRead
 unit-read ssc count unit h =
     let p = digit-plain unit h in
     let back : unit + 48 - 48 ≡ unit = omega arith in
@@ -252,7 +252,7 @@ unit-read ssc count unit h =
     (rw (p .no-end, p .no-equals, p .no-comma, le-ltb (unit + 48) 48 (omega arith), le-ltb 57 (unit + 48) (omega arith), back)) (plain-store _ _ (unit + 48) p)
 
 speed-end : (ssc : Bool) (count unit : ℕ) → Reads (At ssc 6 4 count 1 unit) (10 ∷ []) (Between ssc 6 (more count)) (Stored 6 4 count unit (more count) ∷ [])
-unfolding stepOf endedOf entryOf widthOf lastDigits storeOf
+unfolding stepOf endedOf entryEnded widthOf lastDigits storeOf
 speed-end ssc count unit = reads-store (At ssc 6 4 count 1 unit) (Between ssc 6 (more count)) 10 (Stored 6 4 count unit (more count)) refl refl refl
 
 -- ---- the line

@@ -5,7 +5,7 @@ use lib.Dec.{ltb, eqb}
 use Rattle.picks.specs.Pick.{pick}
 use Rattle.ieee_patterns.specs.Hex.{hexValue}
 use Rattle.report_form.specs.declared.Reading.{Reading}
-use Rattle.report_form.specs.Form.{broken, letterOf, hexOf, unitOf, characterOf, stepOf, whole}
+use Rattle.report_form.specs.Form.{broken, letterOf, hexOf, unitRead, characterOf, stepOf, whole}
 use Rattle.report_form.specs.Stores.{nothing, storeOf}
 
 same-either : {A : Type 0} (t : Bool) {x y z : A} → x ≡ z → y ≡ z → pick t x y ≡ z
@@ -13,7 +13,7 @@ same-either true e f = e
 same-either false e f = f
 
 zero-broken : (reading : Reading) → characterOf reading 0 ≡ broken reading
-unfolding characterOf letterOf hexOf unitOf hexValue
+unfolding characterOf letterOf hexOf unitRead hexValue
 zero-broken reading =
     same-either (eqb (reading .part) 0) refl
     (same-either (eqb (reading .list) 1) refl

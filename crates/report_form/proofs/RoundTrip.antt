@@ -13,8 +13,8 @@ use Rattle.picks.specs.Pick.{pick}
 use Rattle.columns.specs.Each.{laidEach}
 use Rattle.report_form.specs.declared.Reading.{Reading}
 use Rattle.report_form.specs.declared.Store.{Store}
-use Rattle.report_form.specs.Form.{letterOf, characterOf, listOf, follows, opened, namedOf, widthOf, more, formatOf, endedOf, stepOf, after, start, whole}
-use Rattle.report_form.specs.Stores.{storeOf, listed, storesOf, applied, placed, columnAfter}
+use Rattle.report_form.specs.Form.{letterOf, characterOf, listNamed, follows, opened, namedOf, widthOf, more, formatEnded, endedOf, stepOf, readOn, start, whole}
+use Rattle.report_form.specs.Stores.{storeOf, storesWith, storesOf, applied, storedIn, columnAfter}
 use Rattle.report_form.specs.Text.{bpm, stop, delay, warp, scroll, fake, Entry, pair, speed, pairList, entryList, entryLines, formatLine, text}
 use Rattle.report_form.specs.Orderly.{Orderly, none, one, partOf, numbersOf}
 use Rattle.report_form.proofs.Pieces.{Reads, reads-none, reads-join, state-of, stores-of, applied-join, by-stores}
@@ -41,7 +41,7 @@ abbrev formatName : Bool → ℕ
 formatName ssc = pick ssc 0x73_7363 0x736D
 
 format-read : (ssc : Bool) → Reads start (formatLine ssc) (Between ssc 1 0) (Stored 1 1 0 (formatName ssc) 0 ∷ [])
-unfolding after stepOf characterOf letterOf namedOf listOf follows opened endedOf formatOf storesOf storeOf listed
+unfolding readOn stepOf characterOf letterOf namedOf listNamed follows opened endedOf formatEnded storesOf storeOf storesWith
 format-read true = record { state = λ rest. refl; made = λ rest. refl }
 format-read false = record { state = λ rest. refl; made = λ rest. refl }
 
@@ -72,10 +72,10 @@ unfolding ended
 ended-format ssc last count [] = refl
 ended-format ssc last count (entry ∷ entries) = ended-format ssc (entryList entry) _ entries
 
-pub text-whole : (ssc : Bool) (entries : List Entry) → Orderly 1 entries → whole (after start (text ssc entries)) ≡ true
+pub text-whole : (ssc : Bool) (entries : List Entry) → Orderly 1 entries → whole (readOn start (text ssc entries)) ≡ true
 text-whole ssc entries o = ap whole (state-of (text-read ssc entries o)) ∙ ended-whole ssc 1 0 entries refl
 
-pub text-format : (ssc : Bool) (entries : List Entry) → Orderly 1 entries → after start (text ssc entries) .ssc ≡ ssc
+pub text-format : (ssc : Bool) (entries : List Entry) → Orderly 1 entries → readOn start (text ssc entries) .ssc ≡ ssc
 text-format ssc entries o = ap (λ (r : Reading). r .ssc) (state-of (text-read ssc entries o)) ∙ ended-format ssc 1 0 entries
 
 -- ---- a column
@@ -102,18 +102,18 @@ gone last list part (entry ∷ entries) (one f b r) h l =
 
 module _ {A : Type 0} (value : ℕ → A) where
   -- an entry of another list leaves the column alone
-  other : (entry : Entry) (list part at : ℕ) (column : List A) → eqb (entryList entry) list ≡ false → applied (placed value list part) (entryStores entry at) column ≡ column
-  unfolding applied placed
+  other : (entry : Entry) (list part at : ℕ) (column : List A) → eqb (entryList entry) list ≡ false → applied (storedIn value list part) (entryStores entry at) column ≡ column
+  unfolding applied storedIn
   other (pair of beat number) list part at column e = rw e
   other (speed beat ratio wait unit) list part at column e = rw e
 
   -- an entry of this list sets the number of this part
   pair-own : (k at beat number part : ℕ) (column : List A) → 1 ≤ part → part ≤ 2
-      → applied (placed value k part) (Stored k 1 at beat at ∷ Stored k 2 at number (more at) ∷ []) column ≡ set column at (value (pick (eqb part 1) beat number))
-  unfolding applied placed
+      → applied (storedIn value k part) (Stored k 1 at beat at ∷ Stored k 2 at number (more at) ∷ []) column ≡ set column at (value (pick (eqb part 1) beat number))
+  unfolding applied storedIn
   pair-own k at beat number part column low high = by-case (eqb part 1) refl
     where
-      by-case : (t : Bool) → eqb part 1 ≡ t → applied (placed value k part) (Stored k 1 at beat at ∷ Stored k 2 at number (more at) ∷ []) column ≡ set column at (value (pick (eqb part 1) beat number))
+      by-case : (t : Bool) → eqb part 1 ≡ t → applied (storedIn value k part) (Stored k 1 at beat at ∷ Stored k 2 at number (more at) ∷ []) column ≡ set column at (value (pick (eqb part 1) beat number))
       by-case true e = rw (eqb-true part 1 e, eq-eqb k k refl)
       by-case false e =
           let no = eqb-false part 1 e in
@@ -121,8 +121,8 @@ module _ {A : Type 0} (value : ℕ → A) where
           rw (second, eq-eqb k k refl)
 
   speed-own : (at beat ratio wait unit part : ℕ) (column : List A) → 1 ≤ part → part ≤ 4
-      → applied (placed value 6 part) (entryStores (speed beat ratio wait unit) at) column ≡ set column at (value (partOf (speed beat ratio wait unit) part))
-  unfolding applied placed
+      → applied (storedIn value 6 part) (entryStores (speed beat ratio wait unit) at) column ≡ set column at (value (partOf (speed beat ratio wait unit) part))
+  unfolding applied storedIn
   speed-own at beat ratio wait unit zero column low high = absurd (omega arith)
   speed-own at beat ratio wait unit (suc zero) column low high = refl
   speed-own at beat ratio wait unit (suc (suc zero)) column low high = refl
@@ -131,18 +131,18 @@ module _ {A : Type 0} (value : ℕ → A) where
   speed-own at beat ratio wait unit (suc (suc (suc (suc (suc part))))) column low high = absurd (omega arith)
 
   own : (entry : Entry) (part at : ℕ) (column : List A) → 1 ≤ part → part ≤ widthOf (entryList entry)
-      → applied (placed value (entryList entry) part) (entryStores entry at) column ≡ set column at (value (partOf entry part))
+      → applied (storedIn value (entryList entry) part) (entryStores entry at) column ≡ set column at (value (partOf entry part))
   unfolding widthOf
   own (pair of beat number) part at column low high = pair-own (pairList of) at beat number part column low (rw (pair-width of) at high)
   own (speed beat ratio wait unit) part at column low high = speed-own at beat ratio wait unit part column low high
 
   -- what entries leave in the column of a part, after `count` entries of list `last`
   stored-filled : (last count list part : ℕ) (entries : List Entry) (column : List A) → Orderly last entries → eqb list 0 ≡ false → eqb last 0 ≡ false → 1 ≤ part → part ≤ widthOf list
-      → applied (placed value list part) (entriesStores last count entries) column ≡ filled value (before list last count) (numbersOf list part entries) column
+      → applied (storedIn value list part) (entriesStores last count entries) column ≡ filled value (before list last count) (numbersOf list part entries) column
   unfolding entriesStores numbersOf filled applied
   stored-filled last count list part [] column none named begun low high = refl
   stored-filled last count list part (entry ∷ entries) column (one f b r) named begun low high =
-      applied-join (placed value list part) (entryStores entry at) rest column
+      applied-join (storedIn value list part) (entryStores entry at) rest column
       ∙ by-case (λ (l : List A). stored-filled (entryList entry) (more at) list part entries l r named (list-named entry) low high) (eqb (entryList entry) list) refl
     where
       at : ℕ
@@ -162,9 +162,9 @@ module _ {A : Type 0} (value : ℕ → A) where
           let no = eqb-false (entryList entry) list n in
           rw (gone (entryList entry) list part entries r (list-named entry) (omega arith))
 
-      by-case : ((l : List A) → applied (placed value list part) rest l ≡ filled value (before list (entryList entry) (more at)) numbers l)
+      by-case : ((l : List A) → applied (storedIn value list part) rest l ≡ filled value (before list (entryList entry) (more at)) numbers l)
           → (t : Bool) → eqb (entryList entry) list ≡ t
-          → applied (placed value list part) rest (applied (placed value list part) (entryStores entry at) column)
+          → applied (storedIn value list part) rest (applied (storedIn value list part) (entryStores entry at) column)
           ≡ filled value (before list last count) (pick (eqb (entryList entry) list) (partOf entry part ∷ numbers) numbers) column
       by-case go false e =
           let no = eqb-false (entryList entry) list e in
@@ -173,7 +173,7 @@ module _ {A : Type 0} (value : ℕ → A) where
           rw (e, other entry list part at column e) (go column ∙ ap (λ (i : ℕ). filled value i numbers column) none ∙ after-others (eqb list last) refl e)
       by-case go true e =
           let same : list ≡ entryList entry = sym (eqb-true (entryList entry) list e) in
-          let here : applied (placed value list part) (entryStores entry at) column ≡ set column at (value (partOf entry part)) = rw same (own entry part at column low (rw same at high)) in
+          let here : applied (storedIn value list part) (entryStores entry at) column ≡ set column at (value (partOf entry part)) = rw same (own entry part at column low (rw same at high)) in
           let place : before list last count ≡ at = ap (λ (k : ℕ). before k last count) same in
           let fresh : before list (entryList entry) (more at) ≡ more at = rw (same, eq-eqb (entryList entry) (entryList entry) refl) in
           let set-here = set column at (value (partOf entry part)) in
@@ -209,24 +209,24 @@ module _ {A : Type 0} (value : ℕ → A) where
 
   -- THE COLUMNS: of a list's part, what the entries have there, from the front, as far as the column goes
   pub text-column : (list part : ℕ) (ssc : Bool) (entries : List Entry) (column : List A) → Orderly 1 entries → 2 ≤ list → 1 ≤ part → part ≤ widthOf list → length column ≤ 257
-      → columnAfter (placed value list part) start (text ssc entries) column ≡ laidEach value (numbersOf list part entries) column
-  unfolding placed applied
+      → columnAfter (storedIn value list part) start (text ssc entries) column ≡ laidEach value (numbersOf list part entries) column
+  unfolding storedIn applied
   text-column list part ssc entries column o named low high short =
-      by-stores (placed value list part) idle start (text ssc entries) column
-      ∙ ap (λ (l : List Store). applied (placed value list part) l column) (stores-of (text-read ssc entries o))
+      by-stores (storedIn value list part) idle start (text ssc entries) column
+      ∙ ap (λ (l : List Store). applied (storedIn value list part) l column) (stores-of (text-read ssc entries o))
       ∙ format-idle ∙ stored-filled 1 0 list part entries column o (ne-eqb list 0 (λ (e : list ≡ 0). omega arith)) refl low high
       ∙ ap (λ (i : ℕ). filled value i (numbersOf list part entries) column) first ∙ filled-laid [] column (numbersOf list part entries) (omega arith)
     where
-      idle : (store : Store) (l : List A) → eqb (store .list) 0 ≡ true → placed value list part store l ≡ l
+      idle : (store : Store) (l : List A) → eqb (store .list) 0 ≡ true → storedIn value list part store l ≡ l
       idle store l e =
           let none = eqb-true (store .list) 0 e in
           rw (ne-eqb (store .list) list (λ (q : store .list ≡ list). omega arith))
 
-      not-its : placed value list part (Stored 1 1 0 (formatName ssc) 0) column ≡ column
+      not-its : storedIn value list part (Stored 1 1 0 (formatName ssc) 0) column ≡ column
       not-its = rw (ne-eqb 1 list (λ (q : 1 ≡ list). omega arith))
 
-      format-idle : applied (placed value list part) (Stored 1 1 0 (formatName ssc) 0 ∷ entriesStores 1 0 entries) column ≡ applied (placed value list part) (entriesStores 1 0 entries) column
-      format-idle = ap (λ (l : List A). applied (placed value list part) (entriesStores 1 0 entries) l) not-its
+      format-idle : applied (storedIn value list part) (Stored 1 1 0 (formatName ssc) 0 ∷ entriesStores 1 0 entries) column ≡ applied (storedIn value list part) (entriesStores 1 0 entries) column
+      format-idle = ap (λ (l : List A). applied (storedIn value list part) (entriesStores 1 0 entries) l) not-its
 
       first : before list 1 0 ≡ 0
       first = rw (ne-eqb list 1 (λ (q : list ≡ 1). omega arith))

@@ -11,7 +11,7 @@ use borrow.Author.Tests.{ltb-true, leb-true, eqb-true}
 use lib.Dec.{ltb, leb, eqb}
 use Rattle.picks.specs.Pick.{pick}
 use Rattle.ieee_patterns.specs.Hex.{hexDigit, hexText}
-use Rattle.report_form.specs.Form.{listOf}
+use Rattle.report_form.specs.Form.{listNamed}
 use Rattle.report_form.specs.Text.{Pair, bpm, stop, delay, warp, scroll, fake, pairList, pairWord, speedWord}
 
 -- ---- the letters of a word, and the number that they make
@@ -76,8 +76,8 @@ pub by-test : (P : ℕ → Type 0) (t : Bool) {k rest : ℕ} → (t ≡ true →
 by-test P true met unmet = met refl
 by-test P false met unmet = unmet refl
 
-pub named-by : {word : List ℕ} {size number : ℕ} → Letters word size number → 1 < listOf number → Named (listOf number) word
-unfolding listOf lettersIn numberIs
+pub named-by : {word : List ℕ} {size number : ℕ} → Letters word size number → 1 < listNamed number → Named (listNamed number) word
+unfolding listNamed lettersIn numberIs
 named-by {word} {size} {number} r =
     let P : ℕ → Type 0 = λ (k : ℕ). 1 < k → Named k word in
     by-test P (eqb number 0x666F_726D_6174) (λ e h. absurd (omega arith))

@@ -11,7 +11,7 @@ use lib.Dec.{ltb, leb, eqb}
 use Rattle.picks.specs.Pick.{pick}
 use Rattle.ieee_patterns.specs.Hex.{hexValue, hexDigit, hexText}
 use Rattle.report_form.specs.declared.Reading.{Reading}
-use Rattle.report_form.specs.Form.{start, grown, letterOf, hexOf, unitOf, characterOf, listOf, follows, namedOf, widthOf, lastDigits, commaOf, more, formatOf, entryOf, endedOf, stepOf, after, whole}
+use Rattle.report_form.specs.Form.{start, grown, letterOf, hexOf, unitRead, characterOf, listNamed, follows, namedOf, widthOf, lastDigits, commaOf, more, formatEnded, entryEnded, endedOf, stepOf, readOn, whole}
 use Rattle.report_form.specs.Text.{Pair, bpm, stop, delay, warp, scroll, fake, Entry, pair, speed, pairList, entryList, pairWord, speedWord, entryLine, entryLines, formatLine, text}
 use Rattle.report_form.specs.Orderly.{Fits, pair-fits, speed-fits, Orderly, none, one, TextOf}
 use Rattle.report_form.proofs.Spelling.{Letters, no-letters, letter, few-letters, letters-below, same-letters, lettersIn, numberIs, spelt, test, by-test, Named, a-pair, a-speed, named-by, Digits, no-digits, digit, digits-below, digits-text}
@@ -155,10 +155,10 @@ record United (reading : Reading) (byte : ℕ) : Type 0 where
   low : 48 ≤ byte
   high : byte ≤ 57
   few : reading .digits < 1
-  is : unitOf reading byte ≡ grown reading (byte - 48)
+  is : unitRead reading byte ≡ grown reading (byte - 48)
 
-united : (reading : Reading) (byte : ℕ) → unitOf reading byte .fine ≡ true → United reading byte
-unfolding unitOf
+united : (reading : Reading) (byte : ℕ) → unitRead reading byte .fine ≡ true → United reading byte
+unfolding unitRead
 united reading byte f =
     let low = unmet (ltb byte 48) _ _ f refl in
     let high = unmet (ltb 57 byte) _ _ (rw low at f) refl in
@@ -197,20 +197,20 @@ character-read byte (in-unit {ssc = ssc} {count = count} b o hb hr hw (a-unit {u
 -- ---- an equals sign
 record Opened (reading : Reading) : Type 0 where
   part : reading .part ≡ 0
-  order : follows (reading .list) (listOf (reading .number)) ≡ true
+  order : follows (reading .list) (listNamed (reading .number)) ≡ true
   count : ℕ
-  is : namedOf reading ≡ At (reading .ssc) (listOf (reading .number)) 1 count 0 0
+  is : namedOf reading ≡ At (reading .ssc) (listNamed (reading .number)) 1 count 0 0
 
 opened-by : (reading : Reading) → namedOf reading .fine ≡ true → Opened reading
 unfolding namedOf
 opened-by reading f =
     let part = met (eqb (reading .part) 0) _ _ f refl in
-    let order = met (follows (reading .list) (listOf (reading .number))) _ _ (rw part at f) refl in
-    record { part = eqb-true (reading .part) 0 part; order = order; count = pick (eqb (listOf (reading .number)) (reading .list)) (reading .count) 0; is = rw (part, order) (open-is reading (listOf (reading .number))) }
+    let order = met (follows (reading .list) (listNamed (reading .number))) _ _ (rw part at f) refl in
+    record { part = eqb-true (reading .part) 0 part; order = order; count = pick (eqb (listNamed (reading .number)) (reading .list)) (reading .count) 0; is = rw (part, order) (open-is reading (listNamed (reading .number))) }
 
 -- the one word that names the format line
-the-format : (number : ℕ) → listOf number ≡ 1 → number ≡ 0x666F_726D_6174
-unfolding listOf
+the-format : (number : ℕ) → listNamed number ≡ 1 → number ≡ 0x666F_726D_6174
+unfolding listNamed
 the-format number =
     let P : ℕ → Type 0 = λ (k : ℕ). k ≡ 1 → number ≡ 0x666F_726D_6174 in
     by-test P (eqb number 0x666F_726D_6174) (λ e h. eqb-true number 0x666F_726D_6174 e)
@@ -252,13 +252,13 @@ named-read : {bytes : List ℕ} {reading : Reading} → Read bytes reading → n
 unfolding follows lettersIn numberIs
 named-read (in-word {word = word} {count = count} {size = size} {number = number} no-line r) f =
     let o = opened-by (At false 0 0 count size number) f in
-    let first : listOf number ≡ 1 = eqb-true (listOf number) 1 (o .order) in
+    let first : listNamed number ≡ 1 = eqb-true (listNamed number) 1 (o .order) in
     read-as (ap (λ (l : List ℕ). l ++ (61 ∷ [])) (same-letters (spelt (102 ∷ 111 ∷ 114 ∷ 109 ∷ 97 ∷ 116 ∷ []) refl) r (sym (the-format number first))))
     (ap (λ (k : ℕ). At false k 1 (o .count) 0 0) (sym first) ∙ sym (o .is)) (in-format no-letters)
 named-read (in-word {word = word} {count = count} {size = size} {number = number} (lines ssc entries e) r) f =
     let b = lines ssc entries e in
     let o = opened-by (At ssc (lastOf 1 entries) 0 count size number) f in
-    let listed = list-follows (lastOf 1 entries) (listOf number) (has-line 1 entries refl) (o .order) in
+    let listed = list-follows (lastOf 1 entries) (listNamed number) (has-line 1 entries refl) (o .order) in
     read-as (sym (append-assoc (text ssc entries) word (61 ∷ []))) (sym (o .is)) (first-part b (o .order) (named-by r listed))
 named-read (in-format {count = count} {size = size} {number = number} r) f = let part = opened-by (At false 1 1 count size number) f .part in absurd (omega arith)
 named-read (in-number {ssc = ssc} {list = list} {part = part} {count = count} {size = size} {number = number} b o p r) f =
@@ -331,10 +331,10 @@ comma-read (in-unit {ssc = ssc} {count = count} {size = size} {number = number} 
 record Entered (reading : Reading) : Type 0 where
   last : reading .part ≡ widthOf (reading .list)
   digits : reading .digits ≡ lastDigits (reading .list)
-  is : entryOf reading ≡ At (reading .ssc) (reading .list) 0 (more (reading .count)) 0 0
+  is : entryEnded reading ≡ At (reading .ssc) (reading .list) 0 (more (reading .count)) 0 0
 
-entered : (reading : Reading) → entryOf reading .fine ≡ true → Entered reading
-unfolding entryOf
+entered : (reading : Reading) → entryEnded reading .fine ≡ true → Entered reading
+unfolding entryEnded
 entered reading f =
     let last = met (eqb (reading .part) (widthOf (reading .list))) _ _ f refl in
     let digits = met (eqb (reading .digits) (lastDigits (reading .list))) _ _ (rw last at f) refl in
@@ -353,8 +353,8 @@ pair-digits warp = refl
 pair-digits scroll = refl
 pair-digits fake = refl
 
-format-part : (reading : Reading) → formatOf reading .fine ≡ true → reading .part ≡ 1
-unfolding formatOf
+format-part : (reading : Reading) → formatEnded reading .fine ≡ true → reading .part ≡ 1
+unfolding formatEnded
 format-part reading f = eqb-true (reading .part) 1 (met (eqb (reading .part) 1) _ _ f refl)
 
 -- between the lines again
@@ -381,10 +381,10 @@ part-list (speed-ratio b) = refl
 part-list (speed-wait b r) = refl
 
 ended-read : {bytes : List ℕ} {reading : Reading} → Read bytes reading → endedOf reading .fine ≡ true → Read (bytes ++ (10 ∷ [])) (endedOf reading)
-unfolding endedOf formatOf lettersIn numberIs entryLines entryLine lastOf lastDigits
+unfolding endedOf formatEnded lettersIn numberIs entryLines entryLine lastOf lastDigits
 ended-read (in-word {ssc = ssc} {last = last} {count = count} {size = size} {number = number} b r) f = absurd (by-case (eqb last 1) f)
   where
-    by-case : (t : Bool) → pick t (formatOf (At ssc last 0 count size number)) (entryOf (At ssc last 0 count size number)) .fine ≡ true → ⊥
+    by-case : (t : Bool) → pick t (formatEnded (At ssc last 0 count size number)) (entryEnded (At ssc last 0 count size number)) .fine ≡ true → ⊥
     by-case true g = let part = format-part (At ssc last 0 count size number) g in omega arith
     by-case false g = let part = entered (At ssc last 0 count size number) g .last in let more = wide last in omega arith
 ended-read (in-format {word} {count} {size} {number} r) f = by-name (eqb number 0x736D) refl
@@ -458,20 +458,20 @@ broken-step : (reading : Reading) (byte : ℕ) → reading .fine ≡ false → s
 unfolding stepOf
 broken-step reading byte e = no-step reading _ e
 
-broken-stays : (reading : Reading) (bytes : List ℕ) → reading .fine ≡ false → after reading bytes .fine ≡ false
-unfolding after
+broken-stays : (reading : Reading) (bytes : List ℕ) → reading .fine ≡ false → readOn reading bytes .fine ≡ false
+unfolding readOn
 broken-stays reading [] e = e
 broken-stays reading (byte ∷ bytes) e = broken-stays (stepOf reading byte) bytes (ap (λ (s : Reading). s .fine) (broken-step reading byte e) ∙ e)
 
-still-fine : (reading : Reading) (bytes : List ℕ) → after reading bytes .fine ≡ true → reading .fine ≡ true
+still-fine : (reading : Reading) (bytes : List ℕ) → readOn reading bytes .fine ≡ true → reading .fine ≡ true
 still-fine reading bytes f = by-case (reading .fine) refl
   where
     by-case : (t : Bool) → reading .fine ≡ t → reading .fine ≡ true
     by-case true e = e
     by-case false e = let z : _≡_ {A = ℕ} 0 1 = cc (broken-stays reading bytes e) in absurd (omega arith)
 
-bytes-read : {done : List ℕ} {reading : Reading} (bytes : List ℕ) → Read done reading → after reading bytes .fine ≡ true → Read (done ++ bytes) (after reading bytes)
-unfolding after
+bytes-read : {done : List ℕ} {reading : Reading} (bytes : List ℕ) → Read done reading → readOn reading bytes .fine ≡ true → Read (done ++ bytes) (readOn reading bytes)
+unfolding readOn
 bytes-read {done} [] r f = read-as (sym (append-nil done)) refl r
 bytes-read {done} {reading} (byte ∷ bytes) r f =
     read-as (append-assoc done (byte ∷ []) bytes) refl (bytes-read bytes (byte-read byte (kind byte) r (still-fine (stepOf reading byte) bytes f)) f)
@@ -505,5 +505,5 @@ text-of (in-format r) w = absurd (omega (arith, w .between))
 text-of (in-number b o p r) w = absurd (omega (arith, w .between, part-later p))
 text-of (in-unit b o hb hr hw r) w = absurd (omega (arith, w .between))
 
-pub whole-is-text : (bytes : List ℕ) → whole (after start bytes) ≡ true → TextOf bytes
-whole-is-text bytes w = let is = is-whole (after start bytes) w in text-of (bytes-read bytes (in-word no-line no-letters) (is .fine)) is
+pub whole-is-text : (bytes : List ℕ) → whole (readOn start bytes) ≡ true → TextOf bytes
+whole-is-text bytes w = let is = is-whole (readOn start bytes) w in text-of (bytes-read bytes (in-word no-line no-letters) (is .fine)) is

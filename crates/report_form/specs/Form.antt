@@ -35,8 +35,8 @@ hexOf reading byte =
     (broken reading)
 
 -- the one decimal digit of a unit
-unfoldable pub unitOf : Reading → ℕ → Reading
-unitOf reading byte =
+unfoldable pub unitRead : Reading → ℕ → Reading
+unitRead reading byte =
     pick (ltb byte 48) (broken reading)
     (pick (ltb 57 byte) (broken reading)
     (pick (ltb (reading .digits) 1) (grown reading (byte - 48)) (broken reading)))
@@ -46,12 +46,12 @@ unfoldable pub characterOf : Reading → ℕ → Reading
 characterOf reading byte =
     pick (eqb (reading .part) 0) (letterOf reading byte)
     (pick (eqb (reading .list) 1) (letterOf reading byte)
-    (pick (eqb (reading .list) 6) (pick (eqb (reading .part) 4) (unitOf reading byte) (hexOf reading byte))
+    (pick (eqb (reading .list) 6) (pick (eqb (reading .part) 4) (unitRead reading byte) (hexOf reading byte))
     (hexOf reading byte)))
 
 -- what a word names: 1 format, 2 bpm, 3 stop, 4 delay, 5 warp, 6 speed, 7 scroll, 8 fake; 0 for any other word
-unfoldable pub listOf : ℕ → ℕ
-listOf word =
+unfoldable pub listNamed : ℕ → ℕ
+listNamed word =
     pick (eqb word 0x666F_726D_6174) 1
     (pick (eqb word 0x62_706D) 2
     (pick (eqb word 0x7374_6F70) 3
@@ -78,7 +78,7 @@ opened reading list = pick (eqb list (reading .list)) (begun reading list (readi
 unfoldable pub namedOf : Reading → Reading
 namedOf reading =
     pick (eqb (reading .part) 0)
-    (pick (follows (reading .list) (listOf (reading .number))) (opened reading (listOf (reading .number))) (broken reading))
+    (pick (follows (reading .list) (listNamed (reading .number))) (opened reading (listNamed (reading .number))) (broken reading))
     (broken reading)
 
 -- how many numbers a line of the list has, and how many digits the last one: a speed ends in its unit
@@ -107,8 +107,8 @@ abbrev pub closed : Reading → Bool → ℕ → Reading
 closed reading ssc count = record { fine = true; ssc = ssc; list = reading .list; part = 0; digits = 0; number = 0; count = count }
 
 -- a line feed ends the format line, whose name is sm or ssc
-unfoldable pub formatOf : Reading → Reading
-formatOf reading =
+unfoldable pub formatEnded : Reading → Reading
+formatEnded reading =
     pick (eqb (reading .part) 1)
     (pick (eqb (reading .number) 0x736D) (closed reading false (reading .count))
     (pick (eqb (reading .number) 0x73_7363) (closed reading true (reading .count))
@@ -116,14 +116,14 @@ formatOf reading =
     (broken reading)
 
 -- a line feed ends an entry that has all its numbers
-unfoldable pub entryOf : Reading → Reading
-entryOf reading =
+unfoldable pub entryEnded : Reading → Reading
+entryEnded reading =
     pick (eqb (reading .part) (widthOf (reading .list)))
     (pick (eqb (reading .digits) (lastDigits (reading .list))) (closed reading (reading .ssc) (more (reading .count))) (broken reading))
     (broken reading)
 
 unfoldable pub endedOf : Reading → Reading
-endedOf reading = pick (eqb (reading .list) 1) (formatOf reading) (entryOf reading)
+endedOf reading = pick (eqb (reading .list) 1) (formatEnded reading) (entryEnded reading)
 
 -- THE STEP: what one byte does. Line feed, equals sign and comma separate; there is nothing else between the parts
 unfoldable pub stepOf : Reading → ℕ → Reading
@@ -136,9 +136,9 @@ stepOf reading byte =
     reading
 
 -- what bytes do, one after the other
-unfoldable pub after : Reading → List ℕ → Reading
-after reading [] = reading
-after reading (byte ∷ bytes) = after (stepOf reading byte) bytes
+unfoldable pub readOn : Reading → List ℕ → Reading
+readOn reading [] = reading
+readOn reading (byte ∷ bytes) = readOn (stepOf reading byte) bytes
 
 -- the input is of the form: its format line is there, and its last line is ended
 unfoldable pub whole : Reading → Bool

@@ -28,15 +28,15 @@ storeOf reading byte next =
     nothing
 
 -- a column after a store: changed where the store is its own, and only inside (`set` past the end changes nothing)
-unfoldable pub placed : {A : Type 0} → (ℕ → A) → ℕ → ℕ → Store → List A → List A
-placed value list part store column = pick (eqb (store .list) list) (pick (eqb (store .part) part) (set column (store .at) (value (store .number))) column) column
+unfoldable pub storedIn : {A : Type 0} → (ℕ → A) → ℕ → ℕ → Store → List A → List A
+storedIn value list part store column = pick (eqb (store .list) list) (pick (eqb (store .part) part) (set column (store .at) (value (store .number))) column) column
 
 -- a number is the f64 of its pattern; a unit is the digit itself
 abbrev pub numberIn : ℕ → ℕ → Store → List Float → List Float
-numberIn = placed (ofBits binary64)
+numberIn = storedIn (ofBits binary64)
 
 abbrev pub unitIn : ℕ → ℕ → Store → List ℕ → List ℕ
-unitIn = placed (λ n. n % 256)
+unitIn = storedIn (λ n. n % 256)
 
 -- the count of each list stands at the list's number
 unfoldable pub countIn : Store → List ℕ → List ℕ
@@ -48,12 +48,12 @@ columnAfter change reading [] column = column
 columnAfter change reading (byte ∷ bytes) column = columnAfter change (stepOf reading byte) bytes (change (storeOf reading byte (stepOf reading byte)) column)
 
 -- the stores that bytes make, in order
-unfoldable pub listed : Store → List Store → List Store
-listed store stores = pick (eqb (store .list) 0) stores (store ∷ stores)
+unfoldable pub storesWith : Store → List Store → List Store
+storesWith store stores = pick (eqb (store .list) 0) stores (store ∷ stores)
 
 unfoldable pub storesOf : Reading → List ℕ → List Store
 storesOf reading [] = []
-storesOf reading (byte ∷ bytes) = listed (storeOf reading byte (stepOf reading byte)) (storesOf (stepOf reading byte) bytes)
+storesOf reading (byte ∷ bytes) = storesWith (storeOf reading byte (stepOf reading byte)) (storesOf (stepOf reading byte) bytes)
 
 -- a column after them
 unfoldable pub applied : {A : Type 0} → (Store → A → A) → List Store → A → A

@@ -1,7 +1,7 @@
 // The report program's input as an automaton: one step a byte over a small state, and what each byte completes.
 ghost use mathlib.Core.Path.{_≡_};
 ghost use Prim.Native.Nat.{_<_};
-ghost use Rattle.report_form.specs.Form.{start, broken, grown, letterOf, hexOf, unitOf, characterOf, listOf, follows, opened, namedOf, widthOf, lastDigits, commaOf, more, closed, formatOf, entryOf, endedOf, stepOf, whole, over, answerOf};
+ghost use Rattle.report_form.specs.Form.{start, broken, grown, letterOf, hexOf, unitRead, characterOf, listNamed, follows, opened, namedOf, widthOf, lastDigits, commaOf, more, closed, formatEnded, entryEnded, endedOf, stepOf, whole, over, answerOf};
 ghost use Rattle.report_form.specs.Stores.{nothing, complete, storeOf};
 
 // How far the input is read: whether it is of the form so far, its format, the list of the last line, the part of the line that is being
@@ -110,7 +110,7 @@ fn hex(reading: Reading, byte: u8) -> Reading
 }
 
 fn unit(reading: Reading, byte: u8) -> Reading
-    ensures { λ r. ⌜ r ≡ unitOf reading byte ⌝ }
+    ensures { λ r. ⌜ r ≡ unitRead reading byte ⌝ }
 {
     if byte < b'0' {
         return refuse(reading);
@@ -145,7 +145,7 @@ fn character(reading: Reading, byte: u8) -> Reading
 
 // The list that a word names, its letters taken as one number; 0 for none.
 fn list_of(word: u64) -> u64
-    ensures { λ r. ⌜ r ≡ listOf word ⌝ }
+    ensures { λ r. ⌜ r ≡ listNamed word ⌝ }
 {
     if word == 0x666F_726D_6174 {
         return 1;
@@ -288,7 +288,7 @@ fn close(reading: Reading, ssc: bool, count: u64) -> Reading
 }
 
 fn format(reading: Reading) -> Reading
-    ensures { λ r. ⌜ r ≡ formatOf reading ⌝ }
+    ensures { λ r. ⌜ r ≡ formatEnded reading ⌝ }
 {
     if reading.part != 1 {
         return refuse(reading);
@@ -303,7 +303,7 @@ fn format(reading: Reading) -> Reading
 }
 
 fn entry(reading: Reading) -> Reading
-    ensures { λ r. ⌜ r ≡ entryOf reading ⌝ }
+    ensures { λ r. ⌜ r ≡ entryEnded reading ⌝ }
 {
     if reading.part != width(reading.list) {
         return refuse(reading);

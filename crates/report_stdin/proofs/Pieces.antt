@@ -6,30 +6,30 @@ use lib.IntN.{ℤ, pos, negsuc}
 use lib.Ieee.{Float}
 use Rattle.report_form.specs.declared.Reading.{Reading}
 use Rattle.report_form.specs.declared.Store.{Store}
-use Rattle.report_form.specs.Form.{stepOf, after}
-use Rattle.report_form.specs.Stores.{nothing, storeOf, placed, numberIn, unitIn, countIn, columnAfter}
+use Rattle.report_form.specs.Form.{stepOf, readOn}
+use Rattle.report_form.specs.Stores.{nothing, storeOf, storedIn, numberIn, unitIn, countIn, columnAfter}
 use Rattle.report_form.proofs.NoZeroByte.{zero-no-store}
 use Rattle.report_stdin.specs.Fed.{Fed}
 use Rattle.report_stdin.specs.Answers.{afterAnswer}
 
-after-join : (reading : Reading) (bytes more : List ℕ) → after (after reading bytes) more ≡ after reading (bytes ++ more)
-unfolding after
+after-join : (reading : Reading) (bytes more : List ℕ) → readOn (readOn reading bytes) more ≡ readOn reading (bytes ++ more)
+unfolding readOn
 after-join reading [] more = refl
 after-join reading (byte ∷ bytes) more = after-join (stepOf reading byte) bytes more
 
 column-join : {A : Type 0} (change : Store → A → A) (reading : Reading) (bytes more : List ℕ) (column : A)
-    → columnAfter change (after reading bytes) more (columnAfter change reading bytes column) ≡ columnAfter change reading (bytes ++ more) column
-unfolding after columnAfter
+    → columnAfter change (readOn reading bytes) more (columnAfter change reading bytes column) ≡ columnAfter change reading (bytes ++ more) column
+unfolding readOn columnAfter
 column-join change reading [] more column = refl
 column-join change reading (byte ∷ bytes) more column = column-join change (stepOf reading byte) bytes more (change (storeOf reading byte (stepOf reading byte)) column)
 
 -- one column over two pieces
-joined : {A : Type 0} (change : Store → A → A) (begun half : Reading) (bytes more : List ℕ) (old middle new : A) → half ≡ after begun bytes → middle ≡ columnAfter change begun bytes old → new ≡ columnAfter change half more middle → new ≡ columnAfter change begun (bytes ++ more) old
-joined change begun half bytes more old middle new h m n = n ∙ ap (λ (r : Reading). columnAfter change r more middle) h ∙ ap (columnAfter change (after begun bytes) more) m ∙ column-join change begun bytes more old
+joined : {A : Type 0} (change : Store → A → A) (begun half : Reading) (bytes more : List ℕ) (old middle new : A) → half ≡ readOn begun bytes → middle ≡ columnAfter change begun bytes old → new ≡ columnAfter change half more middle → new ≡ columnAfter change begun (bytes ++ more) old
+joined change begun half bytes more old middle new h m n = n ∙ ap (λ (r : Reading). columnAfter change r more middle) h ∙ ap (columnAfter change (readOn begun bytes) more) m ∙ column-join change begun bytes more old
 
 pub fed-none : {begun reading : Reading} {counts : List ℕ} {bpmBeats bpmValues stopBeats stopValues delayBeats delayValues warpBeats warpValues speedBeats speedRatios speedDelays : List Float} {speedUnits : List ℕ} {scrollBeats scrollValues fakeBeats fakeValues : List Float}
     → reading ≡ begun → Fed begun reading counts counts bpmBeats bpmBeats bpmValues bpmValues stopBeats stopBeats stopValues stopValues delayBeats delayBeats delayValues delayValues warpBeats warpBeats warpValues warpValues speedBeats speedBeats speedRatios speedRatios speedDelays speedDelays speedUnits speedUnits scrollBeats scrollBeats scrollValues scrollValues fakeBeats fakeBeats fakeValues fakeValues
-unfolding after columnAfter
+unfolding readOn columnAfter
 fed-none same = record { bytes = []; read = same; counts = refl; bpmBeats = refl; bpmValues = refl; stopBeats = refl; stopValues = refl; delayBeats = refl; delayValues = refl; warpBeats = refl; warpValues = refl; speedBeats = refl; speedRatios = refl; speedDelays = refl; speedUnits = refl; scrollBeats = refl; scrollValues = refl; fakeBeats = refl; fakeValues = refl }
 
 -- a byte 0 completes no number: each column stays as it is
@@ -39,7 +39,7 @@ idle change reading column e = e ∙ ap (λ (store : Store). change store column
 
 pub fed-zero : {begun reading : Reading} {counts : List ℕ} {bpmBeats bpmValues stopBeats stopValues delayBeats delayValues warpBeats warpValues speedBeats speedRatios speedDelays : List Float} {speedUnits : List ℕ} {scrollBeats scrollValues fakeBeats fakeValues : List Float}
     → reading ≡ stepOf begun 0 → Fed begun reading counts counts bpmBeats bpmBeats bpmValues bpmValues stopBeats stopBeats stopValues stopValues delayBeats delayBeats delayValues delayValues warpBeats warpBeats warpValues warpValues speedBeats speedBeats speedRatios speedRatios speedDelays speedDelays speedUnits speedUnits scrollBeats scrollBeats scrollValues scrollValues fakeBeats fakeBeats fakeValues fakeValues
-unfolding after countIn placed
+unfolding readOn countIn storedIn
 fed-zero {begun} same =
     record {
       bytes = 0 ∷ [];
@@ -69,7 +69,7 @@ pub fed-join : {begun half reading : Reading} {countsOld countsHalf countsNew : 
 fed-join {begun} {half} {reading} a b =
     record {
       bytes = a .bytes ++ b .bytes;
-      read = b .read ∙ ap (λ (r : Reading). after r (b .bytes)) (a .read) ∙ after-join begun (a .bytes) (b .bytes);
+      read = b .read ∙ ap (λ (r : Reading). readOn r (b .bytes)) (a .read) ∙ after-join begun (a .bytes) (b .bytes);
       counts = joined countIn begun half (a .bytes) (b .bytes) _ _ _ (a .read) (a .counts) (b .counts);
       bpmBeats = joined (numberIn 2 1) begun half (a .bytes) (b .bytes) _ _ _ (a .read) (a .bpmBeats) (b .bpmBeats);
       bpmValues = joined (numberIn 2 2) begun half (a .bytes) (b .bytes) _ _ _ (a .read) (a .bpmValues) (b .bpmValues);

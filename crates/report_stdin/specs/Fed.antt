@@ -4,14 +4,14 @@ use mathlib.Core.List.{List}
 use mathlib.Core.Path.{_≡_}
 use lib.Ieee.{Float}
 use Rattle.report_form.specs.declared.Reading.{Reading}
-use Rattle.report_form.specs.Form.{after}
+use Rattle.report_form.specs.Form.{readOn}
 use Rattle.report_form.specs.Stores.{numberIn, unitIn, countIn, columnAfter}
 
 -- There are bytes that lead from one state of reading to another, and each column from what it held before to what it holds: what a call of
 -- the system's read hands over is known by no contract.
 pub record Fed (begun reading : Reading) (countsOld countsNew : List ℕ) (bpmBeatsOld bpmBeatsNew bpmValuesOld bpmValuesNew stopBeatsOld stopBeatsNew stopValuesOld stopValuesNew delayBeatsOld delayBeatsNew delayValuesOld delayValuesNew warpBeatsOld warpBeatsNew warpValuesOld warpValuesNew speedBeatsOld speedBeatsNew speedRatiosOld speedRatiosNew speedDelaysOld speedDelaysNew : List Float) (speedUnitsOld speedUnitsNew : List ℕ) (scrollBeatsOld scrollBeatsNew scrollValuesOld scrollValuesNew fakeBeatsOld fakeBeatsNew fakeValuesOld fakeValuesNew : List Float) : Type 0 where
   pub bytes : List ℕ
-  pub read : reading ≡ after begun bytes
+  pub read : reading ≡ readOn begun bytes
   pub counts : countsNew ≡ columnAfter countIn begun bytes countsOld
   pub bpmBeats : bpmBeatsNew ≡ columnAfter (numberIn 2 1) begun bytes bpmBeatsOld
   pub bpmValues : bpmValuesNew ≡ columnAfter (numberIn 2 2) begun bytes bpmValuesOld

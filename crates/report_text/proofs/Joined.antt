@@ -6,34 +6,34 @@ use native.Mathlib.Omega.{arith}
 use borrow.Author.Tests.{lt-ltb, le-ltb}
 use lib.ListN.{length, set, take, length-set}
 use lib.Seq.{set-out}
-use Rattle.report_text.specs.Page.{onward, endOf, written, Wrote}
+use Rattle.report_text.specs.Page.{nextPlace, placeBehind, pageWith, Wrote}
 
-pub written-length : (at : ℕ) (bytes page : List ℕ) → length (written at bytes page) ≡ length page
-unfolding written
+pub written-length : (at : ℕ) (bytes page : List ℕ) → length (pageWith at bytes page) ≡ length page
+unfolding pageWith
 written-length at [] page = refl
-written-length at (byte ∷ bytes) page = written-length (onward (length page) at) bytes (set page at byte) ∙ length-set page at byte
+written-length at (byte ∷ bytes) page = written-length (nextPlace (length page) at) bytes (set page at byte) ∙ length-set page at byte
 
-end-join : (room at : ℕ) (bytes more : List ℕ) → endOf room at (bytes ++ more) ≡ endOf room (endOf room at bytes) more
-unfolding endOf
+end-join : (room at : ℕ) (bytes more : List ℕ) → placeBehind room at (bytes ++ more) ≡ placeBehind room (placeBehind room at bytes) more
+unfolding placeBehind
 end-join room at [] more = refl
-end-join room at (byte ∷ bytes) more = end-join room (onward room at) bytes more
+end-join room at (byte ∷ bytes) more = end-join room (nextPlace room at) bytes more
 
-written-join : (at : ℕ) (bytes more page : List ℕ) → written at (bytes ++ more) page ≡ written (endOf (length page) at bytes) more (written at bytes page)
-unfolding written endOf
+written-join : (at : ℕ) (bytes more page : List ℕ) → pageWith at (bytes ++ more) page ≡ pageWith (placeBehind (length page) at bytes) more (pageWith at bytes page)
+unfolding pageWith placeBehind
 written-join at [] more page = refl
 written-join at (byte ∷ bytes) more page =
-    let next = onward (length page) at in
+    let next = nextPlace (length page) at in
     let same : length (set page at byte) ≡ length page = length-set page at byte in
     written-join next bytes more (set page at byte)
-    ∙ ap (λ (n : ℕ). written (endOf n next bytes) more (written next bytes (set page at byte))) same
+    ∙ ap (λ (n : ℕ). pageWith (placeBehind n next bytes) more (pageWith next bytes (set page at byte))) same
 
 -- a piece behind another
 pub wrote-join : {bytes more : List ℕ} {at middle end : ℕ} {old half new : List ℕ} → Wrote bytes at middle old half → Wrote more middle end half new → Wrote (bytes ++ more) at end old new
 wrote-join {bytes} {more} {at} {middle} {end} {old} {half} {new} a b =
     let kept : length half ≡ length old = ap length (a .page) ∙ written-length at bytes old in
     record {
-      ends = b .ends ∙ ap (λ (n : ℕ). endOf n middle more) kept ∙ ap (λ (n : ℕ). endOf (length old) n more) (a .ends) ∙ sym (end-join (length old) at bytes more);
-      page = b .page ∙ ap (λ (n : ℕ). written n more half) (a .ends) ∙ ap (λ (l : List ℕ). written (endOf (length old) at bytes) more l) (a .page) ∙ sym (written-join at bytes more old);
+      ends = b .ends ∙ ap (λ (n : ℕ). placeBehind n middle more) kept ∙ ap (λ (n : ℕ). placeBehind (length old) n more) (a .ends) ∙ sym (end-join (length old) at bytes more);
+      page = b .page ∙ ap (λ (n : ℕ). pageWith n more half) (a .ends) ∙ ap (λ (l : List ℕ). pageWith (placeBehind (length old) at bytes) more l) (a .page) ∙ sym (written-join at bytes more old);
     }
 
 pub wrote-as : {bytes others : List ℕ} {at end : ℕ} {old new : List ℕ} → bytes ≡ others → Wrote bytes at end old new → Wrote others at end old new
@@ -47,7 +47,7 @@ pub wrote-length : {bytes : List ℕ} {at end : ℕ} {old new : List ℕ} → Wr
 wrote-length {bytes} {at} {end} {old} w = ap length (w .page) ∙ written-length at bytes old
 
 pub wrote-none : (at : ℕ) (page : List ℕ) → Wrote [] at at page page
-unfolding endOf written
+unfolding placeBehind pageWith
 wrote-none at page = record { ends = refl; page = refl }
 
 -- what is written and what is left to write, in a loop: together they are all
@@ -66,9 +66,9 @@ left-end {at = at} {now = now} l = l .leads at now (wrote-none at now)
 
 -- ---- one byte, on the page or past its end
 pub wrote-in : (page : List ℕ) (at byte : ℕ) → at < length page → Wrote (byte ∷ []) at (at + 1) page (set page at byte)
-unfolding endOf written onward
+unfolding placeBehind pageWith nextPlace
 wrote-in page at byte h = record { ends = rw (lt-ltb at (length page) h); page = refl }
 
 pub wrote-past : (page : List ℕ) (at byte : ℕ) → length page ≤ at → Wrote (byte ∷ []) at at page page
-unfolding endOf written onward
+unfolding placeBehind pageWith nextPlace
 wrote-past page at byte h = record { ends = rw (le-ltb at (length page) h); page = sym (set-out page at byte h) }

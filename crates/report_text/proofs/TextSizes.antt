@@ -10,7 +10,7 @@ use lib.Ieee.{Float, toBits, binary32}
 use Rattle.picks.specs.Pick.{pick}
 use Rattle.ieee_patterns.specs.Hex.{hexText}
 use Rattle.report_form.specs.Text.{bpm, stop, delay, warp, scroll, fake}
-use Rattle.report_text.specs.Output.{decimalDigits, decimal, number, answerLine, offsetLine, named, pairLine, pairLines, speedLine, speedLines, warpedRows, warpedLine, listsText}
+use Rattle.report_text.specs.Output.{decimalDigits, decimalText, number, answerLine, offsetLine, named, pairLine, pairLines, speedLine, speedLines, warpedRows, warpedLine, listsText}
 
 hex-size : (k n : ℕ) → length (hexText k n) ≡ k
 unfolding hexText
@@ -35,7 +35,7 @@ line-size word digits = simp length-append (omega arith)
 
 pub answer-size : (n : ℕ) → length (answerLine n) ≤ 28
 unfolding answerLine
-answer-size n = omega (arith, line-size (97 ∷ 110 ∷ 115 ∷ 119 ∷ 101 ∷ 114 ∷ 61 ∷ []) (decimal n), decimal-size 20 n)
+answer-size n = omega (arith, line-size (97 ∷ 110 ∷ 115 ∷ 119 ∷ 101 ∷ 114 ∷ 61 ∷ []) (decimalText n), decimal-size 20 n)
 
 offset-size : (offset : Float) → length (offsetLine offset) ≡ 16
 unfolding offsetLine
@@ -43,7 +43,7 @@ offset-size offset = omega (arith, line-size (111 ∷ 102 ∷ 102 ∷ 115 ∷ 10
 
 warped-size : (lengths : List Float) → length (warpedLine lengths) ≤ 28
 unfolding warpedLine
-warped-size lengths = omega (arith, line-size (119 ∷ 97 ∷ 114 ∷ 112 ∷ 101 ∷ 100 ∷ 61 ∷ []) (decimal (warpedRows lengths % 2 ^ 64)), decimal-size 20 (warpedRows lengths % 2 ^ 64))
+warped-size lengths = omega (arith, line-size (119 ∷ 97 ∷ 114 ∷ 112 ∷ 101 ∷ 100 ∷ 61 ∷ []) (decimalText (warpedRows lengths % 2 ^ 64)), decimal-size 20 (warpedRows lengths % 2 ^ 64))
 
 pair-size : (word : List ℕ) (beat value : Float) → length (pairLine word beat value) ≡ length word + 18
 unfolding pairLine

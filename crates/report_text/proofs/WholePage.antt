@@ -7,26 +7,26 @@ use native.Mathlib.Omega.{arith}
 use borrow.Author.Tests.{lt-ltb}
 use lib.ListN.{length, set, drop, length-set}
 use lib.Seq.{sets, sets-eq}
-use Rattle.report_text.specs.Page.{onward, endOf, written, Wrote, Whole}
+use Rattle.report_text.specs.Page.{nextPlace, placeBehind, pageWith, Wrote, WroteWhole}
 
-next : (room at : ℕ) → at < room → onward room at ≡ at + 1
-unfolding onward
+next : (room at : ℕ) → at < room → nextPlace room at ≡ at + 1
+unfolding nextPlace
 next room at h = rw (lt-ltb at room h)
 
-end-whole : (room at : ℕ) (bytes : List ℕ) → at + length bytes ≤ room → endOf room at bytes ≡ at + length bytes
-unfolding endOf
+end-whole : (room at : ℕ) (bytes : List ℕ) → at + length bytes ≤ room → placeBehind room at bytes ≡ at + length bytes
+unfolding placeBehind
 end-whole room at [] h = omega arith
 end-whole room at (byte ∷ bytes) h = rw (next room at (omega arith)) (omega (arith, end-whole room (at + 1) bytes (omega arith)))
 
 -- each byte at its place
-written-sets : (at : ℕ) (bytes page : List ℕ) → at + length bytes ≤ length page → written at bytes page ≡ sets page at bytes
-unfolding written
+written-sets : (at : ℕ) (bytes page : List ℕ) → at + length bytes ≤ length page → pageWith at bytes page ≡ sets page at bytes
+unfolding pageWith
 written-sets at [] page h = refl
 written-sets at (byte ∷ bytes) page h =
     rw (next (length page) at (omega arith), add-one at)
     (written-sets (suc at) bytes (set page at byte) (omega (arith, length-set page at byte)))
 
-pub wrote-whole : {bytes : List ℕ} {end : ℕ} {old new : List ℕ} → length bytes ≤ length old → Wrote bytes 0 end old new → Whole bytes end old new
+pub wrote-whole : {bytes : List ℕ} {end : ℕ} {old new : List ℕ} → length bytes ≤ length old → Wrote bytes 0 end old new → WroteWhole bytes end old new
 wrote-whole {bytes} {end} {old} {new} h w =
     let room : 0 + length bytes ≤ length old = omega arith in
     let from-none : 0 + length bytes ≡ length bytes = omega arith in

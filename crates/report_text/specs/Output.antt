@@ -16,8 +16,8 @@ decimalDigits zero n = []
 decimalDigits (suc k) n = pick (ltb n 10) ((48 + n) ∷ []) (decimalDigits k (n / 10) ++ ((48 + n % 10) ∷ []))
 
 -- a number of 64 bits has 20 at most
-abbrev pub decimal : ℕ → List ℕ
-decimal n = decimalDigits 20 n
+abbrev pub decimalText : ℕ → List ℕ
+decimalText n = decimalDigits 20 n
 
 -- an f32: the eight digits of its pattern
 abbrev pub number : Float → List ℕ
@@ -25,7 +25,7 @@ number x = hexText 8 (toBits binary32 x)
 
 -- answer=, and a line feed
 unfoldable pub answerLine : ℕ → List ℕ
-answerLine n = (97 ∷ 110 ∷ 115 ∷ 119 ∷ 101 ∷ 114 ∷ 61 ∷ []) ++ (decimal n ++ (10 ∷ []))
+answerLine n = (97 ∷ 110 ∷ 115 ∷ 119 ∷ 101 ∷ 114 ∷ 61 ∷ []) ++ (decimalText n ++ (10 ∷ []))
 
 -- offset=
 unfoldable pub offsetLine : Float → List ℕ
@@ -71,7 +71,7 @@ warpedRows (length ∷ lengths) = lengthRows length + warpedRows lengths
 
 -- warped=, the sum in 64 bits
 unfoldable pub warpedLine : List Float → List ℕ
-warpedLine lengths = (119 ∷ 97 ∷ 114 ∷ 112 ∷ 101 ∷ 100 ∷ 61 ∷ []) ++ (decimal (warpedRows lengths % 2 ^ 64) ++ (10 ∷ []))
+warpedLine lengths = (119 ∷ 97 ∷ 114 ∷ 112 ∷ 101 ∷ 100 ∷ 61 ∷ []) ++ (decimalText (warpedRows lengths % 2 ^ 64) ++ (10 ∷ []))
 
 -- THE LISTS: offset, the seven lists in order, warped rows
 unfoldable pub listsText : Float → List Float → List Float → List Float → List Float → List Float → List Float → List Float → List Float

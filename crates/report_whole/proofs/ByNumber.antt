@@ -10,7 +10,7 @@ use Rattle.report_form.specs.declared.Reading.{Reading}
 use Rattle.report_form.specs.Form.{answerOf}
 use Rattle.report_text.specs.Output.{answerLine}
 use Rattle.report_whole.specs.Taken.{takenText}
-use Rattle.report_whole.specs.Whole.{formatRead, countOf, reportText}
+use Rattle.report_whole.specs.Whole.{formatRead, entriesCounted, reportText}
 
 module _ (reading : Reading) (counts : List ℕ) (tempoBeats tempoValues stopBeats stopValues delayBeats delayValues warpBeats warpLengths speedBeats speedRatios speedDelays : List Float) (speedUnits : List ℕ) (scrollBeats scrollValues fakeBeats fakeLengths : List Float) where
   pub refused-text : {number : ℕ} → number ≡ answerOf reading counts → (number ≡ 0 → ⊥) → answerLine number ≡ reportText reading counts tempoBeats tempoValues stopBeats stopValues delayBeats delayValues warpBeats warpLengths speedBeats speedRatios speedDelays speedUnits scrollBeats scrollValues fakeBeats fakeLengths
@@ -19,7 +19,7 @@ module _ (reading : Reading) (counts : List ℕ) (tempoBeats tempoValues stopBea
 
   pub taken-text : {number : ℕ} {format : TimingFormat} {tempos stops delays warps speeds scrolls fakes : ℕ} {frontTempoBeats frontTempoValues frontStopBeats frontStopValues frontDelayBeats frontDelayValues frontWarpBeats frontWarpLengths frontSpeedBeats frontSpeedRatios frontSpeedDelays : List Float} {frontSpeedUnits : List ℕ} {frontScrollBeats frontScrollValues frontFakeBeats frontFakeLengths : List Float}
       → number ≡ answerOf reading counts → number ≡ 0 → format ≡ formatRead (reading .ssc)
-      → tempos ≡ countOf counts 2 → stops ≡ countOf counts 3 → delays ≡ countOf counts 4 → warps ≡ countOf counts 5 → speeds ≡ countOf counts 6 → scrolls ≡ countOf counts 7 → fakes ≡ countOf counts 8
+      → tempos ≡ entriesCounted counts 2 → stops ≡ entriesCounted counts 3 → delays ≡ entriesCounted counts 4 → warps ≡ entriesCounted counts 5 → speeds ≡ entriesCounted counts 6 → scrolls ≡ entriesCounted counts 7 → fakes ≡ entriesCounted counts 8
       → frontTempoBeats ≡ take tempos tempoBeats → frontTempoValues ≡ take tempos tempoValues → frontStopBeats ≡ take stops stopBeats → frontStopValues ≡ take stops stopValues → frontDelayBeats ≡ take delays delayBeats → frontDelayValues ≡ take delays delayValues → frontWarpBeats ≡ take warps warpBeats → frontWarpLengths ≡ take warps warpLengths → frontSpeedBeats ≡ take speeds speedBeats → frontSpeedRatios ≡ take speeds speedRatios → frontSpeedDelays ≡ take speeds speedDelays → frontSpeedUnits ≡ take speeds speedUnits → frontScrollBeats ≡ take scrolls scrollBeats → frontScrollValues ≡ take scrolls scrollValues → frontFakeBeats ≡ take fakes fakeBeats → frontFakeLengths ≡ take fakes fakeLengths
       → takenText format frontTempoBeats frontTempoValues frontStopBeats frontStopValues frontDelayBeats frontDelayValues frontWarpBeats frontWarpLengths frontSpeedBeats frontSpeedRatios frontSpeedDelays frontSpeedUnits frontScrollBeats frontScrollValues frontFakeBeats frontFakeLengths ≡ reportText reading counts tempoBeats tempoValues stopBeats stopValues delayBeats delayValues warpBeats warpLengths speedBeats speedRatios speedDelays speedUnits scrollBeats scrollValues fakeBeats fakeLengths
   unfolding reportText

@@ -6,12 +6,12 @@ use lib.ListN.{replicate}
 use lib.Ieee.{Float}
 use Rattle.ieee.specs.Constants.{plusZero}
 use Rattle.report_form.specs.declared.Reading.{Reading}
-use Rattle.report_form.specs.Form.{start, after}
+use Rattle.report_form.specs.Form.{start, readOn}
 use Rattle.report_form.specs.Stores.{numberIn, unitIn, countIn, columnAfter}
 use Rattle.report_whole.specs.Whole.{reportText, reportOf, Reported}
 
 pub read-report : (input : List ℕ) {begun reading : Reading} {counts : List ℕ} {tempoBeats tempoValues stopBeats stopValues delayBeats delayValues warpBeats warpLengths speedBeats speedRatios speedDelays : List Float} {speedUnits : List ℕ} {scrollBeats scrollValues fakeBeats fakeLengths : List Float}
-    → begun ≡ start → reading ≡ after begun input → counts ≡ columnAfter countIn begun input (replicate 9 0)
+    → begun ≡ start → reading ≡ readOn begun input → counts ≡ columnAfter countIn begun input (replicate 9 0)
     → tempoBeats ≡ columnAfter (numberIn 2 1) begun input (replicate 256 plusZero)
     → tempoValues ≡ columnAfter (numberIn 2 2) begun input (replicate 256 plusZero)
     → stopBeats ≡ columnAfter (numberIn 3 1) begun input (replicate 256 plusZero)

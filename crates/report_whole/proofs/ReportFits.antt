@@ -16,7 +16,7 @@ use Rattle.report_text.proofs.TextSizes.{answer-size}
 use Rattle.report_text.proofs.WholePage.{wrote-whole}
 use Rattle.report_whole.specs.Taken.{takenText}
 use Rattle.report_whole.proofs.TakenFits.{taken-size}
-use Rattle.report_whole.specs.Whole.{formatRead, countOf, reportText, Reported}
+use Rattle.report_whole.specs.Whole.{formatRead, entriesCounted, reportText, Reported}
 
 module _ (reading : Reading) (counts : List ℕ) (tempoBeats tempoValues stopBeats stopValues delayBeats delayValues warpBeats warpLengths speedBeats speedRatios speedDelays : List Float) (speedUnits : List ℕ) (scrollBeats scrollValues fakeBeats fakeLengths : List Float) where
   report-size : length (reportText reading counts tempoBeats tempoValues stopBeats stopValues delayBeats delayValues warpBeats warpLengths speedBeats speedRatios speedDelays speedUnits scrollBeats scrollValues fakeBeats fakeLengths) ≤ 45000
@@ -24,7 +24,7 @@ module _ (reading : Reading) (counts : List ℕ) (tempoBeats tempoValues stopBea
   report-size = by-case (eqb (answerOf reading counts) 0)
     where
       taken : List ℕ
-      taken = takenText (formatRead (reading .ssc)) (take (countOf counts 2) tempoBeats) (take (countOf counts 2) tempoValues) (take (countOf counts 3) stopBeats) (take (countOf counts 3) stopValues) (take (countOf counts 4) delayBeats) (take (countOf counts 4) delayValues) (take (countOf counts 5) warpBeats) (take (countOf counts 5) warpLengths) (take (countOf counts 6) speedBeats) (take (countOf counts 6) speedRatios) (take (countOf counts 6) speedDelays) (take (countOf counts 6) speedUnits) (take (countOf counts 7) scrollBeats) (take (countOf counts 7) scrollValues) (take (countOf counts 8) fakeBeats) (take (countOf counts 8) fakeLengths)
+      taken = takenText (formatRead (reading .ssc)) (take (entriesCounted counts 2) tempoBeats) (take (entriesCounted counts 2) tempoValues) (take (entriesCounted counts 3) stopBeats) (take (entriesCounted counts 3) stopValues) (take (entriesCounted counts 4) delayBeats) (take (entriesCounted counts 4) delayValues) (take (entriesCounted counts 5) warpBeats) (take (entriesCounted counts 5) warpLengths) (take (entriesCounted counts 6) speedBeats) (take (entriesCounted counts 6) speedRatios) (take (entriesCounted counts 6) speedDelays) (take (entriesCounted counts 6) speedUnits) (take (entriesCounted counts 7) scrollBeats) (take (entriesCounted counts 7) scrollValues) (take (entriesCounted counts 8) fakeBeats) (take (entriesCounted counts 8) fakeLengths)
 
       by-case : (t : Bool) → length (pick t taken (answerLine (answerOf reading counts))) ≤ 45000
       by-case true = taken-size _ _ _ _ _ _ _ _ _ _ _ _ _ _ _ _ _

@@ -16,8 +16,8 @@ use Rattle.order.specs.Order.{laid}
 use Rattle.columns.specs.Each.{laidEach}
 use Rattle.columns.proofs.EachOverFront.{each-over-front}
 use Rattle.chart.specs.declared.TimingFormat.{TimingFormat}
-use Rattle.report_form.specs.Form.{start, after, widthOf, whole, over, answerOf}
-use Rattle.report_form.specs.Stores.{placed, columnAfter}
+use Rattle.report_form.specs.Form.{start, readOn, widthOf, whole, over, answerOf}
+use Rattle.report_form.specs.Stores.{storedIn, columnAfter}
 use Rattle.report_form.specs.Text.{Pair, bpm, stop, delay, warp, scroll, fake, Entry, pair, speed, pairList, entryList, text}
 use Rattle.report_form.specs.Orderly.{Fits, speed-fits, Orderly, none, one, TextOf, partOf, numbersOf, entriesOf, held, tooMany}
 use Rattle.report_form.proofs.RoundTrip.{text-whole, text-format, text-column, list-named}
@@ -25,7 +25,7 @@ use Rattle.report_form.proofs.WholeIsText.{whole-is-text}
 use Rattle.report_form.proofs.TextCounts.{text-counts, format-counts, counts-length}
 use Rattle.report_text.specs.Output.{answerLine}
 use Rattle.report_whole.specs.Taken.{takenText}
-use Rattle.report_whole.specs.Whole.{formatRead, countOf, reportText, numbersRead, unitsRead, countsRead, reportOf}
+use Rattle.report_whole.specs.Whole.{formatRead, entriesCounted, reportText, numbersRead, unitsRead, countsRead, reportOf}
 use Rattle.report_whole.specs.OfText.{floatsOf, entriesReport, Told, of-text, of-no-text}
 
 -- ---- a list's numbers
@@ -98,7 +98,7 @@ module _ (ssc : Bool) (entries : List Entry) (o : Orderly 1 entries) where
   abbrev input : List ℕ
   input = text ssc entries
 
-  counted : (list : ℕ) → 2 ≤ list → list < 9 → countOf (countsRead input) list ≡ held (entriesOf list entries)
+  counted : (list : ℕ) → 2 ≤ list → list < 9 → entriesCounted (countsRead input) list ≡ held (entriesOf list entries)
   counted list low high =
       text-counts list ssc entries (replicate 9 0) o (λ (e : list ≡ 1). omega arith) high ∙ rw (getD-replicate {A = ℕ} 9 list 0 0 high) (by-case (entriesOf list entries))
     where
@@ -107,11 +107,11 @@ module _ (ssc : Bool) (entries : List Entry) (o : Orderly 1 entries) where
       by-case (suc n) = rw (ne-eqb (suc n) 0 (λ (e : suc n ≡ 0). omega arith))
 
   column : {A : Type 0} (value : ℕ → A) (list part : ℕ) (blank : A) → 2 ≤ list → list < 9 → 1 ≤ part → part ≤ widthOf list → entriesOf list entries ≤ 256
-      → take (countOf (countsRead input) list) (columnAfter (placed value list part) start input (replicate 256 blank)) ≡ map value (numbersOf list part entries)
+      → take (entriesCounted (countsRead input) list) (columnAfter (storedIn value list part) start input (replicate 256 blank)) ≡ map value (numbersOf list part entries)
   column {A} value list part blank low high first last few =
       let numbers = numbersOf list part entries in
       let all : length numbers ≤ length (replicate 256 blank) = rw (length-replicate 256 blank) (omega (arith, as-many list part entries)) in
-      let count : countOf (countsRead input) list ≡ length numbers = counted list low high ∙ rw (le-ltb 256 (entriesOf list entries) few) (sym (as-many list part entries)) in
+      let count : entriesCounted (countsRead input) list ≡ length numbers = counted list low high ∙ rw (le-ltb 256 (entriesOf list entries) few) (sym (as-many list part entries)) in
       rw (count, text-column value list part ssc entries (replicate 256 blank) o low first last (rw (length-replicate 256 blank) (omega arith))) (front-each value numbers (replicate 256 blank) all)
 
   abbrev counts : List ℕ
@@ -159,18 +159,18 @@ module _ (ssc : Bool) (entries : List Entry) (o : Orderly 1 entries) where
       let f = not-over (entriesOf 8 entries) (c .1) in
       record { tempos = t .0; stops = s .0; delays = d .0; warps = w .0; speeds = v .0; scrolls = c .0; fakes = f .0 }
 
-  floats : (list part : ℕ) → 2 ≤ list → list < 9 → 1 ≤ part → part ≤ widthOf list → entriesOf list entries ≤ 256 → take (countOf (countsRead input) list) (numbersRead list part input) ≡ floatsOf list part entries
+  floats : (list part : ℕ) → 2 ≤ list → list < 9 → 1 ≤ part → part ≤ widthOf list → entriesOf list entries ≤ 256 → take (entriesCounted (countsRead input) list) (numbersRead list part input) ≡ floatsOf list part entries
   floats list part low high first last few = column (ofBits binary64) list part plusZero low high first last few
 
   taken : Few
-      → takenText (formatRead (after start input .ssc))
-      (take (countOf (countsRead input) 2) (numbersRead 2 1 input)) (take (countOf (countsRead input) 2) (numbersRead 2 2 input))
-      (take (countOf (countsRead input) 3) (numbersRead 3 1 input)) (take (countOf (countsRead input) 3) (numbersRead 3 2 input))
-      (take (countOf (countsRead input) 4) (numbersRead 4 1 input)) (take (countOf (countsRead input) 4) (numbersRead 4 2 input))
-      (take (countOf (countsRead input) 5) (numbersRead 5 1 input)) (take (countOf (countsRead input) 5) (numbersRead 5 2 input))
-      (take (countOf (countsRead input) 6) (numbersRead 6 1 input)) (take (countOf (countsRead input) 6) (numbersRead 6 2 input)) (take (countOf (countsRead input) 6) (numbersRead 6 3 input)) (take (countOf (countsRead input) 6) (unitsRead input))
-      (take (countOf (countsRead input) 7) (numbersRead 7 1 input)) (take (countOf (countsRead input) 7) (numbersRead 7 2 input))
-      (take (countOf (countsRead input) 8) (numbersRead 8 1 input)) (take (countOf (countsRead input) 8) (numbersRead 8 2 input))
+      → takenText (formatRead (readOn start input .ssc))
+      (take (entriesCounted (countsRead input) 2) (numbersRead 2 1 input)) (take (entriesCounted (countsRead input) 2) (numbersRead 2 2 input))
+      (take (entriesCounted (countsRead input) 3) (numbersRead 3 1 input)) (take (entriesCounted (countsRead input) 3) (numbersRead 3 2 input))
+      (take (entriesCounted (countsRead input) 4) (numbersRead 4 1 input)) (take (entriesCounted (countsRead input) 4) (numbersRead 4 2 input))
+      (take (entriesCounted (countsRead input) 5) (numbersRead 5 1 input)) (take (entriesCounted (countsRead input) 5) (numbersRead 5 2 input))
+      (take (entriesCounted (countsRead input) 6) (numbersRead 6 1 input)) (take (entriesCounted (countsRead input) 6) (numbersRead 6 2 input)) (take (entriesCounted (countsRead input) 6) (numbersRead 6 3 input)) (take (entriesCounted (countsRead input) 6) (unitsRead input))
+      (take (entriesCounted (countsRead input) 7) (numbersRead 7 1 input)) (take (entriesCounted (countsRead input) 7) (numbersRead 7 2 input))
+      (take (entriesCounted (countsRead input) 8) (numbersRead 8 1 input)) (take (entriesCounted (countsRead input) 8) (numbersRead 8 2 input))
       ≡ takenText (formatRead ssc)
       (floatsOf 2 1 entries) (floatsOf 2 2 entries) (floatsOf 3 1 entries) (floatsOf 3 2 entries) (floatsOf 4 1 entries) (floatsOf 4 2 entries) (floatsOf 5 1 entries) (floatsOf 5 2 entries)
       (floatsOf 6 1 entries) (floatsOf 6 2 entries) (floatsOf 6 3 entries) (numbersOf 6 4 entries) (floatsOf 7 1 entries) (floatsOf 7 2 entries) (floatsOf 8 1 entries) (floatsOf 8 2 entries)
@@ -186,7 +186,7 @@ module _ (ssc : Bool) (entries : List Entry) (o : Orderly 1 entries) where
       (floats 7 1 (omega arith) (omega arith) (omega arith) (omega arith) (f .scrolls)) (floats 7 2 (omega arith) (omega arith) (omega arith) (omega arith) (f .scrolls))
       (floats 8 1 (omega arith) (omega arith) (omega arith) (omega arith) (f .fakes)) (floats 8 2 (omega arith) (omega arith) (omega arith) (omega arith) (f .fakes))
 
-  answer-is : answerOf (after start input) (countsRead input) ≡ pick (tooMany entries) 1 0
+  answer-is : answerOf (readOn start input) (countsRead input) ≡ pick (tooMany entries) 1 0
   unfolding answerOf
   answer-is = rw (text-whole ssc entries o, over-is)
 
@@ -199,13 +199,13 @@ module _ (ssc : Bool) (entries : List Entry) (o : Orderly 1 entries) where
       by-case false e = rw (answer-is, e) (taken (few e))
 
 -- what is no text is refused with 10
-no-text : (bytes : List ℕ) → whole (after start bytes) ≡ false → reportOf bytes ≡ answerLine 10
+no-text : (bytes : List ℕ) → whole (readOn start bytes) ≡ false → reportOf bytes ≡ answerLine 10
 unfolding reportOf reportText answerOf
 no-text bytes e = rw e
 
 pub every-report : (bytes : List ℕ) → Told bytes
-every-report bytes = by-case (whole (after start bytes)) refl
+every-report bytes = by-case (whole (readOn start bytes)) refl
   where
-    by-case : (t : Bool) → whole (after start bytes) ≡ t → Told bytes
+    by-case : (t : Bool) → whole (readOn start bytes) ≡ t → Told bytes
     by-case true e = let t = whole-is-text bytes e in of-text t (ap reportOf (t .is) ∙ report-of-text (t .ssc) (t .entries) (t .orderly))
-    by-case false e = of-no-text (λ (t : TextOf bytes). let is : whole (after start bytes) ≡ true = ap (λ (b : List ℕ). whole (after start b)) (t .is) ∙ text-whole (t .ssc) (t .entries) (t .orderly) in let z : _≡_ {A = ℕ} 0 1 = cc in omega arith) (no-text bytes e)
+    by-case false e = of-no-text (λ (t : TextOf bytes). let is : whole (readOn start bytes) ≡ true = ap (λ (b : List ℕ). whole (readOn start b)) (t .is) ∙ text-whole (t .ssc) (t .entries) (t .orderly) in let z : _≡_ {A = ℕ} 0 1 = cc in omega arith) (no-text bytes e)

@@ -26,7 +26,7 @@ use Rattle.assembly.specs.Assembly.{assembledDelays, assembledFakes, othersNumb
 use Rattle.assembly.proofs.Ends.{none-refused, others-fit}
 use Rattle.report_text.specs.Output.{answerLine}
 use Rattle.report_text.proofs.TextSizes.{answer-size, lists-size}
-use Rattle.report_whole.specs.Taken.{processed, speedsGiven, takenNumber, takenLists, takenText}
+use Rattle.report_whole.specs.Taken.{processedOf, speedsGiven, takenNumber, takenLists, takenText}
 
 -- a list that fits in 256 places, by any of its columns
 few-of : {A B : Type 0} (field : A → B) (tests : ℕ) (list : List A) → roomNumber tests (length list) 256 ≡ 0 → length (map field list) ≤ 256
@@ -45,7 +45,7 @@ module _ (format : TimingFormat) (tempoBeats tempoValues stopBeats stopValues de
 
   lists-few : number ≡ 0 → length lists ≤ 44844
   lists-few z =
-      let made = processed format tempoBeats tempoValues stopBeats stopValues delayBeats delayValues warpBeats warpLengths speedBeats speedRatios speedDelays speedUnits scrollBeats scrollValues fakeBeats fakeLengths in
+      let made = processedOf format tempoBeats tempoValues stopBeats stopValues delayBeats delayValues warpBeats warpLengths speedBeats speedRatios speedDelays speedUnits scrollBeats scrollValues fakeBeats fakeLengths in
       let later = none-refused _ _ _ _ z .laterTaken in
       let three = all-fit _ _ _ _ later in
       let others = others-fit delayBeats delayValues speedBeats speedRatios speedDelays speedUnits scrollBeats scrollValues fakeBeats fakeLengths 256 256 256 256 (lower-none _ _ later .0) in

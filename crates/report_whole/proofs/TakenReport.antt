@@ -21,7 +21,7 @@ use Rattle.assembly.specs.declared.Assembled.{Assembled}
 use Rattle.assembly.specs.Assembly.{assembledDelays, assembledFakes, processedPart, SpeedsLaid}
 use Rattle.report_text.specs.Output.{answerLine, listsText}
 use Rattle.report_answer.specs.Report.{doneText}
-use Rattle.report_whole.specs.Taken.{processed, speedsGiven, takenNumber, takenLists, takenText}
+use Rattle.report_whole.specs.Taken.{processedOf, speedsGiven, takenNumber, takenLists, takenText}
 
 -- the front of a column that a taken result was laid over
 front-laid : {A B : Type 0} (field : A → B) (number count : ℕ) (result : List A) (old new : List B) → number ≡ 0 → count ≡ length (given number result) → new ≡ columnLaid field number result old → take count new ≡ map field result
@@ -37,7 +37,7 @@ same-lists offset e1 e2 e3 e4 e5 e6 e7 e8 e9 e10 e11 e12 e13 e14 e15 e16 = cc
 module _ (format : TimingFormat) (tempoBeats tempoValues stopBeats stopValues delayBeats delayValues warpBeats warpLengths speedBeats speedRatios speedDelays : List Float) (speedUnits : List ℕ)
     (scrollBeats scrollValues fakeBeats fakeLengths : List Float) (done : Assembled) (raw later : ℕ)
     (a1 b1 a2 b2 a3 b3 a4 b4 a5 b5 a6 b6 a7 b7 a8 b8 a9 b9 a10 b10 a11 b11 : List Float) (a12 b12 : List ℕ) (a13 b13 a14 b14 a15 b15 a16 b16 : List Float)
-    (three : ThreeLaid raw later 256 (processed format tempoBeats tempoValues stopBeats stopValues delayBeats delayValues warpBeats warpLengths speedBeats speedRatios speedDelays speedUnits scrollBeats scrollValues fakeBeats fakeLengths) (processedPart done) a1 b1 a2 b2 a3 b3 a4 b4 a7 b7 a8 b8)
+    (three : ThreeLaid raw later 256 (processedOf format tempoBeats tempoValues stopBeats stopValues delayBeats delayValues warpBeats warpLengths speedBeats speedRatios speedDelays speedUnits scrollBeats scrollValues fakeBeats fakeLengths) (processedPart done) a1 b1 a2 b2 a3 b3 a4 b4 a7 b7 a8 b8)
     (delays : LaidList (done .number) (assembledDelays delayBeats delayValues) (done .delays) a5 b5 a6 b6)
     (speeds : SpeedsLaid (done .number) (speedsGiven format tempoBeats tempoValues stopBeats stopValues delayBeats delayValues warpBeats warpLengths speedBeats speedRatios speedDelays speedUnits scrollBeats scrollValues fakeBeats fakeLengths) (done .speeds) a9 b9 a10 b10 a11 b11 a12 b12)
     (scrolls : LaidList (done .number) (assembledScrolls scrollBeats scrollValues) (done .scrolls) a13 b13 a14 b14)
@@ -56,7 +56,7 @@ module _ (format : TimingFormat) (tempoBeats tempoValues stopBeats stopValues de
 
   fronts-are : done .number ≡ 0 → fronts ≡ lists
   fronts-are z =
-      let offset : done .offset ≡ narrow (processed format tempoBeats tempoValues stopBeats stopValues delayBeats delayValues warpBeats warpLengths speedBeats speedRatios speedDelays speedUnits scrollBeats scrollValues fakeBeats fakeLengths .offset) = three .offsetIs ∙ rw z in
+      let offset : done .offset ≡ narrow (processedOf format tempoBeats tempoValues stopBeats stopValues delayBeats delayValues warpBeats warpLengths speedBeats speedRatios speedDelays speedUnits scrollBeats scrollValues fakeBeats fakeLengths .offset) = three .offsetIs ∙ rw z in
       rw offset
       (same-lists _
       (front-laid first _ _ _ a1 b1 z (three .temposLaid .counted) (three .temposLaid .firstIs)) (front-laid second _ _ _ a2 b2 z (three .temposLaid .counted) (three .temposLaid .secondIs))

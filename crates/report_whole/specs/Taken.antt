@@ -20,8 +20,8 @@ use Rattle.report_text.specs.Output.{answerLine, listsText}
 
 module _ (format : TimingFormat) (tempoBeats tempoValues stopBeats stopValues delayBeats delayValues warpBeats warpLengths speedBeats speedRatios speedDelays : List Float) (speedUnits : List ℕ)
     (scrollBeats scrollValues fakeBeats fakeLengths : List Float) where
-  abbrev pub processed : Lists
-  processed = mergedLists format tempoBeats tempoValues stopBeats stopValues warpBeats warpLengths
+  abbrev pub processedOf : Lists
+  processedOf = mergedLists format tempoBeats tempoValues stopBeats stopValues warpBeats warpLengths
 
   abbrev pub speedsGiven : List (Float × (Float × (Float × ℕ)))
   speedsGiven = assembledSpeeds speedBeats speedRatios speedDelays speedUnits
@@ -32,18 +32,18 @@ module _ (format : TimingFormat) (tempoBeats tempoValues stopBeats stopValues de
       verdict
       (lower (threeNumber tempoBeats tempoValues stopBeats stopValues warpBeats warpLengths)
       (othersNumber delayBeats delayValues speedBeats speedRatios speedDelays speedUnits scrollBeats scrollValues fakeBeats fakeLengths))
-      (length (processed .warps)) 256
+      (length (processedOf .warps)) 256
       (lower (othersLater delayBeats delayValues speedBeats speedRatios speedDelays speedUnits scrollBeats scrollValues fakeBeats fakeLengths 256 256 256 256)
-      (threeRooms processed 256 256 256))
+      (threeRooms processedOf 256 256 256))
 
   -- the answer line, and behind it the lists where they are taken
   abbrev pub takenLists : List ℕ
   takenLists =
-      listsText (narrow (processed .offset))
-      (map first (assembledTempos processed)) (map second (assembledTempos processed))
-      (map first (assembledStops processed)) (map second (assembledStops processed))
+      listsText (narrow (processedOf .offset))
+      (map first (assembledTempos processedOf)) (map second (assembledTempos processedOf))
+      (map first (assembledStops processedOf)) (map second (assembledStops processedOf))
       (map first (assembledDelays delayBeats delayValues)) (map second (assembledDelays delayBeats delayValues))
-      (map first (assembledWarps processed)) (map second (assembledWarps processed))
+      (map first (assembledWarps processedOf)) (map second (assembledWarps processedOf))
       (map first speedsGiven) (map ratioOf speedsGiven) (map delayOf speedsGiven) (map unitOf speedsGiven)
       (map first (assembledScrolls scrollBeats scrollValues)) (map second (assembledScrolls scrollBeats scrollValues))
       (map first (assembledFakes fakeBeats fakeLengths)) (map second (assembledFakes fakeBeats fakeLengths))

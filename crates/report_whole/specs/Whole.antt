@@ -10,9 +10,9 @@ use Rattle.picks.specs.Pick.{pick}
 use Rattle.chart.specs.declared.TimingFormat.{TimingFormat}
 use Rattle.chart.specs.declared.TimingFormat.the-variants.{Sm, Ssc}
 use Rattle.report_form.specs.declared.Reading.{Reading}
-use Rattle.report_form.specs.Form.{start, after, answerOf}
+use Rattle.report_form.specs.Form.{start, readOn, answerOf}
 use Rattle.report_form.specs.Stores.{numberIn, unitIn, countIn, columnAfter}
-use Rattle.report_text.specs.Page.{Wrote, Whole}
+use Rattle.report_text.specs.Page.{Wrote, WroteWhole}
 use Rattle.report_text.specs.Output.{answerLine}
 use Rattle.report_whole.specs.Taken.{takenText}
 
@@ -20,21 +20,21 @@ abbrev pub formatRead : Bool → TimingFormat
 formatRead ssc = pick ssc Ssc Sm
 
 -- how many entries a list has, by its number (2 bpm .. 8 fake)
-abbrev pub countOf : List ℕ → ℕ → ℕ
-countOf counts list = getD counts list 0
+abbrev pub entriesCounted : List ℕ → ℕ → ℕ
+entriesCounted counts list = getD counts list 0
 
 -- THE REPORT: the answer line of an input that is refused before its lists are looked at; else the answer to its lists, each column as far as it was filled
 unfoldable pub reportText : Reading → List ℕ → (tempoBeats tempoValues stopBeats stopValues delayBeats delayValues warpBeats warpLengths speedBeats speedRatios speedDelays : List Float) (speedUnits : List ℕ) (scrollBeats scrollValues fakeBeats fakeLengths : List Float) → List ℕ
 reportText reading counts tempoBeats tempoValues stopBeats stopValues delayBeats delayValues warpBeats warpLengths speedBeats speedRatios speedDelays speedUnits scrollBeats scrollValues fakeBeats fakeLengths =
     pick (eqb (answerOf reading counts) 0)
     (takenText (formatRead (reading .ssc))
-    (take (countOf counts 2) tempoBeats) (take (countOf counts 2) tempoValues)
-    (take (countOf counts 3) stopBeats) (take (countOf counts 3) stopValues)
-    (take (countOf counts 4) delayBeats) (take (countOf counts 4) delayValues)
-    (take (countOf counts 5) warpBeats) (take (countOf counts 5) warpLengths)
-    (take (countOf counts 6) speedBeats) (take (countOf counts 6) speedRatios) (take (countOf counts 6) speedDelays) (take (countOf counts 6) speedUnits)
-    (take (countOf counts 7) scrollBeats) (take (countOf counts 7) scrollValues)
-    (take (countOf counts 8) fakeBeats) (take (countOf counts 8) fakeLengths))
+    (take (entriesCounted counts 2) tempoBeats) (take (entriesCounted counts 2) tempoValues)
+    (take (entriesCounted counts 3) stopBeats) (take (entriesCounted counts 3) stopValues)
+    (take (entriesCounted counts 4) delayBeats) (take (entriesCounted counts 4) delayValues)
+    (take (entriesCounted counts 5) warpBeats) (take (entriesCounted counts 5) warpLengths)
+    (take (entriesCounted counts 6) speedBeats) (take (entriesCounted counts 6) speedRatios) (take (entriesCounted counts 6) speedDelays) (take (entriesCounted counts 6) speedUnits)
+    (take (entriesCounted counts 7) scrollBeats) (take (entriesCounted counts 7) scrollValues)
+    (take (entriesCounted counts 8) fakeBeats) (take (entriesCounted counts 8) fakeLengths))
     (answerLine (answerOf reading counts))
 
 -- ---- of an input's bytes, which are read into columns of 256 zeros
@@ -49,11 +49,11 @@ countsRead input = columnAfter countIn start input (replicate 9 0)
 
 unfoldable pub reportOf : List ℕ → List ℕ
 reportOf input =
-    reportText (after start input) (countsRead input)
+    reportText (readOn start input) (countsRead input)
     (numbersRead 2 1 input) (numbersRead 2 2 input) (numbersRead 3 1 input) (numbersRead 3 2 input) (numbersRead 4 1 input) (numbersRead 4 2 input) (numbersRead 5 1 input) (numbersRead 5 2 input)
     (numbersRead 6 1 input) (numbersRead 6 2 input) (numbersRead 6 3 input) (unitsRead input) (numbersRead 7 1 input) (numbersRead 7 2 input) (numbersRead 8 1 input) (numbersRead 8 2 input)
 
 -- The one outcome of writing a report from a page's first byte on; a page of 45,000 bytes holds every one whole.
 pub record Reported (text : List ℕ) (end : ℕ) (old new : List ℕ) : Type 0 where
   pub wrote : Wrote text 0 end old new
-  pub whole : 45000 ≤ length old → Whole text end old new
+  pub whole : 45000 ≤ length old → WroteWhole text end old new

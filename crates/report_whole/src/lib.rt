@@ -6,7 +6,7 @@ ghost use lib.ListN.{take};
 ghost use Rattle.io.specs.Counts.{Counts};
 ghost use Rattle.report_text.specs.Page.{Wrote};
 ghost use Rattle.report_whole.specs.Taken.{takenText};
-ghost use Rattle.report_whole.specs.Whole.{formatRead, countOf, reportText, Reported};
+ghost use Rattle.report_whole.specs.Whole.{formatRead, entriesCounted, reportText, Reported};
 
 fn format_of(ssc: bool) -> TimingFormat
     ensures { λ r. ⌜ r ≡ formatRead ssc ⌝ }
@@ -19,7 +19,7 @@ fn format_of(ssc: bool) -> TimingFormat
 
 // How many entries a list has; none where the counts end before it.
 fn count_of(counts: &[u64], list: usize) -> usize
-    ensures { λ r. ⌜ r ≡ countOf (now (counts .entry)) list ⌝ }
+    ensures { λ r. ⌜ r ≡ entriesCounted (now (counts .entry)) list ⌝ }
 {
     if list < counts.len() {
         return counts[list] as usize;

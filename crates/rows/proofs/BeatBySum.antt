@@ -16,7 +16,7 @@ use Rattle.ieee.proofs.RoundedSize.{Near, grid-fine, grid-ge, grid-near}
 use Rattle.ieee.proofs.SignedSizes.{negative}
 use Rattle.ieee.proofs.Units.{round-units}
 use Rattle.rows.specs.Rows.{beatOf}
-use Rattle.rows.specs.Marks.{larger, smaller, fortyEighth}
+use Rattle.rows.specs.Marks.{largerPart, smaller, fortyEighth}
 use Rattle.rows.proofs.RowValue.{unlike-positive, beat-rounded}
 use Rattle.rows.proofs.FortyEighths.{Close, close-round}
 
@@ -92,8 +92,8 @@ module _ (n : ℕ) (N : 0 < n) (h : n ≤ 2 ^ 32) where
   sum-rounded : (x : Float) (s : Bool) → HasValue x s n 1 → fortyEighth x ≡ round binary64 s n 48
   unfolding fortyEighth
   sum-rounded x s v =
-      add-value binary64 (mul binary64 x larger) (mul binary64 x smaller) s (n * 1398101) (2 ^ 26) rest (2 ^ 1074) (pow-pos 26) (pow-pos 1074)
-      (subst (λ (y : Float). HasValue y s (n * 1398101) (2 ^ 26)) (sym (product larger 1398101 (2 ^ 26) (pow-pos 26) (refl, refl))) (larger-product s))
+      add-value binary64 (mul binary64 x largerPart) (mul binary64 x smaller) s (n * 1398101) (2 ^ 26) rest (2 ^ 1074) (pow-pos 26) (pow-pos 1074)
+      (subst (λ (y : Float). HasValue y s (n * 1398101) (2 ^ 26)) (sym (product largerPart 1398101 (2 ^ 26) (pow-pos 26) (refl, refl))) (larger-product s))
       (subst (λ (y : Float). HasValue y s rest (2 ^ 1074)) (sym (product smaller 3002399751580331 (2 ^ 79) (pow-pos 79) (refl, refl))) (smaller-product s))
       ∙ close-round binary64 n N (omega arith) total one close s
     where

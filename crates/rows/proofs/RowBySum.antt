@@ -12,7 +12,7 @@ use lib.Ieee.Exact.{HasValue}
 use lib.Ieee.Scale.{grid}
 use mir.Syntax.{w32, w64}
 use mir.Val.{SFits, toZ, ofZ}
-use Rattle.ieee.specs.Rounding.{rint, leastFloat, mostFloat, Within}
+use Rattle.ieee.specs.Rounding.{rint, leastFloat, mostFloat, InI32}
 use Rattle.ieee.proofs.SignedSizes.{Ordered}
 use Rattle.ieee.proofs.FloatOrder.{sizes-le}
 use Rattle.ieee.proofs.Magnitude.{sized}
@@ -43,7 +43,7 @@ in-least size unit h = omega arith
 in-most : (size unit : ℕ) → size ≤ mostRow * unit → size * 1 ≤ 2147483647 * unit
 in-most size unit h = omega arith
 
-pub product-within : (beat : Float) → T (allowedBeat beat) → Within (product beat)
+pub product-within : (beat : Float) → T (allowedBeat beat) → InI32 (product beat)
 product-within beat h =
     let z = sized 16 beat h in
     let s = z .negative in
@@ -64,7 +64,7 @@ product-within beat h =
 
 -- as the machine's integers: the casts lose nothing, and the difference is the row
 module _ (beat : Float) (h : T (allowedBeat beat)) where
-  within : Within (product beat)
+  within : InI32 (product beat)
   within = product-within beat h
 
   pub mark-number : T (not (isNan (rowMark beat)))

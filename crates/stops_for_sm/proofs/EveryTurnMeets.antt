@@ -10,8 +10,8 @@ use lib.Dec.{ltb}
 use lib.ListN.{length, getD}
 use lib.Ieee.{Float, nan, inf, lt, eq}
 use Rattle.picks.specs.Pick.{pick}
-use Rattle.stops_for_sm.specs.Merging.{Sources, Heads, lesser, leastBeat, meets, onward, beatHere, stopMet, delayMet, warpMet, turn, isOver, left, written, mergedWithin, merged}
-use Rattle.stops_for_sm.specs.Plain.{Numbers, Plain}
+use Rattle.stops_for_sm.specs.Merging.{Sources, Heads, lesser, leastBeat, meets, movedOn, beatHere, stopMet, delayMet, warpMet, turn, isOver, turnsLeft, sumWritten, mergedWithin, mergedStops}
+use Rattle.stops_for_sm.specs.Plain.{AllFinite, Plain}
 
 no {ℓ} : {A : Type ℓ} → false ≡ true → A
 no h = let z : _≡_ {A = ℕ} 0 1 = cc in absurd (omega arith)
@@ -34,12 +34,12 @@ compare least beats place = go (ltb place (length beats)) (lt (getD beats place 
     go false b e f = stays (is false b e f) (λ h. no (sym e ∙ h))
 
 -- a head on the least beat is met
-met : (beats : List Float) (place : ℕ) (beat : Float) → Numbers beats → ltb place (length beats) ≡ true → beat ≡ getD beats place nan → meets beats place beat ≡ true
+met : (beats : List Float) (place : ℕ) (beat : Float) → AllFinite beats → ltb place (length beats) ≡ true → beat ≡ getD beats place nan → meets beats place beat ≡ true
 unfolding meets
 met beats place beat n here e = rw (here, e) (n .same place (ltb-true place (length beats) here))
 
 -- no head is below infinity only where there is none
-none-here : (beats : List Float) (place : ℕ) → Numbers beats → (ltb place (length beats) ≡ true → lt (getD beats place nan) (inf false) ≡ false) → ltb place (length beats) ≡ false
+none-here : (beats : List Float) (place : ℕ) → AllFinite beats → (ltb place (length beats) ≡ true → lt (getD beats place nan) (inf false) ≡ false) → ltb place (length beats) ≡ false
 none-here beats place n h = go (ltb place (length beats)) refl
   where
     go : (a : Bool) → ltb place (length beats) ≡ a → a ≡ false
@@ -67,7 +67,7 @@ module _ (s : Sources) (h : Heads) where
     below : lt (beatHere s h) (inf false) ≡ true
     some : (stopMet s h ≡ true) ⊎ ((delayMet s h ≡ true) ⊎ (warpMet s h ≡ true))
 
-  on-head : (beats : List Float) (place : ℕ) → Numbers beats → ltb place (length beats) ≡ true → beatHere s h ≡ getD beats place nan → lt (beatHere s h) (inf false) ≡ true
+  on-head : (beats : List Float) (place : ℕ) → AllFinite beats → ltb place (length beats) ≡ true → beatHere s h ≡ getD beats place nan → lt (beatHere s h) (inf false) ≡ true
   on-head beats place n here e = rw e (n .below place (ltb-true place (length beats) here))
 
   over-or-met : Plain s → (isOver s h ≡ true) ⊎ Met
@@ -114,7 +114,7 @@ module _ (s : Sources) (h : Heads) (plain : Plain s) (more : isOver s h ≡ fals
 
   -- one entry fewer at least: of three lists, of which those that are met move on
   fewer : (a b c : Bool) (S D W p q r : ℕ) → (a ≡ true → p < S) → (b ≡ true → q < D) → (c ≡ true → r < W) → (a ≡ true) ⊎ ((b ≡ true) ⊎ (c ≡ true))
-      → (S + 1 - onward a p 2) / 2 + (D - onward b q 1) + (W - onward c r 1) < (S + 1 - p) / 2 + (D - q) + (W - r)
+      → (S + 1 - movedOn a p 2) / 2 + (D - movedOn b q 1) + (W - movedOn c r 1) < (S + 1 - p) / 2 + (D - q) + (W - r)
   fewer true true true S D W p q r f g k some = let x = f refl in let y = g refl in let z = k refl in omega arith
   fewer true true false S D W p q r f g k some = let x = f refl in let y = g refl in omega arith
   fewer true false true S D W p q r f g k some = let x = f refl in let z = k refl in omega arith
@@ -126,7 +126,7 @@ module _ (s : Sources) (h : Heads) (plain : Plain s) (more : isOver s h ≡ fals
   fewer false false false S D W p q r f g k (inr (inl e)) = no e
   fewer false false false S D W p q r f g k (inr (inr e)) = no e
 
-  pub left-falls : left s (turn s h .heads) < left s h
+  pub left-falls : turnsLeft s (turn s h .heads) < turnsLeft s h
   unfolding turn
   left-falls =
       fewer (stopMet s h) (delayMet s h) (warpMet s h) (length (s .stops)) (length (s .delayBeats)) (length (s .warpBeats)) (h .stop) (h .delay) (h .warp)
@@ -134,7 +134,7 @@ module _ (s : Sources) (h : Heads) (plain : Plain s) (more : isOver s h ≡ fals
 
 -- ---- the turns of the merge
 module _ (s : Sources) (plain : Plain s) where
-  enough : (f g : ℕ) (b : Bool) (h : Heads) → isOver s h ≡ b → left s h ≤ f → left s h ≤ g → mergedWithin f b s h ≡ mergedWithin g b s h
+  enough : (f g : ℕ) (b : Bool) (h : Heads) → isOver s h ≡ b → turnsLeft s h ≤ f → turnsLeft s h ≤ g → mergedWithin f b s h ≡ mergedWithin g b s h
   unfolding mergedWithin
   enough zero zero b h e p q = refl
   enough zero (suc g) false h e p q = let l = left-falls s h plain e in absurd (omega arith)
@@ -143,23 +143,23 @@ module _ (s : Sources) (plain : Plain s) where
   enough (suc f) zero true h e p q = refl
   enough (suc f) (suc g) false h e p q =
       let l = left-falls s h plain e in
-      ap (λ (x : List (Float × Float)). written (turn s h) ++ x) (enough f g (isOver s (turn s h .heads)) (turn s h .heads) refl (omega arith) (omega arith))
+      ap (λ (x : List (Float × Float)). sumWritten (turn s h) ++ x) (enough f g (isOver s (turn s h .heads)) (turn s h .heads) refl (omega arith) (omega arith))
   enough (suc f) (suc g) true h e p q = refl
 
-  pub merged-on : (h : Heads) → isOver s h ≡ false → merged s h ≡ written (turn s h) ++ merged s (turn s h .heads)
-  unfolding merged mergedWithin
-  merged-on h e = go (left s h) refl
+  pub merged-on : (h : Heads) → isOver s h ≡ false → mergedStops s h ≡ sumWritten (turn s h) ++ mergedStops s (turn s h .heads)
+  unfolding mergedStops mergedWithin
+  merged-on h e = go (turnsLeft s h) refl
     where
-      go : (f : ℕ) → left s h ≡ f → mergedWithin (left s h) (isOver s h) s h ≡ written (turn s h) ++ mergedWithin (left s (turn s h .heads)) (isOver s (turn s h .heads)) s (turn s h .heads)
+      go : (f : ℕ) → turnsLeft s h ≡ f → mergedWithin (turnsLeft s h) (isOver s h) s h ≡ sumWritten (turn s h) ++ mergedWithin (turnsLeft s (turn s h .heads)) (isOver s (turn s h .heads)) s (turn s h .heads)
       go zero q = let l = left-falls s h plain e in absurd (omega arith)
       go (suc f) q =
           let l = left-falls s h plain e in
-          rw (q, e) (ap (λ (x : List (Float × Float)). written (turn s h) ++ x) (enough f (left s (turn s h .heads)) (isOver s (turn s h .heads)) (turn s h .heads) refl (omega arith) (omega arith)))
+          rw (q, e) (ap (λ (x : List (Float × Float)). sumWritten (turn s h) ++ x) (enough f (turnsLeft s (turn s h .heads)) (isOver s (turn s h .heads)) (turn s h .heads) refl (omega arith) (omega arith)))
 
-  pub merged-end : (h : Heads) → isOver s h ≡ true → merged s h ≡ []
-  unfolding merged mergedWithin
-  merged-end h e = go (left s h) refl
+  pub merged-end : (h : Heads) → isOver s h ≡ true → mergedStops s h ≡ []
+  unfolding mergedStops mergedWithin
+  merged-end h e = go (turnsLeft s h) refl
     where
-      go : (f : ℕ) → left s h ≡ f → mergedWithin (left s h) (isOver s h) s h ≡ []
+      go : (f : ℕ) → turnsLeft s h ≡ f → mergedWithin (turnsLeft s h) (isOver s h) s h ≡ []
       go zero q = rw q
       go (suc f) q = rw (q, e)

@@ -11,7 +11,7 @@ use lib.Ieee.{Float, nan, inf, fin, lt, le, eq}
 use Rattle.picks.specs.Pick.{pick}
 use Rattle.stops_for_sm.specs.Merging.{Sources, Heads, lesser, leastBeat, meets, forward, beatHere, isOver}
 use Rattle.stops_for_sm.specs.InHand.{headAt, secondsAt}
-use Rattle.stops_for_sm.specs.Plain.{Numbers, Plain}
+use Rattle.stops_for_sm.specs.Plain.{AllFinite, Plain}
 use Rattle.stops_for_sm.proofs.TempoForward.{begun, over, later}
 
 never : {A : Type 0} → false ≡ true → A
@@ -54,7 +54,7 @@ module _ (beats : List Float) (place : ℕ) where
       go false = rw (not-least least)
 
   -- a head is finite where there is one
-  head-left : Numbers beats → lt (headAt beats place) (inf false) ≡ ltb place (length beats)
+  head-left : AllFinite beats → lt (headAt beats place) (inf false) ≡ ltb place (length beats)
   unfolding headAt lt
   head-left n = go (ltb place (length beats)) refl
     where
@@ -62,7 +62,7 @@ module _ (beats : List Float) (place : ℕ) where
       go true e = n .below place (ltb-true place (length beats) e)
       go false e = refl
 
-  head-first : Numbers beats → headAt beats place ≡ lesser (inf false) beats place
+  head-first : AllFinite beats → headAt beats place ≡ lesser (inf false) beats place
   unfolding headAt lesser
   head-first n = go (ltb place (length beats)) refl
     where

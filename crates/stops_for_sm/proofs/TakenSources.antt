@@ -17,8 +17,8 @@ use Rattle.limits.specs.Refusals.{lower, listNumber}
 use Rattle.limits.proofs.NoRefusal.{lower-none}
 use Rattle.limits.proofs.ListTaken.{Taken, list-taken}
 use Rattle.stops_for_sm.specs.Merging.{Sources}
-use Rattle.stops_for_sm.specs.Plain.{Numbers, Plain}
-use Rattle.stops_for_sm.specs.Filling.{isEven, beatsIn, valuesIn, flatNumber, listsNumber}
+use Rattle.stops_for_sm.specs.Plain.{AllFinite, Plain}
+use Rattle.stops_for_sm.specs.Filling.{isEven, beatsIn, valuesIn, flatNumber, sourcesNumber}
 
 no {ℓ} : {A : Type ℓ} → false ≡ true → A
 no h = let z : _≡_ {A = ℕ} 0 1 = cc in absurd (omega arith)
@@ -50,7 +50,7 @@ at k [] h i p = absurd (omega arith)
 at k (x ∷ list) h zero p = finite-in k x (first-two (inRange (upTo k) x) (allIn (upTo k) list) h .0)
 at k (x ∷ list) h (suc i) p = at k list (first-two (inRange (upTo k) x) (allIn (upTo k) list) h .1) i (le-of-suc-le-suc p)
 
-numbers : (k : ℕ) (list : List Float) → allIn (upTo k) list ≡ true → Numbers list
+numbers : (k : ℕ) (list : List Float) → allIn (upTo k) list ≡ true → AllFinite list
 numbers k list h = record { same = λ i p. at k list h i p .same; below = λ i p. at k list h i p .below }
 
 flat-at : (k j : ℕ) (list : List Float) → beatsIn (upTo k) list ≡ true → valuesIn (upTo j) list ≡ true → (i : ℕ) → i < length list → Finite (getD list i nan)
@@ -66,7 +66,7 @@ flat-at k j (x ∷ v ∷ list) h g (suc (suc i)) p =
 record FlatTaken (list : List Float) : Type 0 where
   few : length list ≤ 2048
   pairs : length list % 2 ≡ 0
-  plain : Numbers list
+  plain : AllFinite list
 
 by-tests : (long even beats values : Bool) → _≡_ {A = ℕ} (pick long 1 (pick even (pick beats (pick values 0 4) 3) 2)) 0 → (long ≡ false) × (even ≡ true) × (beats ≡ true) × (values ≡ true)
 by-tests false true true true h = (refl, refl, refl, refl)
@@ -91,8 +91,8 @@ pub record SourcesTaken (s : Sources) : Type 0 where
   pub delays : length (s .delayBeats) ≤ 1024
   pub warps : length (s .warpBeats) ≤ 1024
 
-pub sources-taken : (s : Sources) (size : ℕ) → listsNumber s size ≡ 0 → SourcesTaken s
-unfolding listsNumber
+pub sources-taken : (s : Sources) (size : ℕ) → sourcesNumber s size ≡ 0 → SourcesTaken s
+unfolding sourcesNumber
 sources-taken s size h =
     let tempos = listNumber (rangeOf Beat) (rangeOf Tempo) (s .tempoBeats) (s .tempoValues) in
     let flat = flatNumber (rangeOf Beat) (rangeOf Pause) (s .stops) in

@@ -14,7 +14,7 @@ use Rattle.limits.specs.Numbers.{rangeOf, inRange}
 use Rattle.limits.specs.Refusals.{lower, listNumber}
 use Rattle.order.specs.Order.{laid}
 use Rattle.columns.specs.Laying.{given}
-use Rattle.stops_for_sm.specs.Merging.{Sources, merged, atFirst}
+use Rattle.stops_for_sm.specs.Merging.{Sources, mergedStops, atFirst}
 use Rattle.stops_for_sm.specs.declared.Filled.{Filled}
 
 -- every beat, and every value, of a flat list
@@ -47,8 +47,8 @@ abbrev pub isOwn : Sources → Bool
 isOwn s = pick (eqb (length (s .delayBeats)) 0) (eqb (length (s .warpBeats)) 0) false
 
 -- the lowest number of the lists, the work list's size among them
-unfoldable pub listsNumber : Sources → ℕ → ℕ
-listsNumber s size =
+unfoldable pub sourcesNumber : Sources → ℕ → ℕ
+sourcesNumber s size =
     lower (lower (listNumber (rangeOf Beat) (rangeOf Tempo) (s .tempoBeats) (s .tempoValues)) (flatNumber (rangeOf Beat) (rangeOf Pause) (s .stops)))
     (lower (lower (listNumber (rangeOf Beat) (rangeOf Pause) (s .delayBeats) (s .delayValues)) (listNumber (rangeOf Beat) (rangeOf Value) (s .warpBeats) (s .warpLengths))) (pick (isEven size) 0 uneven))
 
@@ -59,14 +59,14 @@ lacksTempo s = pick (eqb (length (s .tempoBeats)) 0) (ltb 0 (length (s .warpBeat
 -- 8 for a warp and no tempo, and 7 for a result that is longer than its room, which is not asked then
 unfoldable pub resultNumber : Sources → ℕ → ℕ
 resultNumber s room =
-    pick (isOwn s) 0 (pick (lacksTempo s) noTempoGiven (pick (leb (length (merged s atFirst)) room) 0 noRoom))
+    pick (isOwn s) 0 (pick (lacksTempo s) noTempoGiven (pick (leb (length (mergedStops s atFirst)) room) 0 noRoom))
 
 unfoldable pub fillNumber : Sources → ℕ → ℕ
-fillNumber s size = pick (eqb (listsNumber s size) 0) (resultNumber s (size / 2)) (listsNumber s size)
+fillNumber s size = pick (eqb (sourcesNumber s size) 0) (resultNumber s (size / 2)) (sourcesNumber s size)
 
 -- what is written: nothing after a refusal, nor where the caller's list is the answer
 unfoldable pub filling : ℕ → Sources → List (Float × Float)
-filling number s = given number (pick (isOwn s) [] (merged s atFirst))
+filling number s = given number (pick (isOwn s) [] (mergedStops s atFirst))
 
 -- the one outcome: the number, the entries written, whether the caller's list is the answer, and the work list to its last place
 pub record StopsFilled (s : Sources) (outcome : Filled) (old new : List Float) : Type 0 where

@@ -18,8 +18,8 @@ abbrev pub secondsAt : List Float → ℕ → Float
 secondsAt tempoValues place = div binary32 sixty (getD tempoValues place nan)
 
 -- stops alone, from a place on
-abbrev pub alone : List Float → Sources
-alone stops = sources [] [] stops [] [] [] []
+abbrev pub stopsAlone : List Float → Sources
+stopsAlone stops = sources [] [] stops [] [] [] []
 
 abbrev pub atStop : ℕ → Heads
 atStop place = record { tempo = 0; stop = place; delay = 0; warp = 0 }

@@ -76,8 +76,8 @@ tempoPlace met tempoBeats place beat = pick met (forward tempoBeats place beat) 
 abbrev pub less : Bool → Float → Float → Float → Float
 less met sum tempo length = pick met (sub binary32 sum (mul binary32 (div binary32 sixty tempo) length)) sum
 
-abbrev pub onward : Bool → ℕ → ℕ → ℕ
-onward met place by = pick met (place + by) place
+abbrev pub movedOn : Bool → ℕ → ℕ → ℕ
+movedOn met place by = pick met (place + by) place
 
 -- ---- one turn: the least beat, its sum, and the heads after it
 module _ (s : Sources) (h : Heads) where
@@ -96,19 +96,19 @@ module _ (s : Sources) (h : Heads) where
   abbrev pub tempoHere : ℕ
   tempoHere = tempoPlace warpMet (s .tempoBeats) (h .tempo) beatHere
 
-  abbrev pub pauses : Float
-  pauses = plus delayMet (plus stopMet plusZero (getD (s .stops) (h .stop + 1) nan)) (getD (s .delayValues) (h .delay) nan)
+  abbrev pub pausesMet : Float
+  pausesMet = plus delayMet (plus stopMet plusZero (getD (s .stops) (h .stop + 1) nan)) (getD (s .delayValues) (h .delay) nan)
 
   unfoldable pub turn : Turned
   turn = record {
     heads = record {
       tempo = tempoHere;
-      stop = onward stopMet (h .stop) 2;
-      delay = onward delayMet (h .delay) 1;
-      warp = onward warpMet (h .warp) 1;
+      stop = movedOn stopMet (h .stop) 2;
+      delay = movedOn delayMet (h .delay) 1;
+      warp = movedOn warpMet (h .warp) 1;
     };
     beat = beatHere;
-    value = less warpMet pauses (getD (s .tempoValues) tempoHere nan) (getD (s .warpLengths) (h .warp) nan);
+    value = less warpMet pausesMet (getD (s .tempoValues) tempoHere nan) (getD (s .warpLengths) (h .warp) nan);
   }
 
   -- no list has a head
@@ -116,21 +116,21 @@ module _ (s : Sources) (h : Heads) where
   isOver = pick (ltb (h .stop) (length (s .stops))) false (pick (ltb (h .delay) (length (s .delayBeats))) false (pick (ltb (h .warp) (length (s .warpBeats))) false true))
 
   -- how many turns there are at most: one for each entry
-  abbrev pub left : ℕ
-  left = (length (s .stops) + 1 - h .stop) / 2 + (length (s .delayBeats) - h .delay) + (length (s .warpBeats) - h .warp)
+  abbrev pub turnsLeft : ℕ
+  turnsLeft = (length (s .stops) + 1 - h .stop) / 2 + (length (s .delayBeats) - h .delay) + (length (s .warpBeats) - h .warp)
 
 -- a sum of zero is dropped
-unfoldable pub written : Turned → List (Float × Float)
-written turned = pick (ne (turned .value) plusZero) ((turned .beat, turned .value) ∷ []) []
+unfoldable pub sumWritten : Turned → List (Float × Float)
+sumWritten turned = pick (ne (turned .value) plusZero) ((turned .beat, turned .value) ∷ []) []
 
 -- with so many turns at most; the flag says whether it is over
 unfoldable pub mergedWithin : ℕ → Bool → Sources → Heads → List (Float × Float)
 mergedWithin zero over s h = []
 mergedWithin (suc most) true s h = []
-mergedWithin (suc most) false s h = written (turn s h) ++ mergedWithin most (isOver s (turn s h .heads)) s (turn s h .heads)
+mergedWithin (suc most) false s h = sumWritten (turn s h) ++ mergedWithin most (isOver s (turn s h .heads)) s (turn s h .heads)
 
-unfoldable pub merged : Sources → Heads → List (Float × Float)
-merged s h = mergedWithin (left s h) (isOver s h) s h
+unfoldable pub mergedStops : Sources → Heads → List (Float × Float)
+mergedStops s h = mergedWithin (turnsLeft s h) (isOver s h) s h
 
 abbrev pub atFirst : Heads
 atFirst = record { tempo = 0; stop = 0; delay = 0; warp = 0 }

@@ -11,10 +11,10 @@ ghost use Rattle.ieee.specs.Constants.{plusZero};
 ghost use Rattle.picks.specs.Pick.{pick};
 ghost use Rattle.limits.specs.Numbers.{rangeOf};
 ghost use Rattle.order.specs.Order.{laid};
-ghost use Rattle.stops_for_sm.specs.Merging.{sources, meets, plus, forward, tempoPlace, less, onward, merged, atFirst};
-ghost use Rattle.stops_for_sm.specs.InHand.{headAt, secondsAt, alone, atStop};
-ghost use Rattle.stops_for_sm.specs.Plain.{Numbers, Plain};
-ghost use Rattle.stops_for_sm.specs.Filling.{beatsIn, valuesIn, isEven, flatNumber, flat, listsNumber, StopsFilled, chosen};
+ghost use Rattle.stops_for_sm.specs.Merging.{sources, meets, plus, forward, tempoPlace, less, movedOn, mergedStops, atFirst};
+ghost use Rattle.stops_for_sm.specs.InHand.{headAt, secondsAt, stopsAlone, atStop};
+ghost use Rattle.stops_for_sm.specs.Plain.{AllFinite, Plain};
+ghost use Rattle.stops_for_sm.specs.Filling.{beatsIn, valuesIn, isEven, flatNumber, flat, sourcesNumber, StopsFilled, chosen};
 
 // What filling the work list answers: the refusal number, the entries written, and whether the caller's own stops are the answer.
 #[repr(C)]
@@ -75,7 +75,7 @@ struct Passed {
 fn pass_stop(stops: &[f32], place: usize, head: f32, beat: f32) -> Passed
     requires { ⌜ (place < 2 ^ 63) × (place % 2 ≡ 0) × (length (now stops) % 2 ≡ 0) ⌝ }
     requires { ⌜ (head ≡ headAt (now stops) place) × (lt beat (inf false) ≡ true) ⌝ }
-    ensures { λ r. ⌜ (r .place ≡ onward (meets (now (stops .entry)) place beat) place 2) × (r .sum ≡ plus (meets (now (stops .entry)) place beat) plusZero (getD (now (stops .entry)) (place + 1) nan)) × (r .head ≡ headAt (now (stops .entry)) (r .place)) ⌝ }
+    ensures { λ r. ⌜ (r .place ≡ movedOn (meets (now (stops .entry)) place beat) place 2) × (r .sum ≡ plus (meets (now (stops .entry)) place beat) plusZero (getD (now (stops .entry)) (place + 1) nan)) × (r .head ≡ headAt (now (stops .entry)) (r .place)) ⌝ }
 {
     if head == beat {
         return Passed {
@@ -101,7 +101,7 @@ fn pass_delay(
 ) -> Passed
     requires { ⌜ (place < 2 ^ 63) × (length (now «delay_beats») ≡ length (now «delay_values»)) ⌝ }
     requires { ⌜ (head ≡ headAt (now «delay_beats») place) × (lt beat (inf false) ≡ true) ⌝ }
-    ensures { λ r. ⌜ (r .place ≡ onward (meets (now («delay_beats» .entry)) place beat) place 1) × (r .sum ≡ plus (meets (now («delay_beats» .entry)) place beat) sum (getD (now («delay_values» .entry)) place nan)) × (r .head ≡ headAt (now («delay_beats» .entry)) (r .place)) ⌝ }
+    ensures { λ r. ⌜ (r .place ≡ movedOn (meets (now («delay_beats» .entry)) place beat) place 1) × (r .sum ≡ plus (meets (now («delay_beats» .entry)) place beat) sum (getD (now («delay_values» .entry)) place nan)) × (r .head ≡ headAt (now («delay_beats» .entry)) (r .place)) ⌝ }
 {
     if head == beat {
         return Passed {
@@ -193,7 +193,7 @@ fn pass_warp(
     requires { ⌜ (tempo ≤ length (now «tempo_beats»)) × (place < 2 ^ 63) × (length (now «warp_beats») ≡ length (now «warp_lengths»)) ⌝ }
     requires { ⌜ (next ≡ headAt (now «tempo_beats») (tempo + 1)) × (seconds ≡ secondsAt (now «tempo_values») tempo) ⌝ }
     requires { ⌜ (head ≡ headAt (now «warp_beats») place) × (lt beat (inf false) ≡ true) ⌝ }
-    ensures { λ r. ⌜ (r .tempo ≡ tempoPlace (meets (now («warp_beats» .entry)) place beat) (now («tempo_beats» .entry)) tempo beat) × (r .place ≡ onward (meets (now («warp_beats» .entry)) place beat) place 1) × (r .sum ≡ less (meets (now («warp_beats» .entry)) place beat) sum (getD (now («tempo_values» .entry)) (r .tempo) nan) (getD (now («warp_lengths» .entry)) place nan)) ⌝ }
+    ensures { λ r. ⌜ (r .tempo ≡ tempoPlace (meets (now («warp_beats» .entry)) place beat) (now («tempo_beats» .entry)) tempo beat) × (r .place ≡ movedOn (meets (now («warp_beats» .entry)) place beat) place 1) × (r .sum ≡ less (meets (now («warp_beats» .entry)) place beat) sum (getD (now («tempo_values» .entry)) (r .tempo) nan) (getD (now («warp_lengths» .entry)) place nan)) ⌝ }
     ensures { λ r. ⌜ (r .next ≡ headAt (now («tempo_beats» .entry)) (r .tempo + 1)) × (r .seconds ≡ secondsAt (now («tempo_values» .entry)) (r .tempo)) × (r .head ≡ headAt (now («warp_beats» .entry)) (r .place)) ⌝ }
 {
     if head == beat {
@@ -236,10 +236,10 @@ fn lay_sum(work: &mut [f32], at: usize, beat: f32, value: f32) -> usize
 
 // The stops from a place on, behind the `count` numbers that are laid; how many numbers are laid then.
 fn lay_rest(stops: &[f32], from: usize, work: &mut [f32], count: usize) -> usize
-    requires { ⌜ Numbers (now stops) × (length (now stops) % 2 ≡ 0) × (from % 2 ≡ 0) × (from ≤ length (now stops) + 1) ⌝ }
-    requires { ⌜ (count ≤ length (now work)) × (count + length (flat (merged (alone (now stops)) (atStop from))) ≤ length (now work)) ⌝ }
-    ensures { λ r. ⌜ r ≡ count + length (flat (merged (alone (now (stops .entry))) (atStop from))) ⌝ }
-    ensures { λ _. ⌜ now (work .exit) ≡ laid (take count (now (work .entry)) ++ flat (merged (alone (now (stops .entry))) (atStop from))) (now (work .entry)) ⌝ }
+    requires { ⌜ AllFinite (now stops) × (length (now stops) % 2 ≡ 0) × (from % 2 ≡ 0) × (from ≤ length (now stops) + 1) ⌝ }
+    requires { ⌜ (count ≤ length (now work)) × (count + length (flat (mergedStops (stopsAlone (now stops)) (atStop from))) ≤ length (now work)) ⌝ }
+    ensures { λ r. ⌜ r ≡ count + length (flat (mergedStops (stopsAlone (now (stops .entry))) (atStop from))) ⌝ }
+    ensures { λ _. ⌜ now (work .exit) ≡ laid (take count (now (work .entry)) ++ flat (mergedStops (stopsAlone (now (stops .entry))) (atStop from))) (now (work .entry)) ⌝ }
 {
     let mut stop = from;
     let mut at = count;
@@ -261,9 +261,9 @@ fn lay_stops(
     work: &mut [f32],
 ) -> usize
     requires { ⌜ Plain (sources (now «tempo_beats») (now «tempo_values») (now stops) (now «delay_beats») (now «delay_values») (now «warp_beats») (now «warp_lengths»)) ⌝ }
-    requires { ⌜ length (flat (merged (sources (now «tempo_beats») (now «tempo_values») (now stops) (now «delay_beats») (now «delay_values») (now «warp_beats») (now «warp_lengths»)) atFirst)) ≤ length (now work) ⌝ }
-    ensures { λ r. ⌜ r ≡ length (flat (merged (sources (now («tempo_beats» .entry)) (now («tempo_values» .entry)) (now (stops .entry)) (now («delay_beats» .entry)) (now («delay_values» .entry)) (now («warp_beats» .entry)) (now («warp_lengths» .entry))) atFirst)) ⌝ }
-    ensures { λ _. ⌜ now (work .exit) ≡ laid (flat (merged (sources (now («tempo_beats» .entry)) (now («tempo_values» .entry)) (now (stops .entry)) (now («delay_beats» .entry)) (now («delay_values» .entry)) (now («warp_beats» .entry)) (now («warp_lengths» .entry))) atFirst)) (now (work .entry)) ⌝ }
+    requires { ⌜ length (flat (mergedStops (sources (now «tempo_beats») (now «tempo_values») (now stops) (now «delay_beats») (now «delay_values») (now «warp_beats») (now «warp_lengths»)) atFirst)) ≤ length (now work) ⌝ }
+    ensures { λ r. ⌜ r ≡ length (flat (mergedStops (sources (now («tempo_beats» .entry)) (now («tempo_values» .entry)) (now (stops .entry)) (now («delay_beats» .entry)) (now («delay_values» .entry)) (now («warp_beats» .entry)) (now («warp_lengths» .entry))) atFirst)) ⌝ }
+    ensures { λ _. ⌜ now (work .exit) ≡ laid (flat (mergedStops (sources (now («tempo_beats» .entry)) (now («tempo_values» .entry)) (now (stops .entry)) (now («delay_beats» .entry)) (now («delay_values» .entry)) (now («warp_beats» .entry)) (now («warp_lengths» .entry))) atFirst)) (now (work .entry)) ⌝ }
 {
     let mut tempo: usize = 0;
     let mut next = head_at(tempo_beats, 1);
@@ -328,7 +328,7 @@ fn has_room(
 ) -> bool
     requires { ⌜ Plain (sources (now «tempo_beats») (now «tempo_values») (now stops) (now «delay_beats») (now «delay_values») (now «warp_beats») (now «warp_lengths»)) ⌝ }
     requires { ⌜ (length (now stops) ≤ 2048) × (length (now «delay_beats») ≤ 1024) × (length (now «warp_beats») ≤ 1024) ⌝ }
-    ensures { λ r. ⌜ r ≡ leb (length (merged (sources (now («tempo_beats» .entry)) (now («tempo_values» .entry)) (now (stops .entry)) (now («delay_beats» .entry)) (now («delay_values» .entry)) (now («warp_beats» .entry)) (now («warp_lengths» .entry))) atFirst)) room ⌝ }
+    ensures { λ r. ⌜ r ≡ leb (length (mergedStops (sources (now («tempo_beats» .entry)) (now («tempo_values» .entry)) (now (stops .entry)) (now («delay_beats» .entry)) (now («delay_values» .entry)) (now («warp_beats» .entry)) (now («warp_lengths» .entry))) atFirst)) room ⌝ }
 {
     if (stops.len() + 1) / 2 + delay_beats.len() + warp_beats.len() <= room {
         return true;
@@ -422,7 +422,7 @@ fn lists_number(
     warp_lengths: &[f32],
     size: usize,
 ) -> u32
-    ensures { λ r. ⌜ r ≡ listsNumber (sources (now («tempo_beats» .entry)) (now («tempo_values» .entry)) (now (stops .entry)) (now («delay_beats» .entry)) (now («delay_values» .entry)) (now («warp_beats» .entry)) (now («warp_lengths» .entry))) size ⌝ }
+    ensures { λ r. ⌜ r ≡ sourcesNumber (sources (now («tempo_beats» .entry)) (now («tempo_values» .entry)) (now (stops .entry)) (now («delay_beats» .entry)) (now («delay_values» .entry)) (now («warp_beats» .entry)) (now («warp_lengths» .entry))) size ⌝ }
 {
     let tempos = limits_f32::list_number_f32(Kind::Beat, Kind::Tempo, tempo_beats, tempo_values);
     let own = flat_number(stops);

@@ -12,7 +12,7 @@ use Rattle.limits.specs.Neighbours.{neighbours, everyTwo}
 use Rattle.limits.proofs.Every.{every-rest}
 use Rattle.limits.proofs.EachTwo.{passes}
 use Rattle.order.specs.Entries.{entries}
-use Rattle.tidy_kept.specs.Passing.{Waiting, writes, comes, passed, written}
+use Rattle.tidy_kept.specs.Passing.{Waiting, writes, comes, entryPassed, stillWritten}
 use Rattle.tidy_kept.proofs.InOnePass.{state}
 
 module _ {B W : Type 0} (row : B → ℕ) (near : W → W → Bool) where
@@ -21,8 +21,8 @@ module _ {B W : Type 0} (row : B → ℕ) (near : W → W → Bool) where
   Apart x [] = Unit {0}
   Apart x (y ∷ list) = (row (x .0) < row (y .0)) × (near (y .1) (x .1) ≡ false) × Apart y list
 
-  pub all-written : (before : W) (x : B × W) (list : List (B × W)) → Apart x list → written row near (state true before (row (x .0)) x) list ≡ x ∷ list
-  unfolding written writes passed
+  pub all-written : (before : W) (x : B × W) (list : List (B × W)) → Apart x list → stillWritten row near (state true before (row (x .0)) x) list ≡ x ∷ list
+  unfolding stillWritten writes entryPassed
   all-written before x [] a = refl
   all-written before x (y ∷ list) a = rw (lt-ltb (row (x .0)) (row (y .0)) (a .0), a .1) (ap (_∷_ x) (all-written (x .1) y list (a .2)))
 

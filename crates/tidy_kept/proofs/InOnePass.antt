@@ -13,7 +13,7 @@ use Rattle.order.specs.Order.{run, neverFalls, NeverFalls, From, Above}
 use Rattle.order.proofs.Compare.{below?}
 use Rattle.order.proofs.OrderedList.{never-falls-yes}
 use Rattle.tidy_kept.specs.Keeping.{rowOf, onLastRow, keep}
-use Rattle.tidy_kept.specs.Passing.{Waiting, writes, comes, passed, written}
+use Rattle.tidy_kept.specs.Passing.{Waiting, writes, comes, entryPassed, stillWritten}
 
 -- a state, with the waiting entry as one
 abbrev pub state : {B W : Type 0} → Bool → W → ℕ → B × W → Waiting B W
@@ -54,25 +54,25 @@ module _ {B W : Type 0} (row : B → ℕ) (near : W → W → Bool) (none : W) (
   abbrev Written : List (B × W) → Type 0
   Written entries =
       (waits : Bool) (r : ℕ) (c : B × W) (kept : List (B × W)) → (waits ≡ true → r ≡ row (c .0)) → Later kept entries
-      → reverse (run (keep row near) (pick waits (c ∷ kept) kept) entries) ≡ reverseAux kept (written row near (state waits (top kept) r c) entries)
+      → reverse (run (keep row near) (pick waits (c ∷ kept) kept) entries) ≡ reverseAux kept (stillWritten row near (state waits (top kept) r c) entries)
 
   module _ (entries : List (B × W)) (so : Written entries) where
     -- the next entry waits, or no one does
     settle : (e c : B × W) (r : ℕ) (kept : List (B × W)) → Later kept entries → (close : Bool)
         → reverse (run (keep row near) (pick close kept (e ∷ kept)) entries)
-        ≡ reverseAux kept (written row near (pick close (state false (top kept) r c) (state true (top kept) (row (e .0)) e)) entries)
+        ≡ reverseAux kept (stillWritten row near (pick close (state false (top kept) r c) (state true (top kept) (row (e .0)) e)) entries)
     settle e c r kept h true = so false r c kept (λ p. let z : _≡_ {A = ℕ} 0 1 = cc in absurd (omega arith)) h
     settle e c r kept h false = so true (row (e .0)) e kept (λ p. refl) h
 
     on-row : (e c : B × W) (r : ℕ) (kept : List (B × W)) → r ≡ row (c .0) → Later kept entries → (close same : Bool) → near (e .1) (top kept) ≡ close
         → reverse (run (keep row near) (pick close kept (pick same (c ∷ kept) (e ∷ kept))) entries)
-        ≡ reverseAux kept (written row near (pick close (comes row near (top kept) (state true (top kept) r c) e) (pick same (state true (top kept) r c) (comes row near (top kept) (state true (top kept) r c) e))) entries)
+        ≡ reverseAux kept (stillWritten row near (pick close (comes row near (top kept) (state true (top kept) r c) e) (pick same (state true (top kept) r c) (comes row near (top kept) (state true (top kept) r c) e))) entries)
     on-row e c r kept w h true same n = rw n (settle e c r kept h true)
     on-row e c r kept w h false true n = so true r c kept (λ p. w) h
     on-row e c r kept w h false false n = rw n (settle e c r kept h false)
 
   all-written : (entries : List (B × W)) → NeverFalls (rowOf row near) entries → Written entries
-  unfolding written writes passed run
+  unfolding stillWritten writes entryPassed run
   all-written [] n true r c kept w h = refl
   all-written [] n false r c kept w h = refl
   all-written (e ∷ entries) n false r c kept w h =
@@ -90,7 +90,7 @@ module _ {B W : Type 0} (row : B → ℕ) (near : W → W → Bool) (none : W) (
   ]
 
   pub in-one-pass : (r : ℕ) (c : B × W) (entries : List (B × W)) → neverFalls (rowOf row near) entries ≡ true
-      → reverse (run (keep row near) [] entries) ≡ written row near (state false none r c) entries
+      → reverse (run (keep row near) [] entries) ≡ stillWritten row near (state false none r c) entries
   in-one-pass r c entries n = all-written entries (never-falls-yes (rowOf row near) entries n) false r c [] (λ p. let z : _≡_ {A = ℕ} 0 1 = cc in absurd (omega arith)) tt
 
 -- no more are written than come
@@ -99,23 +99,23 @@ at-most-one true = omega arith
 at-most-one false = omega arith
 
 module _ {B W : Type 0} (row : B → ℕ) (near : W → W → Bool) where
-  few-so : (s : Waiting B W) (entries : List (B × W)) → length (written row near s entries) ≤ pick (s .waits) 1 0 + length entries
-  unfolding written writes
+  few-so : (s : Waiting B W) (entries : List (B × W)) → length (stillWritten row near s entries) ≤ pick (s .waits) 1 0 + length entries
+  unfolding stillWritten writes
   few-so s [] = go (s .waits)
     where
       go : (waits : Bool) → length {A = B × W} (pick waits ((s .beat, s .value) ∷ []) []) ≤ pick waits 1 0 + 0
       go true = omega arith
       go false = omega arith
-  few-so s (e ∷ entries) = go (s .waits) (ltb (s .row) (row (e .0))) (pick (passed row near s e .waits) 1 0) (at-most-one (passed row near s e .waits)) (few-so (passed row near s e) entries)
+  few-so s (e ∷ entries) = go (s .waits) (ltb (s .row) (row (e .0))) (pick (entryPassed row near s e .waits) 1 0) (at-most-one (entryPassed row near s e .waits)) (few-so (entryPassed row near s e) entries)
     where
-      go : (waits later : Bool) (k : ℕ) → k ≤ 1 → length (written row near (passed row near s e) entries) ≤ k + length entries
-          → length {A = B × W} (pick (pick waits later false) ((s .beat, s .value) ∷ written row near (passed row near s e) entries) (written row near (passed row near s e) entries))
+      go : (waits later : Bool) (k : ℕ) → k ≤ 1 → length (stillWritten row near (entryPassed row near s e) entries) ≤ k + length entries
+          → length {A = B × W} (pick (pick waits later false) ((s .beat, s .value) ∷ stillWritten row near (entryPassed row near s e) entries) (stillWritten row near (entryPassed row near s e) entries))
           ≤ pick waits 1 0 + suc (length entries)
       go true true k h l = omega arith
       go true false k h l = omega arith
       go false later k h l = omega arith
 
-  pub few-written : (s : Waiting B W) (entries : List (B × W)) → s .waits ≡ false → length (written row near s entries) ≤ length entries
+  pub few-written : (s : Waiting B W) (entries : List (B × W)) → s .waits ≡ false → length (stillWritten row near s entries) ≤ length entries
   few-written s entries h =
       let none-waits : pick {A = ℕ} (s .waits) 1 0 ≡ 0 = rw h refl in
       omega (arith, few-so s entries)

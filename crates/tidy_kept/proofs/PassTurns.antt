@@ -14,7 +14,7 @@ use Rattle.picks.specs.Pick.{pick}
 use Rattle.order.specs.Order.{run, neverFalls, mayPrecede}
 use Rattle.order.proofs.Compare.{below?}
 use Rattle.tidy_kept.specs.Keeping.{rowOf, placed, fallsWhile}
-use Rattle.tidy_kept.specs.Passing.{Waiting, writes, comes, passed, written}
+use Rattle.tidy_kept.specs.Passing.{Waiting, writes, comes, entryPassed, stillWritten}
 
 from-here : {A : Type 0} (l : List A) (i : ℕ) (d : A) → i < length l → drop i l ≡ getD l i d ∷ drop (i + 1) l
 from-here l i d h = rw (add-one i, drop-cons l i d h)
@@ -22,51 +22,51 @@ from-here l i d h = rw (add-one i, drop-cons l i d h)
 module _ {B W : Type 0} (row : B → ℕ) (near : W → W → Bool) where
   -- ---- entries in order
   module _ (s : Waiting B W) (e : B × W) where
-    pub passed-later : s .waits ≡ true → s .row < row (e .0) → passed row near s e ≡ comes row near (s .value) s e
-    unfolding passed
+    pub passed-later : s .waits ≡ true → s .row < row (e .0) → entryPassed row near s e ≡ comes row near (s .value) s e
+    unfolding entryPassed
     passed-later w h = rw (w, lt-ltb (s .row) (row (e .0)) h)
 
-    pub passed-away : s .waits ≡ true → row (e .0) ≤ s .row → near (e .1) (s .before) ≡ true → passed row near s e ≡ comes row near (s .before) s e
-    unfolding passed
+    pub passed-away : s .waits ≡ true → row (e .0) ≤ s .row → near (e .1) (s .before) ≡ true → entryPassed row near s e ≡ comes row near (s .before) s e
+    unfolding entryPassed
     passed-away w h n = rw (w, le-ltb (s .row) (row (e .0)) h, n)
 
-    pub passed-by : s .waits ≡ true → row (e .0) ≤ s .row → near (e .1) (s .before) ≡ false → near (e .1) (s .value) ≡ true → passed row near s e ≡ s
-    unfolding passed
+    pub passed-by : s .waits ≡ true → row (e .0) ≤ s .row → near (e .1) (s .before) ≡ false → near (e .1) (s .value) ≡ true → entryPassed row near s e ≡ s
+    unfolding entryPassed
     passed-by w h n m = rw (w, le-ltb (s .row) (row (e .0)) h, n, m)
 
-    pub passed-over : s .waits ≡ true → row (e .0) ≤ s .row → near (e .1) (s .before) ≡ false → near (e .1) (s .value) ≡ false → passed row near s e ≡ comes row near (s .before) s e
-    unfolding passed
+    pub passed-over : s .waits ≡ true → row (e .0) ≤ s .row → near (e .1) (s .before) ≡ false → near (e .1) (s .value) ≡ false → entryPassed row near s e ≡ comes row near (s .before) s e
+    unfolding entryPassed
     passed-over w h n m = rw (w, le-ltb (s .row) (row (e .0)) h, n, m)
 
-    pub passed-alone : s .waits ≡ false → passed row near s e ≡ comes row near (s .before) s e
-    unfolding passed
+    pub passed-alone : s .waits ≡ false → entryPassed row near s e ≡ comes row near (s .before) s e
+    unfolding entryPassed
     passed-alone w = rw w
 
   module _ (s : Waiting B W) (list : List (B × W)) (i : ℕ) (e d : B × W) (is : i < length list) (here : getD list i d ≡ e) where
-    pub writes-here : pick (s .waits) (ltb (s .row) (row (e .0))) false ≡ true → written row near s (drop i list) ≡ (s .beat, s .value) ∷ written row near (passed row near s e) (drop (i + 1) list)
-    unfolding written writes
+    pub writes-here : pick (s .waits) (ltb (s .row) (row (e .0))) false ≡ true → stillWritten row near s (drop i list) ≡ (s .beat, s .value) ∷ stillWritten row near (entryPassed row near s e) (drop (i + 1) list)
+    unfolding stillWritten writes
     writes-here w = rw (from-here list i d is, here, w)
 
-    pub waits-here : pick (s .waits) (ltb (s .row) (row (e .0))) false ≡ false → written row near s (drop i list) ≡ written row near (passed row near s e) (drop (i + 1) list)
-    unfolding written writes
+    pub waits-here : pick (s .waits) (ltb (s .row) (row (e .0))) false ≡ false → stillWritten row near s (drop i list) ≡ stillWritten row near (entryPassed row near s e) (drop (i + 1) list)
+    unfolding stillWritten writes
     waits-here w = rw (from-here list i d is, here, w)
 
   -- with what the code holds: the state that follows, the row, and whether the waiting entry is written
-  module _ (list : List (B × W)) (s next : Waiting B W) (i : ℕ) (e d : B × W) (inside : i < length list) (here : getD list i d ≡ e) (so : next ≡ passed row near s e)
+  module _ (list : List (B × W)) (s next : Waiting B W) (i : ℕ) (e d : B × W) (inside : i < length list) (here : getD list i d ≡ e) (so : next ≡ entryPassed row near s e)
       (k : ℕ) (is : k ≡ row (e .0)) (flag : Bool) (told : flag ≡ pick (s .waits) (ltb (s .row) k) false) where
-    pub turn-writes : flag ≡ true → written row near s (drop i list) ≡ (s .beat, s .value) ∷ written row near next (drop (i + 1) list)
+    pub turn-writes : flag ≡ true → stillWritten row near s (drop i list) ≡ (s .beat, s .value) ∷ stillWritten row near next (drop (i + 1) list)
     turn-writes f = rw so (writes-here s list i e d inside here (rw is at (sym told ∙ f)))
 
-    pub turn-waits : flag ≡ false → written row near s (drop i list) ≡ written row near next (drop (i + 1) list)
+    pub turn-waits : flag ≡ false → stillWritten row near s (drop i list) ≡ stillWritten row near next (drop (i + 1) list)
     turn-waits f = rw so (waits-here s list i e d inside here (rw is at (sym told ∙ f)))
 
   module _ (s : Waiting B W) (list : List (B × W)) (i : ℕ) (past : length list ≤ i) where
-    pub one-left : s .waits ≡ true → written row near s (drop i list) ≡ (s .beat, s .value) ∷ []
-    unfolding written
+    pub one-left : s .waits ≡ true → stillWritten row near s (drop i list) ≡ (s .beat, s .value) ∷ []
+    unfolding stillWritten
     one-left w = rw (drop-of-length-le list past, w)
 
-    pub none-left : s .waits ≡ false → written row near s (drop i list) ≡ []
-    unfolding written
+    pub none-left : s .waits ≡ false → stillWritten row near s (drop i list) ≡ []
+    unfolding stillWritten
     none-left w = rw (drop-of-length-le list past, w)
 
   -- ---- entries in no order

@@ -19,7 +19,7 @@ use Rattle.tidy_kept.specs.declared.Change.{Change}
 use Rattle.tidy_kept.specs.Keeping.{rowOf, placed, placedAfter, placedBetween, fallsWhile}
 use Rattle.tidy_kept.specs.Changing.{changeOf, spliced, splicedIn, countBy, Changed}
 use Rattle.tidy_kept.specs.Searching.{UpTo, placeAfter}
-use Rattle.tidy_kept.specs.Placing.{listed, PlacedOne, PlacedAll}
+use Rattle.tidy_kept.specs.Placing.{frontEntries, PlacedOne, PlacedAll}
 use Rattle.tidy_kept.proofs.PlacedByPlace.{nearAt, againstAt, changeBy, onRowAt}
 use Rattle.tidy_kept.proofs.ChangedRightly.{changed-rightly}
 use Rattle.tidy_kept.proofs.Searched.{found, reached}
@@ -36,25 +36,25 @@ module _ {B W : Type 0} (n : ℕ) (beats : List B) (values : List W) (few : n �
   even : length (take n beats) ≡ length (take n values)
   even = length-take-le n beats few ∙ sym (length-take-le n values few′)
 
-  pub length-listed : length (listed n beats values) ≡ n
+  pub length-listed : length (frontEntries n beats values) ≡ n
   length-listed = length-entries (take n beats) (take n values) even ∙ length-take-le n beats few
 
-  pub getD-listed : (i : ℕ) (b : B) (w : W) → i < n → getD (listed n beats values) i (b, w) ≡ (getD beats i b, getD values i w)
+  pub getD-listed : (i : ℕ) (b : B) (w : W) → i < n → getD (frontEntries n beats values) i (b, w) ≡ (getD beats i b, getD values i w)
   getD-listed i b w h = entries-getD (take n beats) (take n values) i b w even ∙ rw (getD-take n beats i b h, getD-take n values i w h)
 
-  pub listed-here : (i : ℕ) (b : B) (w : W) → i < n → drop i (listed n beats values) ≡ (getD beats i b, getD values i w) ∷ drop (i + 1) (listed n beats values)
-  listed-here i b w h = rw (add-one i, drop-cons (listed n beats values) i (b, w) (omega (arith, length-listed)), getD-listed i b w h)
+  pub listed-here : (i : ℕ) (b : B) (w : W) → i < n → drop i (frontEntries n beats values) ≡ (getD beats i b, getD values i w) ∷ drop (i + 1) (frontEntries n beats values)
+  listed-here i b w h = rw (add-one i, drop-cons (frontEntries n beats values) i (b, w) (omega (arith, length-listed)), getD-listed i b w h)
 
-  pub listed-end : (i : ℕ) → n ≤ i → drop i (listed n beats values) ≡ []
-  listed-end i h = let past : length (listed n beats values) ≤ i = omega (arith, length-listed) in drop-of-length-le (listed n beats values) past
+  pub listed-end : (i : ℕ) → n ≤ i → drop i (frontEntries n beats values) ≡ []
+  listed-end i h = let past : length (frontEntries n beats values) ≤ i = omega (arith, length-listed) in drop-of-length-le (frontEntries n beats values) past
 
 -- ---- one entry
 module _ {B W : Type 0} (row : B → ℕ) (near : W → W → Bool) (noBeat : B) (noValue : W) where
   module _ (n : ℕ) (beats : List B) (values : List W) (few : n ≤ length beats) (few′ : n ≤ length values) where
-    getD-in : (i : ℕ) (e : B × W) → i < n → getD (listed n beats values) i e ≡ (getD beats i noBeat, getD values i noValue)
+    getD-in : (i : ℕ) (e : B × W) → i < n → getD (frontEntries n beats values) i e ≡ (getD beats i noBeat, getD values i noValue)
     getD-in i e h = getD-listed n beats values few few′ i (e .0) (e .1) h ∙ rw (getD-other beats i (e .0) noBeat (omega arith), getD-other values i (e .1) noValue (omega arith))
 
-    near-in : (e : B × W) (i : ℕ) → nearAt row near e (listed n beats values) i ≡ pick (ltb i n) (near (e .1) (getD values i noValue)) false
+    near-in : (e : B × W) (i : ℕ) → nearAt row near e (frontEntries n beats values) i ≡ pick (ltb i n) (near (e .1) (getD values i noValue)) false
     near-in e i = elim (below? i n) [
       | inl h ↦ rw (length-listed n beats values few few′, lt-ltb i n h, getD-in i e h)
       | inr h ↦ rw (length-listed n beats values few few′, le-ltb i n h)
@@ -65,9 +65,9 @@ module _ {B W : Type 0} (row : B → ℕ) (near : W → W → Bool) (noBeat : B)
         → nearNext ≡ pick (ltb (at - 1 + 1) n) (near (e .1) (getD values (at - 1 + 1) noValue)) false
         → nearPrevious ≡ pick (ltb (pick o (at - 1 - 1) (at - 1)) n) (near (e .1) (getD values (pick o (at - 1 - 1) (at - 1)) noValue)) false
         → nearLast ≡ pick (ltb (at - 1) n) (near (e .1) (getD values (at - 1) noValue)) false
-        → (c : Change) → c ≡ changeOf at o nearNext nearPrevious nearLast → Changed row near e (listed n beats values) c
+        → (c : Change) → c ≡ changeOf at o nearNext nearPrevious nearLast → Changed row near e (frontEntries n beats values) c
     change-found e at u so some short o nearNext nearPrevious nearLast ho hn hp hl c hc =
-        let l = listed n beats values in
+        let l = frontEntries n beats values in
         let length-n : length (take n beats) ≡ n = length-take-le n beats few in
         let within : at ≤ n = omega (arith, u .within) in
         let row-so : onRowAt row near e l at ≡ o = rw (getD-in (at - 1) e (omega arith)) (sym ho) in
@@ -80,7 +80,7 @@ module _ {B W : Type 0} (row : B → ℕ) (near : W → W → Bool) (noBeat : B)
     pub change-by : (e : B × W) (at last against key lastKey : ℕ) → last ≡ at - 1 → key ≡ row (e .0) → lastKey ≡ row (getD beats last noBeat)
         → at ≡ placeAfter row noBeat (take n beats) key → neverFalls row (take n beats) ≡ true → 0 < n → n ≤ 1024 → (o nearNext nearPrevious nearLast : Bool) → o ≡ eqb lastKey key → against ≡ pick o (last - 1) last
         → nearNext ≡ pick (ltb (last + 1) n) (near (e .1) (getD values (last + 1) noValue)) false → nearPrevious ≡ pick (ltb against n) (near (e .1) (getD values against noValue)) false
-        → nearLast ≡ pick (ltb last n) (near (e .1) (getD values last noValue)) false → (c : Change) → c ≡ changeOf at o nearNext nearPrevious nearLast → Changed row near e (listed n beats values) c
+        → nearLast ≡ pick (ltb last n) (near (e .1) (getD values last noValue)) false → (c : Change) → c ≡ changeOf at o nearNext nearPrevious nearLast → Changed row near e (frontEntries n beats values) c
     change-by e at last against key lastKey l k lk u so some short o nearNext nearPrevious nearLast ho ha hn hp hl c hc =
         change-found e at (rw (u ∙ ap (placeAfter row noBeat (take n beats)) k) (found row noBeat (take n beats) (row (e .0)) so)) so some short o nearNext nearPrevious nearLast (ho ∙ rw (lk, l, k)) (hn ∙ rw l) (hp ∙ rw (ha, l)) (hl ∙ rw l) c hc
 
@@ -92,11 +92,11 @@ module _ {B W : Type 0} (row : B → ℕ) (near : W → W → Bool) (noBeat : B)
   placed-first e (b ∷ beats) (v ∷ values) h k = record { few = omega arith; list = refl; falling = refl }
 
   module _ (e : B × W) (n : ℕ) (beats : List B) (values : List W) (room : n < length beats) (same : length beats ≡ length values) (c : Change)
-      (so : Changed row near e (listed n beats values) c) where
-    size : length (listed n beats values) ≡ n
+      (so : Changed row near e (frontEntries n beats values) c) where
+    size : length (frontEntries n beats values) ≡ n
     size = length-listed n beats values (omega arith) (omega arith)
 
-    value-so : (moves : Bool) → c .moves ≡ moves → pick moves (getD values (c .high - 1) noValue) (e .1) ≡ pick moves (getD (listed n beats values) (c .high - 1) e .1) (e .1)
+    value-so : (moves : Bool) → c .moves ≡ moves → pick moves (getD values (c .high - 1) noValue) (e .1) ≡ pick moves (getD (frontEntries n beats values) (c .high - 1) e .1) (e .1)
     value-so true m =
         let some : 0 < c .high = so .moving m in
         let inside : c .high - 1 < n = omega (arith, so .high, size) in
@@ -114,7 +114,7 @@ module _ {B W : Type 0} (row : B → ℕ) (near : W → W → Bool) (noBeat : B)
           list =
               rw (many, taken-spliced n (c .low) (c .high) (c .comes) (e .0) beats room (so .low) high-fits, taken-spliced n (c .low) (c .high) (c .comes) v values (omega arith) (so .low) high-fits)
               (entries-spliced (c .low) (c .high) (c .comes) (e .0) v (take n beats) (take n values) (even n beats values (omega arith) (omega arith))
-              ∙ ap (λ (w : W). spliced (c .low) (c .high) (c .comes) (e .0, w) (listed n beats values)) (is ∙ value-so (c .moves) refl) ∙ sym (so .places));
+              ∙ ap (λ (w : W). spliced (c .low) (c .high) (c .comes) (e .0, w) (frontEntries n beats values)) (is ∙ value-so (c .moves) refl) ∙ sym (so .places));
           falling = told ∙ so .falling;
         }
       where
@@ -128,9 +128,9 @@ module _ {B W : Type 0} (row : B → ℕ) (near : W → W → Bool) where
   pub record PlacingAll (given : List (B × W)) (keptBeats : List B) (keptValues : List W) (count : ℕ) (flag : Bool) (i : ℕ) : Type 0 where
     pub upTo : i ≤ length given
     pub few : count ≤ i
-    pub falling : flag ≡ not (neverFalls (rowOf row near) (listed count keptBeats keptValues))
-    pub places : run (placed row near) (listed count keptBeats keptValues) (drop i given) ≡ run (placed row near) [] given
-    pub falls : fallsWhile row near (listed count keptBeats keptValues) (drop i given) ≡ fallsWhile row near [] given
+    pub falling : flag ≡ not (neverFalls (rowOf row near) (frontEntries count keptBeats keptValues))
+    pub places : run (placed row near) (frontEntries count keptBeats keptValues) (drop i given) ≡ run (placed row near) [] given
+    pub falls : fallsWhile row near (frontEntries count keptBeats keptValues) (drop i given) ≡ fallsWhile row near [] given
 
   pub placing-none : (given : List (B × W)) (keptBeats : List B) (keptValues : List W) → PlacingAll given keptBeats keptValues 0 false 0
   unfolding neverFalls entries
@@ -146,7 +146,7 @@ module _ {B W : Type 0} (row : B → ℕ) (near : W → W → Bool) where
 
   module _ (given : List (B × W)) (keptBeats : List B) (keptValues : List W) (count : ℕ) (flag : Bool) (i : ℕ) (p : PlacingAll given keptBeats keptValues count flag i) where
     abbrev list : List (B × W)
-    list = listed count keptBeats keptValues
+    list = frontEntries count keptBeats keptValues
 
     stands : flag ≡ false → neverFalls (rowOf row near) list ≡ true
     stands f = unfallen flag (neverFalls (rowOf row near) list) f (p .falling)

@@ -26,8 +26,8 @@ module _ {B W : Type 0} (row : B → ℕ) (near : W → W → Bool) where
       (record { before = before; waits = false; row = s .row; beat = s .beat; value = s .value })
       (record { before = before; waits = true; row = row (e .0); beat = e .0; value = e .1 })
 
-  unfoldable pub passed : Waiting B W → B × W → Waiting B W
-  passed s e =
+  unfoldable pub entryPassed : Waiting B W → B × W → Waiting B W
+  entryPassed s e =
       pick (s .waits)
       (pick (ltb (s .row) (row (e .0)))
       (comes (s .value) s e)
@@ -37,6 +37,6 @@ module _ {B W : Type 0} (row : B → ℕ) (near : W → W → Bool) where
       (comes (s .before) s e)
 
   -- what is still to be written
-  unfoldable pub written : Waiting B W → List (B × W) → List (B × W)
-  written s [] = pick (s .waits) ((s .beat, s .value) ∷ []) []
-  written s (e ∷ entries) = pick (writes s e) ((s .beat, s .value) ∷ written (passed s e) entries) (written (passed s e) entries)
+  unfoldable pub stillWritten : Waiting B W → List (B × W) → List (B × W)
+  stillWritten s [] = pick (s .waits) ((s .beat, s .value) ∷ []) []
+  stillWritten s (e ∷ entries) = pick (writes s e) ((s .beat, s .value) ∷ stillWritten (entryPassed s e) entries) (stillWritten (entryPassed s e) entries)

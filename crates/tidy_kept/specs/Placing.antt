@@ -13,8 +13,8 @@ use Rattle.tidy_kept.specs.Keeping.{rowOf, placed, fallsWhile}
 
 module _ {B W : Type 0} where
   -- the first n entries of two columns
-  abbrev pub listed : ℕ → List B → List W → List (B × W)
-  listed n beats values = entries (take n beats) (take n values)
+  abbrev pub frontEntries : ℕ → List B → List W → List (B × W)
+  frontEntries n beats values = entries (take n beats) (take n values)
 
   module _ (row : B → ℕ) (near : W → W → Bool) where
     -- what placing alone refuses: more than 1,024 entries, then an entry placed in a kept list that falls
@@ -24,11 +24,11 @@ module _ {B W : Type 0} where
     -- an entry placed among the first n of two columns: then they hold `count`, and say whether these fall
     pub record PlacedOne (e : B × W) (n : ℕ) (beats : List B) (values : List W) (count : ℕ) (falls : Bool) (beatsNew : List B) (valuesNew : List W) : Type 0 where
       pub few : count ≤ n + 1
-      pub list : listed count beatsNew valuesNew ≡ placed row near e (listed n beats values)
-      pub falling : falls ≡ not (neverFalls (rowOf row near) (placed row near e (listed n beats values)))
+      pub list : frontEntries count beatsNew valuesNew ≡ placed row near e (frontEntries n beats values)
+      pub falling : falls ≡ not (neverFalls (rowOf row near) (placed row near e (frontEntries n beats values)))
 
     -- every entry placed
     pub record PlacedAll (list : List (B × W)) (count : ℕ) (falls : Bool) (beatsNew : List B) (valuesNew : List W) : Type 0 where
       pub falling : falls ≡ fallsWhile row near [] list
       pub few : count ≤ length list
-      pub all : falls ≡ false → listed count beatsNew valuesNew ≡ run (placed row near) [] list
+      pub all : falls ≡ false → frontEntries count beatsNew valuesNew ≡ run (placed row near) [] list

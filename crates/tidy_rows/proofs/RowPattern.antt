@@ -11,7 +11,7 @@ use lib.Ieee.{Float, binary64, add, toBits}
 use mir.Syntax.{w32, w64}
 use mir.Val.{toZ}
 use mir.ValLaws.{toZ-pos, toZ-ofZ}
-use Rattle.ieee.specs.Rounding.{rint, Within}
+use Rattle.ieee.specs.Rounding.{rint, InI32}
 use Rattle.ieee.proofs.Held.{held-within}
 use Rattle.ieee.proofs.RintBySum.{biasFloat, biasPattern, within-small, pattern-in64, difference-in64, difference-in32, difference32}
 use Rattle.rows.specs.Rows.{allowedBeat}
@@ -27,7 +27,7 @@ counted n h =
     (λ l. let more = le-ltb n biasPattern l in rw more (omega arith)) (below? n biasPattern)
 
 module _ (beat : Float) (h : T (allowedBeat beat)) where
-  within : Within (product beat)
+  within : InI32 (product beat)
   within = product-within beat h
 
   -- the pattern counts on from that of 1.5 * 2 ^ 52: its difference, without the machine's casts

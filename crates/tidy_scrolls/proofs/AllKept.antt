@@ -9,14 +9,14 @@ use Rattle.limits.specs.Neighbours.{everyTwo}
 use Rattle.order.specs.Entries.{entries}
 use Rattle.tidy_rows.specs.RowTidying.{rowKeyAt}
 use Rattle.tidy_kept.specs.Near.{nearTo, farFrom}
-use Rattle.tidy_kept.specs.Passing.{writes, passed, written}
+use Rattle.tidy_kept.specs.Passing.{writes, entryPassed, stillWritten}
 use Rattle.tidy_kept.proofs.NearNothing.{near-nothing}
 use Rattle.tidy_kept.proofs.AllApart.{all-written, columns-apart}
 use Rattle.tidy_by_rows.specs.ByMarks.{rowRises}
-use Rattle.tidy_scrolls.specs.Ways.{unheld}
+use Rattle.tidy_scrolls.specs.Ways.{noScrollHeld}
 
-pub every-kept : (beats values : List Float) → length beats ≡ length values → everyTwo rowRises beats ≡ true → everyTwo farFrom values ≡ true → written rowKeyAt nearTo unheld (entries beats values) ≡ entries beats values
-unfolding written writes passed entries
+pub every-kept : (beats values : List Float) → length beats ≡ length values → everyTwo rowRises beats ≡ true → everyTwo farFrom values ≡ true → stillWritten rowKeyAt nearTo noScrollHeld (entries beats values) ≡ entries beats values
+unfolding stillWritten writes entryPassed entries
 every-kept [] [] same r f = refl
 every-kept [] (v ∷ values) same r f = absurd (omega arith)
 every-kept (b ∷ beats) [] same r f = absurd (omega arith)

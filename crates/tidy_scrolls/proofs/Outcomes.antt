@@ -7,7 +7,7 @@ use lib.Dec.{ltb, eqb}
 use borrow.Author.Tests.{le-ltb}
 use Rattle.limits.specs.Numbers.{allIn}
 use Rattle.tidy_scrolls.specs.declared.Placed.{Placed}
-use Rattle.tidy_kept.specs.Placing.{listed, placingNumber, PlacedAll}
+use Rattle.tidy_kept.specs.Placing.{frontEntries, placingNumber, PlacedAll}
 use Rattle.tidy_kept.proofs.PlacedInColumns.{length-listed}
 use native.Mathlib.Omega.{arith}
 use lib.ListN.{length, length-map}
@@ -26,13 +26,13 @@ use Rattle.tidy_rows.specs.RowTidying.{rowKeyAt, onItsRow}
 use Rattle.tidy_rows.specs.Ways.{Laid}
 use Rattle.tidy_kept.specs.Near.{nearTo}
 use Rattle.tidy_kept.specs.Keeping.{rowOf, placed, fallsWhile}
-use Rattle.tidy_kept.specs.Passing.{written}
+use Rattle.tidy_kept.specs.Passing.{stillWritten}
 use Rattle.tidy_kept.proofs.Answered as answered
 use Rattle.tidy_kept.proofs.InOnePass.{in-one-pass, few-written}
 use Rattle.tidy_kept.proofs.ColumnsPlaced.{never-falls-entries}
 use Rattle.tidy_kept.proofs.NearNothing.{near-nothing}
 use Rattle.tidy_scrolls.specs.ScrollTidying.{tidyScrolls, scrollsNumber, ScrollsTidied}
-use Rattle.tidy_scrolls.specs.Ways.{unheld, writtenFrom}
+use Rattle.tidy_scrolls.specs.Ways.{noScrollHeld, writtenFrom}
 
 list-few : (long longer even beats values : Bool) → pick {A = ℕ} long 1 (pick longer 1 (pick even (pick beats (pick values 0 4) 3) 2)) ≤ 6
 list-few true longer even beats values = omega arith
@@ -73,9 +73,9 @@ module _ (beats values : List Float) where
       unfolding scrollsNumber
       ordered-number = answered.ordered-number rowKeyAt nearTo es tests none (rows-so ∙ ordered)
 
-      pub ordered-list : tidyScrolls beats values ≡ writtenFrom unheld es
+      pub ordered-list : tidyScrolls beats values ≡ writtenFrom noScrollHeld es
       unfolding tidyScrolls
-      ordered-list = ap (map onItsRow) (answered.ordered-list rowKeyAt nearTo es tests none (rows-so ∙ ordered) ∙ in-one-pass rowKeyAt nearTo nan near-nothing 0 (unheld .beat, unheld .value) es (rows-so ∙ ordered))
+      ordered-list = ap (map onItsRow) (answered.ordered-list rowKeyAt nearTo es tests none (rows-so ∙ ordered) ∙ in-one-pass rowKeyAt nearTo nan near-nothing 0 (noScrollHeld .beat, noScrollHeld .value) es (rows-so ∙ ordered))
 
     module _ (unordered : neverFalls rowKeyAt beats ≡ false) where
       pub placed-number : (falls : Bool) → falls ≡ fallsWhile rowKeyAt nearTo [] es → scrollsNumber beats values ≡ pick falls 6 0
@@ -94,14 +94,14 @@ module _ (beats values beatsOld valuesOld : List Float) where
 
   module _ (tests : listNumber (rangeOf Beat) (rangeOf Value) beats values ≡ 0) where
     module _ (ordered : neverFalls rowKeyAt beats ≡ true) where
-      kept-many : length (tidyScrolls beats values) ≡ length (written rowKeyAt nearTo unheld (entries beats values))
+      kept-many : length (tidyScrolls beats values) ≡ length (stillWritten rowKeyAt nearTo noScrollHeld (entries beats values))
       kept-many = ap length (ordered-list beats values tests ordered) ∙ simp length-map
 
-      pub ordered-refused : min (length beatsOld) (length valuesOld) < length (written rowKeyAt nearTo unheld (entries beats values)) → ScrollsTidied beats values (refusedBy 7) beatsOld beatsOld valuesOld valuesOld
+      pub ordered-refused : min (length beatsOld) (length valuesOld) < length (stillWritten rowKeyAt nearTo noScrollHeld (entries beats values)) → ScrollsTidied beats values (refusedBy 7) beatsOld beatsOld valuesOld valuesOld
       ordered-refused h = refused-for-room (scrollsNumber beats values) (tidyScrolls beats values) beatsOld valuesOld (ordered-number beats values tests ordered) (omega (arith, kept-many))
 
-      pub ordered-laid : (count : ℕ) (beatsNew valuesNew : List Float) → length (written rowKeyAt nearTo unheld (entries beats values)) ≤ min (length beatsOld) (length valuesOld)
-          → count ≡ length (written rowKeyAt nearTo unheld (entries beats values)) → Laid (writtenFrom unheld (entries beats values)) beatsOld beatsNew valuesOld valuesNew
+      pub ordered-laid : (count : ℕ) (beatsNew valuesNew : List Float) → length (stillWritten rowKeyAt nearTo noScrollHeld (entries beats values)) ≤ min (length beatsOld) (length valuesOld)
+          → count ≡ length (stillWritten rowKeyAt nearTo noScrollHeld (entries beats values)) → Laid (writtenFrom noScrollHeld (entries beats values)) beatsOld beatsNew valuesOld valuesNew
           → ScrollsTidied beats values (record { number = 0; count = count }) beatsOld beatsNew valuesOld valuesNew
       ordered-laid count beatsNew valuesNew h c l =
           taken (scrollsNumber beats values) (tidyScrolls beats values) beatsOld valuesOld count beatsNew valuesNew (ordered-number beats values tests ordered) (omega (arith, kept-many)) (c ∙ sym kept-many)
@@ -117,7 +117,7 @@ module _ (beats values beatsOld valuesOld : List Float) where
         zero-so : scrollsNumber beats values ≡ 0
         zero-so = placed-number beats values tests unordered false (sym f ∙ so .falling)
 
-        list-so : tidyScrolls beats values ≡ map onItsRow (listed (kept .count) keptBeats keptValues)
+        list-so : tidyScrolls beats values ≡ map onItsRow (frontEntries (kept .count) keptBeats keptValues)
         list-so = placed-list beats values tests unordered ∙ ap (map onItsRow) (sym (so .all f))
 
         many-so : length (tidyScrolls beats values) ≡ kept .count
@@ -126,11 +126,11 @@ module _ (beats values beatsOld valuesOld : List Float) where
         pub placed-refused : min (length beatsOld) (length valuesOld) < kept .count → ScrollsTidied beats values (refusedBy 7) beatsOld beatsOld valuesOld valuesOld
         placed-refused h = refused-for-room (scrollsNumber beats values) (tidyScrolls beats values) beatsOld valuesOld zero-so (omega (arith, many-so))
 
-        pub placed-laid : (beatsNew valuesNew : List Float) → kept .count ≤ min (length beatsOld) (length valuesOld) → Laid (map onItsRow (listed (kept .count) keptBeats keptValues)) beatsOld beatsNew valuesOld valuesNew
+        pub placed-laid : (beatsNew valuesNew : List Float) → kept .count ≤ min (length beatsOld) (length valuesOld) → Laid (map onItsRow (frontEntries (kept .count) keptBeats keptValues)) beatsOld beatsNew valuesOld valuesNew
             → ScrollsTidied beats values (record { number = 0; count = kept .count }) beatsOld beatsNew valuesOld valuesNew
         placed-laid beatsNew valuesNew h l =
             taken (scrollsNumber beats values) (tidyScrolls beats values) beatsOld valuesOld (kept .count) beatsNew valuesNew zero-so (omega (arith, many-so)) (sym many-so)
             (rw list-so (l .beatsAre)) (rw list-so (l .valuesAre))
 
-pub few-kept : (beats values : List Float) → length (written rowKeyAt nearTo unheld (entries beats values)) ≤ length (entries beats values)
-few-kept beats values = few-written rowKeyAt nearTo unheld (entries beats values) refl
+pub few-kept : (beats values : List Float) → length (stillWritten rowKeyAt nearTo noScrollHeld (entries beats values)) ≤ length (entries beats values)
+few-kept beats values = few-written rowKeyAt nearTo noScrollHeld (entries beats values) refl

@@ -13,7 +13,7 @@ use Rattle.order.proofs.Columns.{length-entries, entries-getD}
 use Rattle.tidy_rows.specs.RowTidying.{rowKeyAt, onItsRow}
 use Rattle.tidy_rows.specs.Ways.{Laid}
 use Rattle.tidy_kept.specs.Near.{nearTo}
-use Rattle.tidy_kept.specs.Passing.{Waiting, passed, written}
+use Rattle.tidy_kept.specs.Passing.{Waiting, entryPassed, stillWritten}
 use Rattle.tidy_kept.proofs.PassTurns as turns
 use Rattle.tidy_kept.proofs.FieldsLaid.{LayingField, field-none, field-room, field-more, field-count, field-all}
 
@@ -27,19 +27,19 @@ module _ (beats values : List Float) (same : length beats ≡ length values) whe
   pub here : (i : ℕ) → getD (entries beats values) i (nan, nan) ≡ at i
   here i = entries-getD beats values i nan nan same
 
-  module _ (s next : Waiting Float Float) (i : ℕ) (inside : i < length beats) (so : next ≡ passed rowKeyAt nearTo s (at i)) (row : ℕ) (is : row ≡ rowKeyAt (getD beats i nan))
+  module _ (s next : Waiting Float Float) (i : ℕ) (inside : i < length beats) (so : next ≡ entryPassed rowKeyAt nearTo s (at i)) (row : ℕ) (is : row ≡ rowKeyAt (getD beats i nan))
       (flag : Bool) (told : flag ≡ pick (s .waits) (ltb (s .row) row) false) where
-    pub turn-writes : flag ≡ true → written rowKeyAt nearTo s (drop i (entries beats values)) ≡ (s .beat, s .value) ∷ written rowKeyAt nearTo next (drop (i + 1) (entries beats values))
+    pub turn-writes : flag ≡ true → stillWritten rowKeyAt nearTo s (drop i (entries beats values)) ≡ (s .beat, s .value) ∷ stillWritten rowKeyAt nearTo next (drop (i + 1) (entries beats values))
     turn-writes = turns.turn-writes rowKeyAt nearTo (entries beats values) s next i (at i) (nan, nan) (omega (arith, many)) (here i) so row is flag told
 
-    pub turn-waits : flag ≡ false → written rowKeyAt nearTo s (drop i (entries beats values)) ≡ written rowKeyAt nearTo next (drop (i + 1) (entries beats values))
+    pub turn-waits : flag ≡ false → stillWritten rowKeyAt nearTo s (drop i (entries beats values)) ≡ stillWritten rowKeyAt nearTo next (drop (i + 1) (entries beats values))
     turn-waits = turns.turn-waits rowKeyAt nearTo (entries beats values) s next i (at i) (nan, nan) (omega (arith, many)) (here i) so row is flag told
 
   module _ (s : Waiting Float Float) (i : ℕ) (past : length beats ≤ i) where
-    pub ends-waiting : s .waits ≡ true → written rowKeyAt nearTo s (drop i (entries beats values)) ≡ (s .beat, s .value) ∷ []
+    pub ends-waiting : s .waits ≡ true → stillWritten rowKeyAt nearTo s (drop i (entries beats values)) ≡ (s .beat, s .value) ∷ []
     ends-waiting = turns.one-left rowKeyAt nearTo s (entries beats values) i (omega (arith, many))
 
-    pub ends : s .waits ≡ false → written rowKeyAt nearTo s (drop i (entries beats values)) ≡ []
+    pub ends : s .waits ≡ false → stillWritten rowKeyAt nearTo s (drop i (entries beats values)) ≡ []
     ends = turns.none-left rowKeyAt nearTo s (entries beats values) i (omega (arith, many))
 
 -- ---- entries laid over the fronts of two rooms, each on its row

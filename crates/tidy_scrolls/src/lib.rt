@@ -19,15 +19,15 @@ ghost use Rattle.tidy_rows.specs.RowTidying.{rowKeyAt, onRow, onItsRow};
 ghost use Rattle.tidy_rows.specs.Ways.{Laid};
 ghost use Rattle.tidy_by_rows.specs.ByMarks.{rowRises};
 ghost use Rattle.tidy_kept.specs.Near.{nearTo};
-ghost use Rattle.tidy_kept.specs.Passing.{comes, passed, written};
+ghost use Rattle.tidy_kept.specs.Passing.{comes, entryPassed, stillWritten};
 ghost use Rattle.tidy_kept.specs.Changing.{Changed};
-ghost use Rattle.tidy_kept.specs.Placing.{listed, PlacedOne, PlacedAll};
+ghost use Rattle.tidy_kept.specs.Placing.{frontEntries, PlacedOne, PlacedAll};
 ghost use Rattle.tidy_scrolls.specs.ScrollTidying.{ScrollsTidied};
-ghost use Rattle.tidy_scrolls.specs.Ways.{waiting, unheld, writtenFrom};
+ghost use Rattle.tidy_scrolls.specs.Ways.{scrollWaiting, noScrollHeld, writtenFrom};
 
 // ---- entries in order: no working memory
 
-// The value written last, and the entry that waits to be written, if one does.
+// The value stillWritten last, and the entry that waits to be stillWritten, if one does.
 struct Held {
     before: f64,
     waits: bool,
@@ -37,7 +37,7 @@ struct Held {
 }
 
 fn none_held() -> Held
-    ensures { λ r. ⌜ waiting r ≡ unheld ⌝ }
+    ensures { λ r. ⌜ scrollWaiting r ≡ noScrollHeld ⌝ }
 {
     Held {
         before: 0.0 / 0.0,
@@ -48,10 +48,10 @@ fn none_held() -> Held
     }
 }
 
-// An entry on a row from that of the waiting one on comes, after the value that is written last.
+// An entry on a row from that of the scrollWaiting one on comes, after the value that is stillWritten last.
 fn come(before: f64, held: Held, row: u32, beat: f64, value: f64) -> Held
     requires { ⌜ row ≡ rowKeyAt beat ⌝ }
-    ensures { λ r. ⌜ waiting r ≡ comes rowKeyAt nearTo before (waiting held) (beat, value) ⌝ }
+    ensures { λ r. ⌜ scrollWaiting r ≡ comes rowKeyAt nearTo before (scrollWaiting held) (beat, value) ⌝ }
 {
     if tidy_kept::near(value, before) {
         return Held {
@@ -71,7 +71,7 @@ fn come(before: f64, held: Held, row: u32, beat: f64, value: f64) -> Held
     }
 }
 
-// Whether the waiting entry is written when an entry on a row comes.
+// Whether the scrollWaiting entry is stillWritten when an entry on a row comes.
 fn writes(held: Held, row: u32) -> bool
     ensures { λ r. ⌜ r ≡ pick (held .waits) (ltb (held .row) row) false ⌝ }
 {
@@ -83,7 +83,7 @@ fn writes(held: Held, row: u32) -> bool
 
 fn pass(held: Held, row: u32, beat: f64, value: f64) -> Held
     requires { ⌜ row ≡ rowKeyAt beat ⌝ }
-    ensures { λ r. ⌜ waiting r ≡ passed rowKeyAt nearTo (waiting held) (beat, value) ⌝ }
+    ensures { λ r. ⌜ scrollWaiting r ≡ entryPassed rowKeyAt nearTo (scrollWaiting held) (beat, value) ⌝ }
 {
     if held.waits {
         if held.row < row {
@@ -102,7 +102,7 @@ fn pass(held: Held, row: u32, beat: f64, value: f64) -> Held
 
 fn count_kept(beats: &[f64], values: &[f64]) -> usize
     requires { ⌜ length (now beats) ≡ length (now values) ⌝ }
-    ensures { λ r. ⌜ r ≡ length (written rowKeyAt nearTo unheld (entries (now (beats .entry)) (now (values .entry)))) ⌝ }
+    ensures { λ r. ⌜ r ≡ length (stillWritten rowKeyAt nearTo noScrollHeld (entries (now (beats .entry)) (now (values .entry)))) ⌝ }
 {
     let mut held = none_held();
     let mut count = 0;
@@ -127,9 +127,9 @@ fn count_kept(beats: &[f64], values: &[f64]) -> usize
 
 fn lay_kept(beats: &[f64], values: &[f64], out_beats: &mut [f64], out_values: &mut [f64]) -> usize
     requires { ⌜ length (now beats) ≡ length (now values) ⌝ }
-    requires { ⌜ length (written rowKeyAt nearTo unheld (entries (now beats) (now values))) ≤ min (length (now «out_beats»)) (length (now «out_values»)) ⌝ }
-    ensures { λ r. ⌜ r ≡ length (written rowKeyAt nearTo unheld (entries (now (beats .entry)) (now (values .entry)))) ⌝ }
-    ensures { λ _. ⌜ Laid (writtenFrom unheld (entries (now (beats .entry)) (now (values .entry)))) (now («out_beats» .entry)) (now («out_beats» .exit)) (now («out_values» .entry)) (now («out_values» .exit)) ⌝ }
+    requires { ⌜ length (stillWritten rowKeyAt nearTo noScrollHeld (entries (now beats) (now values))) ≤ min (length (now «out_beats»)) (length (now «out_values»)) ⌝ }
+    ensures { λ r. ⌜ r ≡ length (stillWritten rowKeyAt nearTo noScrollHeld (entries (now (beats .entry)) (now (values .entry)))) ⌝ }
+    ensures { λ _. ⌜ Laid (writtenFrom noScrollHeld (entries (now (beats .entry)) (now (values .entry)))) (now («out_beats» .entry)) (now («out_beats» .exit)) (now («out_values» .entry)) (now («out_values» .exit)) ⌝ }
 {
     let mut held = none_held();
     let mut count = 0;
@@ -159,7 +159,7 @@ fn lay_kept(beats: &[f64], values: &[f64], out_beats: &mut [f64], out_values: &m
 // Whether the kept entries have room: counted only where there are more entries than room.
 fn fits(beats: &[f64], values: &[f64], room: usize) -> bool
     requires { ⌜ length (now beats) ≡ length (now values) ⌝ }
-    ensures { λ r. ⌜ r ≡ leb (length (written rowKeyAt nearTo unheld (entries (now (beats .entry)) (now (values .entry))))) room ⌝ }
+    ensures { λ r. ⌜ r ≡ leb (length (stillWritten rowKeyAt nearTo noScrollHeld (entries (now (beats .entry)) (now (values .entry))))) room ⌝ }
 {
     if beats.len() <= room {
         return true;
@@ -229,7 +229,7 @@ fn near_at(values: &[f64], n: usize, place: usize, value: f64) -> bool
 fn change_at(beats: &[f64], values: &[f64], n: usize, beat: f64, value: f64) -> Change
     requires { ⌜ (0 < n) × (n ≤ 1024) × (n ≤ length (now beats)) × (n ≤ length (now values)) ⌝ }
     requires { ⌜ neverFalls rowKeyAt (take n (now beats)) ≡ true ⌝ }
-    ensures { λ r. ⌜ Changed rowKeyAt nearTo (beat, value) (listed n (now (beats .entry)) (now (values .entry))) r ⌝ }
+    ensures { λ r. ⌜ Changed rowKeyAt nearTo (beat, value) (frontEntries n (now (beats .entry)) (now (values .entry))) r ⌝ }
 {
     let row = tidy_rows_sort::row_key(beat);
     let at = tidy_by_rows::place_after(&beats[..n], row);
@@ -332,7 +332,7 @@ fn lay_rows(
 )
     requires { ⌜ (count ≤ length (now beats)) × (count ≤ length (now values)) ⌝ }
     requires { ⌜ count ≤ min (length (now «out_beats»)) (length (now «out_values»)) ⌝ }
-    ensures { λ _. ⌜ Laid (map onItsRow (listed count (now (beats .entry)) (now (values .entry)))) (now («out_beats» .entry)) (now («out_beats» .exit)) (now («out_values» .entry)) (now («out_values» .exit)) ⌝ }
+    ensures { λ _. ⌜ Laid (map onItsRow (frontEntries count (now (beats .entry)) (now (values .entry)))) (now («out_beats» .entry)) (now («out_beats» .exit)) (now («out_values» .entry)) (now («out_values» .exit)) ⌝ }
 {
     let mut i = 0;
     while i < count {

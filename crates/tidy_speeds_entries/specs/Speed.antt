@@ -18,8 +18,8 @@ SpeedValue = Float × (Float × ℕ)
 abbrev pub SpeedEntry : Type 0
 SpeedEntry = Float × SpeedValue
 
-abbrev pub valueOf : Speed → SpeedValue
-valueOf s = (s .ratio, (s .delay, s .unit))
+abbrev pub speedValueOf : Speed → SpeedValue
+speedValueOf s = (s .ratio, (s .delay, s .unit))
 
 -- ratios near, delays near, and one unit
 unfoldable pub nearSpeed : SpeedValue → SpeedValue → Bool

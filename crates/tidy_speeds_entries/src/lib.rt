@@ -2,7 +2,7 @@
 ghost use mathlib.Core.Path.{_≡_};
 ghost use Prim.Native.Nat.{ℕ};
 ghost use Rattle.columns.specs.Each.{laidEach};
-ghost use Rattle.tidy_speeds_entries.specs.Speed.{valueOf, nearSpeed};
+ghost use Rattle.tidy_speeds_entries.specs.Speed.{speedValueOf, nearSpeed};
 ghost use Rattle.tidy_speeds_entries.specs.LaidSpeeds.{leastOf};
 
 // What holds from a beat on. Unit 0: the delay is in beats; 1: in seconds.
@@ -14,7 +14,7 @@ pub struct Speed {
 
 // Whether two speeds count as the same.
 pub fn near(a: Speed, b: Speed) -> bool
-    ensures { λ r. ⌜ r ≡ nearSpeed (valueOf a) (valueOf b) ⌝ }
+    ensures { λ r. ⌜ r ≡ nearSpeed (speedValueOf a) (speedValueOf b) ⌝ }
 {
     if tidy_kept::near(a.ratio, b.ratio) {
         if tidy_kept::near(a.delay, b.delay) {

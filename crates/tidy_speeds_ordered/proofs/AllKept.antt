@@ -10,11 +10,11 @@ use lib.Seq.{drop-cons}
 use lib.Ieee.{Float, nan}
 use Rattle.picks.specs.Pick.{pick}
 use Rattle.tidy_rows.specs.RowTidying.{rowKeyAt}
-use Rattle.tidy_kept.specs.Passing.{writes, passed, written}
+use Rattle.tidy_kept.specs.Passing.{writes, entryPassed, stillWritten}
 use Rattle.tidy_kept.proofs.AllApart.{Apart, all-written}
 use Rattle.tidy_speeds_entries.specs.Speed.{SpeedValue, SpeedEntry, nearSpeed, noSpeed}
 use Rattle.tidy_speeds_entries.proofs.NearNoSpeed.{near-no-speed}
-use Rattle.tidy_speeds_ordered.specs.OrderedSpeeds.{unheld, keptSpeeds}
+use Rattle.tidy_speeds_ordered.specs.OrderedSpeeds.{noSpeedHeld, keptSpeeds}
 
 module _ {B W : Type 0} (row : B → ℕ) (near : W → W → Bool) where
   -- up to place i, with the row of the entry before it
@@ -44,11 +44,11 @@ module _ {B W : Type 0} (row : B → ℕ) (near : W → W → Bool) where
       so-far-all h = p .rest (rw (drop-of-length-le list h) tt)
 
 pub first-kept : (x : SpeedEntry) (list : List SpeedEntry) → Apart rowKeyAt nearSpeed x list → keptSpeeds (x ∷ list) ≡ x ∷ list
-unfolding written writes passed
+unfolding stillWritten writes entryPassed
 first-kept x list a = rw (near-no-speed (x .1)) (all-written rowKeyAt nearSpeed noSpeed x list a)
 
 pub none-kept : (list : List SpeedEntry) → length list ≡ 0 → keptSpeeds list ≡ list
-unfolding written
+unfolding stillWritten
 none-kept [] h = refl
 none-kept (x ∷ list) h = absurd (omega arith)
 

@@ -15,13 +15,13 @@ use Rattle.tidy_speeds_entries.specs.Speed.{SpeedEntry, nearSpeed, noSpeed, spe
 use Rattle.tidy_speeds_entries.specs.LaidSpeeds.{leastOf, LaidSpeeds, LaidRooms}
 use Rattle.tidy_speeds_entries.proofs.Rooms.{refused-for-room, taken}
 use Rattle.tidy_speeds_entries.proofs.NearNoSpeed.{near-no-speed}
-use Rattle.tidy_speeds_ordered.specs.OrderedSpeeds.{unheld, keptSpeeds}
+use Rattle.tidy_speeds_ordered.specs.OrderedSpeeds.{noSpeedHeld, keptSpeeds}
 
 pub few-kept : (list : List SpeedEntry) → length (keptSpeeds list) ≤ length list
-few-kept list = few-written rowKeyAt nearSpeed unheld list refl
+few-kept list = few-written rowKeyAt nearSpeed noSpeedHeld list refl
 
 pub kept-in-order : (list : List SpeedEntry) → neverFalls (rowOf rowKeyAt nearSpeed) list ≡ true → reverse (run (keep rowKeyAt nearSpeed) [] list) ≡ keptSpeeds list
-kept-in-order list h = in-one-pass rowKeyAt nearSpeed noSpeed near-no-speed 0 (unheld .beat, noSpeed) list h
+kept-in-order list h = in-one-pass rowKeyAt nearSpeed noSpeed near-no-speed 0 (noSpeedHeld .beat, noSpeed) list h
 
 module _ (list : List SpeedEntry) (beatsOld ratiosOld delaysOld : List Float) (unitsOld : List ℕ) where
   many-rows : length (map speedOnRow (keptSpeeds list)) ≡ length (keptSpeeds list)

@@ -11,7 +11,7 @@ use lib.Seq.{drop-cons}
 use lib.Ieee.{Float, nan}
 use Rattle.picks.specs.Pick.{pick}
 use Rattle.tidy_rows.specs.RowTidying.{rowKeyAt}
-use Rattle.tidy_kept.specs.Passing.{Waiting, passed, written}
+use Rattle.tidy_kept.specs.Passing.{Waiting, entryPassed, stillWritten}
 use Rattle.tidy_kept.proofs.PassTurns.{turn-writes, turn-waits, one-left, none-left}
 use Rattle.tidy_speeds_entries.specs.Speed.{SpeedValue, SpeedEntry, nearSpeed, noSpeed, speedEntries}
 use Rattle.tidy_speeds_entries.specs.LaidSpeeds.{leastOf}
@@ -25,14 +25,14 @@ module _ (beats ratios delays : List Float) (units : List ℕ) (n : ℕ) (is : n
   many = many-speeds ratios delays units beats ∙ sym is
 
   module _ (s next : Waiting Float SpeedValue) (i : ℕ) (inside : i < n) (v : SpeedValue) (got : v ≡ (getD ratios i nan, (getD delays i nan, getD units i 0)))
-      (so : next ≡ passed rowKeyAt nearSpeed s (getD beats i nan, v)) (k : ℕ) (row : k ≡ rowKeyAt (getD beats i nan)) (flag : Bool) (told : flag ≡ pick (s .waits) (ltb (s .row) k) false) where
+      (so : next ≡ entryPassed rowKeyAt nearSpeed s (getD beats i nan, v)) (k : ℕ) (row : k ≡ rowKeyAt (getD beats i nan)) (flag : Bool) (told : flag ≡ pick (s .waits) (ltb (s .row) k) false) where
     here : getD es i (nan, noSpeed) ≡ (getD beats i nan, v)
     here = rw got (speed-here ratios delays units beats i (omega arith))
 
-    pub speed-writes : flag ≡ true → written rowKeyAt nearSpeed s (drop i es) ≡ (s .beat, s .value) ∷ written rowKeyAt nearSpeed next (drop (i + 1) es)
+    pub speed-writes : flag ≡ true → stillWritten rowKeyAt nearSpeed s (drop i es) ≡ (s .beat, s .value) ∷ stillWritten rowKeyAt nearSpeed next (drop (i + 1) es)
     speed-writes = turn-writes rowKeyAt nearSpeed es s next i (getD beats i nan, v) (nan, noSpeed) (omega (arith, many)) here so k row flag told
 
-    pub speed-waits : flag ≡ false → written rowKeyAt nearSpeed s (drop i es) ≡ written rowKeyAt nearSpeed next (drop (i + 1) es)
+    pub speed-waits : flag ≡ false → stillWritten rowKeyAt nearSpeed s (drop i es) ≡ stillWritten rowKeyAt nearSpeed next (drop (i + 1) es)
     speed-waits = turn-waits rowKeyAt nearSpeed es s next i (getD beats i nan, v) (nan, noSpeed) (omega (arith, many)) here so k row flag told
 
   -- the same where every entry is laid
@@ -43,8 +43,8 @@ module _ (beats ratios delays : List Float) (units : List ℕ) (n : ℕ) (is : n
   speed-end i h = let past : length es ≤ i = omega (arith, many) in drop-of-length-le es past
 
   module _ (s : Waiting Float SpeedValue) (i : ℕ) (past : n ≤ i) where
-    pub ends-waiting : s .waits ≡ true → written rowKeyAt nearSpeed s (drop i es) ≡ (s .beat, s .value) ∷ []
+    pub ends-waiting : s .waits ≡ true → stillWritten rowKeyAt nearSpeed s (drop i es) ≡ (s .beat, s .value) ∷ []
     ends-waiting = one-left rowKeyAt nearSpeed s es i (omega (arith, many))
 
-    pub ends : s .waits ≡ false → written rowKeyAt nearSpeed s (drop i es) ≡ []
+    pub ends : s .waits ≡ false → stillWritten rowKeyAt nearSpeed s (drop i es) ≡ []
     ends = none-left rowKeyAt nearSpeed s es i (omega (arith, many))

@@ -5,22 +5,22 @@ use mathlib.Core.List.{List, map}
 use lib.Ieee.{Float}
 use Rattle.ieee.specs.Constants.{plusZero}
 use Rattle.tidy_rows.specs.RowTidying.{rowKeyAt}
-use Rattle.tidy_kept.specs.Passing.{Waiting, written}
+use Rattle.tidy_kept.specs.Passing.{Waiting, stillWritten}
 use Rattle.columns.specs.declared.Outcome.{Outcome}
-use Rattle.tidy_speeds_entries.specs.Speed.{SpeedValue, SpeedEntry, valueOf, nearSpeed, noSpeed, speedEntries, speedOnRow}
+use Rattle.tidy_speeds_entries.specs.Speed.{SpeedValue, SpeedEntry, speedValueOf, nearSpeed, noSpeed, speedEntries, speedOnRow}
 use Rattle.tidy_speeds_entries.specs.LaidSpeeds.{LaidSpeeds}
 use Rattle.tidy_speeds_ordered.specs.declared.Held.{Held}
 
-abbrev pub waiting : Held → Waiting Float SpeedValue
-waiting s = record { before = valueOf (s .before); waits = s .waits; row = s .row; beat = s .beat; value = valueOf (s .value) }
+abbrev pub speedWaiting : Held → Waiting Float SpeedValue
+speedWaiting s = record { before = speedValueOf (s .before); waits = s .waits; row = s .row; beat = s .beat; value = speedValueOf (s .value) }
 
 -- before the first entry
-abbrev pub unheld : Waiting Float SpeedValue
-unheld = record { before = noSpeed; waits = false; row = 0; beat = plusZero; value = noSpeed }
+abbrev pub noSpeedHeld : Waiting Float SpeedValue
+noSpeedHeld = record { before = noSpeed; waits = false; row = 0; beat = plusZero; value = noSpeed }
 
 -- what is written, as it was given
 abbrev pub keptSpeeds : List SpeedEntry → List SpeedEntry
-keptSpeeds list = written rowKeyAt nearSpeed unheld list
+keptSpeeds list = stillWritten rowKeyAt nearSpeed noSpeedHeld list
 
 -- the one outcome: what is written, each on its row. Columns that differ in length are read as far as the shortest goes
 abbrev pub OrderedTidied : (beats ratios delays : List Float) (units : List ℕ) → Outcome → (beatsOld beatsNew ratiosOld ratiosNew delaysOld delaysNew : List Float) (unitsOld unitsNew : List ℕ) → Type 0

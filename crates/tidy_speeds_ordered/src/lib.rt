@@ -10,10 +10,10 @@ ghost use lib.ListN.{length, getD, set};
 ghost use lib.Ieee.{nan};
 ghost use Rattle.picks.specs.Pick.{pick};
 ghost use Rattle.tidy_rows.specs.RowTidying.{rowKeyAt, onRow};
-ghost use Rattle.tidy_kept.specs.Passing.{comes, passed};
-ghost use Rattle.tidy_speeds_entries.specs.Speed.{valueOf, nearSpeed, noSpeed, speedEntries, speedOnRow};
+ghost use Rattle.tidy_kept.specs.Passing.{comes, entryPassed};
+ghost use Rattle.tidy_speeds_entries.specs.Speed.{speedValueOf, nearSpeed, noSpeed, speedEntries, speedOnRow};
 ghost use Rattle.tidy_speeds_entries.specs.LaidSpeeds.{leastOf, LaidRooms};
-ghost use Rattle.tidy_speeds_ordered.specs.OrderedSpeeds.{waiting, unheld, keptSpeeds, OrderedTidied};
+ghost use Rattle.tidy_speeds_ordered.specs.OrderedSpeeds.{speedWaiting, noSpeedHeld, keptSpeeds, OrderedTidied};
 
 // The speed written last, and the entry that waits to be written, if one does.
 struct Held {
@@ -26,7 +26,7 @@ struct Held {
 
 // What no speed is near.
 fn no_speed() -> Speed
-    ensures { λ r. ⌜ valueOf r ≡ noSpeed ⌝ }
+    ensures { λ r. ⌜ speedValueOf r ≡ noSpeed ⌝ }
 {
     Speed {
         ratio: 0.0 / 0.0,
@@ -36,7 +36,7 @@ fn no_speed() -> Speed
 }
 
 fn none_held() -> Held
-    ensures { λ r. ⌜ waiting r ≡ unheld ⌝ }
+    ensures { λ r. ⌜ speedWaiting r ≡ noSpeedHeld ⌝ }
 {
     Held {
         before: no_speed(),
@@ -47,19 +47,19 @@ fn none_held() -> Held
     }
 }
 
-// An entry on a row from that of the waiting one on comes, after the speed that is written last.
+// An entry on a row from that of the speedWaiting one on comes, after the speed that is written last.
 fn come(before: Speed, held: Held, row: u32, beat: f64, value: Speed) -> Held
     requires { ⌜ row ≡ rowKeyAt beat ⌝ }
-    ensures { λ r. ⌜ waiting r ≡ comes rowKeyAt nearSpeed (valueOf before) (waiting held) (beat, valueOf value) ⌝ }
+    ensures { λ r. ⌜ speedWaiting r ≡ comes rowKeyAt nearSpeed (speedValueOf before) (speedWaiting held) (beat, speedValueOf value) ⌝ }
 {
-    let waiting = held.value;
+    let speedWaiting = held.value;
     if tidy_speeds_entries::near(value, before) {
         return Held {
             before: before,
             waits: false,
             row: held.row,
             beat: held.beat,
-            value: waiting,
+            value: speedWaiting,
         };
     }
     Held {
@@ -71,7 +71,7 @@ fn come(before: Speed, held: Held, row: u32, beat: f64, value: Speed) -> Held
     }
 }
 
-// Whether the waiting entry is written when an entry on a row comes.
+// Whether the speedWaiting entry is written when an entry on a row comes.
 fn writes(held: Held, row: u32) -> bool
     ensures { λ r. ⌜ r ≡ pick (held .waits) (ltb (held .row) row) false ⌝ }
 {
@@ -83,18 +83,18 @@ fn writes(held: Held, row: u32) -> bool
 
 fn pass(held: Held, row: u32, beat: f64, value: Speed) -> Held
     requires { ⌜ row ≡ rowKeyAt beat ⌝ }
-    ensures { λ r. ⌜ waiting r ≡ passed rowKeyAt nearSpeed (waiting held) (beat, valueOf value) ⌝ }
+    ensures { λ r. ⌜ speedWaiting r ≡ entryPassed rowKeyAt nearSpeed (speedWaiting held) (beat, speedValueOf value) ⌝ }
 {
     let before = held.before;
-    let waiting = held.value;
+    let speedWaiting = held.value;
     if held.waits {
         if held.row < row {
-            return come(waiting, held, row, beat, value);
+            return come(speedWaiting, held, row, beat, value);
         }
         if tidy_speeds_entries::near(value, before) {
             return come(before, held, row, beat, value);
         }
-        if tidy_speeds_entries::near(value, waiting) {
+        if tidy_speeds_entries::near(value, speedWaiting) {
             return held;
         }
         return come(before, held, row, beat, value);
@@ -104,7 +104,7 @@ fn pass(held: Held, row: u32, beat: f64, value: Speed) -> Held
 
 fn speed_at(ratios: &[f64], delays: &[f64], units: &[u8], i: usize) -> Speed
     requires { ⌜ (i < length (now ratios)) × (i < length (now delays)) × (i < length (now units)) ⌝ }
-    ensures { λ r. ⌜ valueOf r ≡ (getD (now (ratios .entry)) i nan, (getD (now (delays .entry)) i nan, getD (now (units .entry)) i 0)) ⌝ }
+    ensures { λ r. ⌜ speedValueOf r ≡ (getD (now (ratios .entry)) i nan, (getD (now (delays .entry)) i nan, getD (now (units .entry)) i 0)) ⌝ }
 {
     Speed {
         ratio: ratios[i],
@@ -183,7 +183,7 @@ fn lay_kept(
         let row = tidy_rows_sort::row_key(beats[i]);
         let next = pass(held, row, beats[i], speed_at(ratios, delays, units, i));
         if writes(held, row) {
-            let waiting = held.value;
+            let speedWaiting = held.value;
             write_speed(
                 out_beats,
                 out_ratios,
@@ -191,7 +191,7 @@ fn lay_kept(
                 out_units,
                 count,
                 held.beat,
-                waiting,
+                speedWaiting,
             );
             count += 1;
             held = next;
@@ -202,7 +202,7 @@ fn lay_kept(
         i += 1;
     }
     if held.waits {
-        let waiting = held.value;
+        let speedWaiting = held.value;
         write_speed(
             out_beats,
             out_ratios,
@@ -210,7 +210,7 @@ fn lay_kept(
             out_units,
             count,
             held.beat,
-            waiting,
+            speedWaiting,
         );
         return count + 1;
     }

@@ -12,7 +12,7 @@ use Rattle.order.specs.Order.{run}
 use Rattle.columns.specs.Laying.{refusedBy}
 use Rattle.tidy_rows.specs.RowTidying.{rowKeyAt}
 use Rattle.tidy_kept.specs.Keeping.{placed, fallsWhile}
-use Rattle.tidy_kept.specs.Placing.{listed, placingNumber, PlacedAll}
+use Rattle.tidy_kept.specs.Placing.{frontEntries, placingNumber, PlacedAll}
 use Rattle.tidy_kept.proofs.PlacedInColumns.{length-listed}
 use Rattle.tidy_speeds_entries.specs.Speed.{SpeedValue, SpeedEntry, nearSpeed, speedValues, speedOnRow}
 use Rattle.tidy_speeds_entries.specs.LaidSpeeds.{leastOf, LaidSpeeds, LaidRooms}
@@ -52,7 +52,7 @@ module _ (list : List SpeedEntry) (beatsOld ratiosOld delaysOld : List Float) (u
       zero-so : number ≡ 0
       zero-so = number-so ∙ rw (sym (so .falling) ∙ f)
 
-      list-so : result ≡ map speedOnRow (listed count keptBeats keptValues)
+      list-so : result ≡ map speedOnRow (frontEntries count keptBeats keptValues)
       list-so = ap (map speedOnRow) (sym (so .all f))
 
       many-so : length result ≡ count
@@ -62,6 +62,6 @@ module _ (list : List SpeedEntry) (beatsOld ratiosOld delaysOld : List Float) (u
       placed-refused h = refused-for-room number result beatsOld ratiosOld delaysOld unitsOld zero-so (omega (arith, many-so))
 
       pub placed-laid : (beatsNew ratiosNew delaysNew : List Float) (unitsNew : List ℕ) → count ≤ leastOf (length beatsOld) (length ratiosOld) (length delaysOld) (length unitsOld)
-          → LaidRooms (map speedOnRow (listed count keptBeats keptValues)) beatsOld beatsNew ratiosOld ratiosNew delaysOld delaysNew unitsOld unitsNew → LaidSpeeds number result (record { number = 0; count = count }) beatsOld beatsNew ratiosOld ratiosNew delaysOld delaysNew unitsOld unitsNew
+          → LaidRooms (map speedOnRow (frontEntries count keptBeats keptValues)) beatsOld beatsNew ratiosOld ratiosNew delaysOld delaysNew unitsOld unitsNew → LaidSpeeds number result (record { number = 0; count = count }) beatsOld beatsNew ratiosOld ratiosNew delaysOld delaysNew unitsOld unitsNew
       placed-laid beatsNew ratiosNew delaysNew unitsNew h l =
           taken number result beatsOld ratiosOld delaysOld unitsOld count beatsNew ratiosNew delaysNew unitsNew zero-so (omega (arith, many-so)) (sym many-so) (rw list-so l)

@@ -14,13 +14,13 @@ ghost use Rattle.order.specs.Order.{neverFalls};
 ghost use Rattle.tidy_rows.specs.RowTidying.{rowKeyAt, onRow};
 ghost use Rattle.tidy_kept.specs.Changing.{countBy, Changed};
 ghost use Rattle.tidy_kept.specs.Placing.{PlacedOne, PlacedAll};
-ghost use Rattle.tidy_speeds_entries.specs.Speed.{valueOf, nearSpeed, noSpeed, speedValues, speedEntries, speedOnRow};
+ghost use Rattle.tidy_speeds_entries.specs.Speed.{speedValueOf, nearSpeed, noSpeed, speedValues, speedEntries, speedOnRow};
 ghost use Rattle.tidy_speeds_entries.specs.LaidSpeeds.{leastOf, LaidRooms};
 ghost use Rattle.tidy_speeds_placed.specs.PlacedSpeeds.{listedSpeeds, PlacedTidied};
 
 fn speed_at(ratios: &[f64], delays: &[f64], units: &[u8], i: usize) -> Speed
     requires { ⌜ (i < length (now ratios)) × (i < length (now delays)) × (i < length (now units)) ⌝ }
-    ensures { λ r. ⌜ valueOf r ≡ getD (speedValues (now (ratios .entry)) (now (delays .entry)) (now (units .entry))) i noSpeed ⌝ }
+    ensures { λ r. ⌜ speedValueOf r ≡ getD (speedValues (now (ratios .entry)) (now (delays .entry)) (now (units .entry))) i noSpeed ⌝ }
 {
     Speed {
         ratio: ratios[i],
@@ -39,7 +39,7 @@ fn near_at(
     value: Speed,
 ) -> bool
     requires { ⌜ (n ≤ length (now ratios)) × (n ≤ length (now delays)) × (n ≤ length (now units)) ⌝ }
-    ensures { λ r. ⌜ r ≡ pick (ltb place n) (nearSpeed (valueOf value) (getD (speedValues (now (ratios .entry)) (now (delays .entry)) (now (units .entry))) place noSpeed)) false ⌝ }
+    ensures { λ r. ⌜ r ≡ pick (ltb place n) (nearSpeed (speedValueOf value) (getD (speedValues (now (ratios .entry)) (now (delays .entry)) (now (units .entry))) place noSpeed)) false ⌝ }
 {
     if place < n {
         return tidy_speeds_entries::near(value, speed_at(ratios, delays, units, place));
@@ -59,7 +59,7 @@ fn change_at(
     requires { ⌜ (0 < n) × (n ≤ 1024) × (n ≤ length (now beats)) ⌝ }
     requires { ⌜ (n ≤ length (now ratios)) × (n ≤ length (now delays)) × (n ≤ length (now units)) ⌝ }
     requires { ⌜ neverFalls rowKeyAt (take n (now beats)) ≡ true ⌝ }
-    ensures { λ r. ⌜ Changed rowKeyAt nearSpeed (beat, valueOf value) (listedSpeeds n (now (beats .entry)) (now (ratios .entry)) (now (delays .entry)) (now (units .entry))) r ⌝ }
+    ensures { λ r. ⌜ Changed rowKeyAt nearSpeed (beat, speedValueOf value) (listedSpeeds n (now (beats .entry)) (now (ratios .entry)) (now (delays .entry)) (now (units .entry))) r ⌝ }
 {
     let row = tidy_rows_sort::row_key(beat);
     let at = tidy_by_rows::place_after(&beats[..n], row);
@@ -85,7 +85,7 @@ fn change_at(
 fn speed_of(ratios: &[f64], delays: &[f64], units: &[u8], change: Change, value: Speed) -> Speed
     requires { ⌜ (change .moves ≡ true → 0 < change .high) ⌝ }
     requires { ⌜ (change .high ≤ length (now ratios)) × (change .high ≤ length (now delays)) × (change .high ≤ length (now units)) ⌝ }
-    ensures { λ r. ⌜ valueOf r ≡ pick (change .moves) (getD (speedValues (now (ratios .entry)) (now (delays .entry)) (now (units .entry))) (change .high - 1) noSpeed) (valueOf value) ⌝ }
+    ensures { λ r. ⌜ speedValueOf r ≡ pick (change .moves) (getD (speedValues (now (ratios .entry)) (now (delays .entry)) (now (units .entry))) (change .high - 1) noSpeed) (speedValueOf value) ⌝ }
 {
     if change.moves {
         return speed_at(ratios, delays, units, change.high - 1);
@@ -119,7 +119,7 @@ fn place_first(
     value: Speed,
 ) -> Placed
     requires { ⌜ (0 < length (now beats)) × (0 < length (now ratios)) × (0 < length (now delays)) × (0 < length (now units)) ⌝ }
-    ensures { λ r. ⌜ PlacedOne rowKeyAt nearSpeed (beat, valueOf value) 0 (now (beats .entry)) (speedValues (now (ratios .entry)) (now (delays .entry)) (now (units .entry))) (r .count) (r .falls) (now (beats .exit)) (speedValues (now (ratios .exit)) (now (delays .exit)) (now (units .exit))) ⌝ }
+    ensures { λ r. ⌜ PlacedOne rowKeyAt nearSpeed (beat, speedValueOf value) 0 (now (beats .entry)) (speedValues (now (ratios .entry)) (now (delays .entry)) (now (units .entry))) (r .count) (r .falls) (now (beats .exit)) (speedValues (now (ratios .exit)) (now (delays .exit)) (now (units .exit))) ⌝ }
 {
     beats[0] = beat;
     ratios[0] = value.ratio;
@@ -143,7 +143,7 @@ fn place_later(
     requires { ⌜ (0 < n) × (n < 1024) × (n < length (now beats)) ⌝ }
     requires { ⌜ (length (now beats) ≡ length (now ratios)) × (length (now beats) ≡ length (now delays)) × (length (now beats) ≡ length (now units)) ⌝ }
     requires { ⌜ neverFalls rowKeyAt (take n (now beats)) ≡ true ⌝ }
-    ensures { λ r. ⌜ PlacedOne rowKeyAt nearSpeed (beat, valueOf value) n (now (beats .entry)) (speedValues (now (ratios .entry)) (now (delays .entry)) (now (units .entry))) (r .count) (r .falls) (now (beats .exit)) (speedValues (now (ratios .exit)) (now (delays .exit)) (now (units .exit))) ⌝ }
+    ensures { λ r. ⌜ PlacedOne rowKeyAt nearSpeed (beat, speedValueOf value) n (now (beats .entry)) (speedValues (now (ratios .entry)) (now (delays .entry)) (now (units .entry))) (r .count) (r .falls) (now (beats .exit)) (speedValues (now (ratios .exit)) (now (delays .exit)) (now (units .exit))) ⌝ }
 {
     let change = change_at(beats, ratios, delays, units, n, beat, value);
     let comes = speed_of(ratios, delays, units, change, value);
@@ -183,7 +183,7 @@ fn place(
     requires { ⌜ (n < 1024) × (n < length (now beats)) ⌝ }
     requires { ⌜ (length (now beats) ≡ length (now ratios)) × (length (now beats) ≡ length (now delays)) × (length (now beats) ≡ length (now units)) ⌝ }
     requires { ⌜ neverFalls rowKeyAt (take n (now beats)) ≡ true ⌝ }
-    ensures { λ r. ⌜ PlacedOne rowKeyAt nearSpeed (beat, valueOf value) n (now (beats .entry)) (speedValues (now (ratios .entry)) (now (delays .entry)) (now (units .entry))) (r .count) (r .falls) (now (beats .exit)) (speedValues (now (ratios .exit)) (now (delays .exit)) (now (units .exit))) ⌝ }
+    ensures { λ r. ⌜ PlacedOne rowKeyAt nearSpeed (beat, speedValueOf value) n (now (beats .entry)) (speedValues (now (ratios .entry)) (now (delays .entry)) (now (units .entry))) (r .count) (r .falls) (now (beats .exit)) (speedValues (now (ratios .exit)) (now (delays .exit)) (now (units .exit))) ⌝ }
 {
     if n == 0 {
         return place_first(beats, ratios, delays, units, beat, value);

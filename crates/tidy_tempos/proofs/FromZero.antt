@@ -11,7 +11,7 @@ use Rattle.picks.specs.Pick.{pick}
 use Rattle.order.specs.Order.{laid}
 use Rattle.order.specs.Entries.{first, second}
 use Rattle.tidy_tempos.specs.TempoTidying.{fromZero}
-use Rattle.tidy_tempos.specs.Keeping.{isLast, keptAfter}
+use Rattle.tidy_tempos.specs.Keeping.{lastOfBeat, keptAfter}
 
 pub from-zero-length : (list : List (Float × Float)) → length (fromZero list) ≡ length list
 unfolding fromZero
@@ -36,10 +36,10 @@ other-than-nan (fin s m e) = refl
 
 -- there is a first one
 pub some-kept : (list : List (Float × Float)) → 0 < length list → 0 < length (keptAfter nan list)
-unfolding keptAfter isLast
+unfolding keptAfter lastOfBeat
 some-kept [] h = absurd (omega arith)
 some-kept (e ∷ []) h = rw (other-than-nan (e .1)) (omega arith)
-some-kept (e ∷ next ∷ list) h = go (isLast e (next ∷ list)) (some-kept (next ∷ list) (omega arith))
+some-kept (e ∷ next ∷ list) h = go (lastOfBeat e (next ∷ list)) (some-kept (next ∷ list) (omega arith))
   where
     go : (last : Bool) → 0 < length (keptAfter nan (next ∷ list))
         → 0 < length (pick last (pick (ne (e .1) nan) (e ∷ keptAfter (e .1) (next ∷ list)) (keptAfter nan (next ∷ list))) (keptAfter nan (next ∷ list)))

@@ -8,14 +8,14 @@ use lib.Ieee.{Float, nan, eq, ne, lt}
 use Rattle.picks.specs.Pick.{pick}
 
 -- whether an entry is the last of its beat, before the entries of a list
-unfoldable pub isLast : Float × Float → List (Float × Float) → Bool
-isLast e [] = true
-isLast e (next ∷ list) = not (eq (e .0) (next .0))
+unfoldable pub lastOfBeat : Float × Float → List (Float × Float) → Bool
+lastOfBeat e [] = true
+lastOfBeat e (next ∷ list) = not (eq (e .0) (next .0))
 
 -- of each beat the last entry, where its value is not that of the last kept one. After a NaN every value is kept
 unfoldable pub keptAfter : Float → List (Float × Float) → List (Float × Float)
 keptAfter value [] = []
-keptAfter value (e ∷ list) = pick (isLast e list) (pick (ne (e .1) value) (e ∷ keptAfter (e .1) list) (keptAfter value list)) (keptAfter value list)
+keptAfter value (e ∷ list) = pick (lastOfBeat e list) (pick (ne (e .1) value) (e ∷ keptAfter (e .1) list) (keptAfter value list)) (keptAfter value list)
 
 -- whether the entry at i is kept
 unfoldable pub keeps : List Float → List Float → ℕ → Float → Bool

@@ -4,20 +4,20 @@ use native.Mathlib.Omega.{arith}
 use lib.ListN.{length, getD}
 use lib.Ieee.{nan}
 use Rattle.limits.proofs.Every.{counted-start, miss-few}
-use Rattle.limits.specs.Neighbours.{neighbours, notAbove}
+use Rattle.limits.specs.Neighbours.{neighbours, notFalling}
 use Rattle.limits.proofs.EachTwo.{passes, CountedTwo, two-turn, two-end}
 use borrow.Author.Needs.{needs}
 use Rattle.assembly_rows.proofs.never_fall.Statement.{statement}
 use Rattle.assembly_rows.proofs.never_fall.Tie as tie
 
 abbrev Inv-loop : tie.InvT-loop
-Inv-loop beats fail₀ i₀ fail i = (i ≤ length beats) × CountedTwo notAbove beats i fail
+Inv-loop beats fail₀ i₀ fail i = (i ≤ length beats) × CountedTwo notFalling beats i fail
 
 abbrev μ-loop : tie.MeasureT-loop
 μ-loop beats fail₀ i₀ fail i = length beats - i
 
 loop-holds : tie.Need-loop-holds Inv-loop μ-loop
-loop-holds c = (omega arith, counted-start (passes notAbove) (neighbours (c .before .args .beats .now)))
+loop-holds c = (omega arith, counted-start (passes notFalling) (neighbours (c .before .args .beats .now)))
 
 add-loop : tie.Need-add-loop Inv-loop μ-loop
 add-loop c = search needs
@@ -41,7 +41,7 @@ above-requires : tie.Need-above-requires Inv-loop μ-loop
 above-requires c κs = search needs
 
 add-fail : tie.Need-add-fail Inv-loop μ-loop
-add-fail c = record { fits = omega (arith, c .before .before .before .before .loop .inv .1 .few, c .above .ensures, miss-few (passes notAbove) (getD (c .before .before .before .before .before .before .args .beats .now) (c .before .before .before .before .loop .i) nan, getD (c .before .before .before .before .before .before .args .beats .now) (c .before .before .before .before .loop .i + 1) nan)) }
+add-fail c = record { fits = omega (arith, c .before .before .before .before .loop .inv .1 .few, c .above .ensures, miss-few (passes notFalling) (getD (c .before .before .before .before .before .before .args .beats .now) (c .before .before .before .before .loop .i) nan, getD (c .before .before .before .before .before .before .args .beats .now) (c .before .before .before .before .loop .i + 1) nan)) }
 
 add-i : tie.Need-add-i Inv-loop μ-loop
 add-i c = search needs
@@ -50,10 +50,10 @@ loop-less : tie.Need-loop-less Inv-loop μ-loop
 loop-less c = search needs
 
 loop-again : tie.Need-loop-again Inv-loop μ-loop
-loop-again c = (omega arith, two-turn notAbove nan (c .before .before .before .before .before .before .args .beats .now) (c .above .result) (c .before .before .before .loop-test .taken) (c .above .ensures) (c .before .before .before .before .loop .inv .1))
+loop-again c = (omega arith, two-turn notFalling nan (c .before .before .before .before .before .before .args .beats .now) (c .above .result) (c .before .before .before .loop-test .taken) (c .above .ensures) (c .before .before .before .before .loop .inv .1))
 
 returns : tie.Need-returns Inv-loop μ-loop
-returns c = two-end notAbove (c .before .before .before .args .beats .now) (c .loop-test .left) (c .before .loop .inv .1)
+returns c = two-end notFalling (c .before .before .before .args .beats .now) (c .loop-test .left) (c .before .loop .inv .1)
 
 pub never-fall-spec : {M : Type 1} → statement M
 never-fall-spec =

@@ -1,19 +1,19 @@
--- `clock_run::least_of` is `least`. Assumes nothing.
+-- `clock_run::least_of` is `lesserRow`. Assumes nothing.
 use mathlib.Core.Bool.{true, false}
 use Rattle.clock_walk.proofs.BackFromBits.{back, tested}
-use Rattle.clock_run.specs.Ahead.{least}
+use Rattle.clock_run.specs.Ahead.{lesserRow}
 use borrow.Author.Needs.{needs}
 use Rattle.clock_run.proofs.least_of.Statement.{statement}
 use Rattle.clock_run.proofs.least_of.Tie as tie
 
 returns : tie.Need-returns
-unfolding least
+unfolding lesserRow
 returns c =
     let s = c .before in
     rw (back (s .args .one) (s .fits .one), tested (s .args .one) (s .args .other) (s .fits .one) (s .fits .other) true (c .if1 .taken))
 
 returns-2 : tie.Need-returns-2
-unfolding least
+unfolding lesserRow
 returns-2 c =
     let s = c .before in
     rw (back (s .args .other) (s .fits .other), tested (s .args .one) (s .args .other) (s .fits .one) (s .fits .other) false (c .if1 .left))

@@ -4,7 +4,7 @@ use mathlib.Core.Path.{_≡_, sym, _∙_}
 use borrow.Author.Tests.{lt-ltb, le-ltb}
 use Rattle.clock_walk.specs.Soon.{rowAfter}
 use Rattle.clock_walk.proofs.BackFromBits.{back}
-use Rattle.clock_run.specs.Ahead.{least, isBefore, pastTempo}
+use Rattle.clock_run.specs.Ahead.{lesserRow, isBefore, pastTempo}
 use borrow.Author.Needs.{needs}
 use Rattle.clock_run.proofs.past_tempo.Statement.{statement}
 use Rattle.clock_run.proofs.past_tempo.Tie as tie
@@ -34,8 +34,8 @@ returns c =
     let isRow = back (a .row) (s .fits .row) in
     let after = c .before .before .before .before .before .before .before .before .before .before .before .row-after in
     let until = c .before .before .before .before .before .before .before .before .before .least-of in
-    let isUntil : until .result ≡ least (rowAfter (a .tempo-beats .now) (a .at .state .tempos)) (a .ahead .rest) = rw (back (after .result) (record { sfits = after .ok }), after .ensures, isRest) at (until .ensures) in
-    let due : isBefore (a .ahead .known) (least (rowAfter (a .tempo-beats .now) (a .at .state .tempos)) (a .ahead .rest)) (a .at .asked) (a .beat) (a .row) ≡ true =
+    let isUntil : until .result ≡ lesserRow (rowAfter (a .tempo-beats .now) (a .at .state .tempos)) (a .ahead .rest) = rw (back (after .result) (record { sfits = after .ok }), after .ensures, isRest) at (until .ensures) in
+    let due : isBefore (a .ahead .known) (lesserRow (rowAfter (a .tempo-beats .now) (a .at .state .tempos)) (a .ahead .rest)) (a .at .asked) (a .beat) (a .row) ≡ true =
     rw (back (until .result) (record { sfits = until .ok }), isUntil, isAsked, isRow) at (sym (c .before .before .before .before .before .before .before .is-before .ensures) ∙ c .before .before .before .before .before .before .if1 .taken) in
     rw (
       due,
@@ -57,8 +57,8 @@ returns-2 c =
     let isRow = back (a .row) (s .fits .row) in
     let after = c .before .before .before .before .before .before .before .row-after in
     let until = c .before .before .before .before .before .least-of in
-    let isUntil : until .result ≡ least (rowAfter (a .tempo-beats .now) (a .at .state .tempos)) (a .ahead .rest) = rw (back (after .result) (record { sfits = after .ok }), after .ensures, isRest) at (until .ensures) in
-    let due : isBefore (a .ahead .known) (least (rowAfter (a .tempo-beats .now) (a .at .state .tempos)) (a .ahead .rest)) (a .at .asked) (a .beat) (a .row) ≡ true =
+    let isUntil : until .result ≡ lesserRow (rowAfter (a .tempo-beats .now) (a .at .state .tempos)) (a .ahead .rest) = rw (back (after .result) (record { sfits = after .ok }), after .ensures, isRest) at (until .ensures) in
+    let due : isBefore (a .ahead .known) (lesserRow (rowAfter (a .tempo-beats .now) (a .at .state .tempos)) (a .ahead .rest)) (a .at .asked) (a .beat) (a .row) ≡ true =
     rw (back (until .result) (record { sfits = until .ok }), isUntil, isAsked, isRow) at (sym (c .before .before .before .is-before .ensures) ∙ c .before .before .if1 .taken) in
     rw (due, lt-ltb _ _ (c .before .if2 .taken), le-ltb _ _ (c .if3 .left))
 
@@ -72,8 +72,8 @@ returns-3 c =
     let isRow = back (a .row) (s .fits .row) in
     let after = c .before .before .before .before .before .before .row-after in
     let until = c .before .before .before .before .least-of in
-    let isUntil : until .result ≡ least (rowAfter (a .tempo-beats .now) (a .at .state .tempos)) (a .ahead .rest) = rw (back (after .result) (record { sfits = after .ok }), after .ensures, isRest) at (until .ensures) in
-    let due : isBefore (a .ahead .known) (least (rowAfter (a .tempo-beats .now) (a .at .state .tempos)) (a .ahead .rest)) (a .at .asked) (a .beat) (a .row) ≡ true =
+    let isUntil : until .result ≡ lesserRow (rowAfter (a .tempo-beats .now) (a .at .state .tempos)) (a .ahead .rest) = rw (back (after .result) (record { sfits = after .ok }), after .ensures, isRest) at (until .ensures) in
+    let due : isBefore (a .ahead .known) (lesserRow (rowAfter (a .tempo-beats .now) (a .at .state .tempos)) (a .ahead .rest)) (a .at .asked) (a .beat) (a .row) ≡ true =
     rw (back (until .result) (record { sfits = until .ok }), isUntil, isAsked, isRow) at (sym (c .before .before .is-before .ensures) ∙ c .before .if1 .taken) in
     rw (due, le-ltb _ _ (c .if2 .left))
 
@@ -87,8 +87,8 @@ returns-4 c =
     let isRow = back (a .row) (s .fits .row) in
     let after = c .before .before .before .before .before .row-after in
     let until = c .before .before .before .least-of in
-    let isUntil : until .result ≡ least (rowAfter (a .tempo-beats .now) (a .at .state .tempos)) (a .ahead .rest) = rw (back (after .result) (record { sfits = after .ok }), after .ensures, isRest) at (until .ensures) in
-    let due : isBefore (a .ahead .known) (least (rowAfter (a .tempo-beats .now) (a .at .state .tempos)) (a .ahead .rest)) (a .at .asked) (a .beat) (a .row) ≡ false =
+    let isUntil : until .result ≡ lesserRow (rowAfter (a .tempo-beats .now) (a .at .state .tempos)) (a .ahead .rest) = rw (back (after .result) (record { sfits = after .ok }), after .ensures, isRest) at (until .ensures) in
+    let due : isBefore (a .ahead .known) (lesserRow (rowAfter (a .tempo-beats .now) (a .at .state .tempos)) (a .ahead .rest)) (a .at .asked) (a .beat) (a .row) ≡ false =
     rw (back (until .result) (record { sfits = until .ok }), isUntil, isAsked, isRow) at (sym (c .before .is-before .ensures) ∙ c .if1 .left) in
     rw due
 

@@ -1,5 +1,5 @@
--- `clock_run::room_number` is `roomNumber`. Assumes nothing.
-use Rattle.clock_run.specs.Run.{roomNumber}
+-- `clock_run::room_number` is `runRoomNumber`. Assumes nothing.
+use Rattle.clock_run.specs.Run.{runRoomNumber}
 use borrow.Author.Tests.{le-leb, lt-leb}
 use borrow.Author.Needs.{needs}
 use Rattle.clock_run.proofs.room_number.Statement.{statement}
@@ -12,11 +12,11 @@ room-of-requires-2 : tie.Need-room-of-requires-2
 room-of-requires-2 c κs = search needs
 
 returns : tie.Need-returns
-unfolding roomNumber
+unfolding runRoomNumber
 returns c = rw (← c .before .before .room-of .ensures, ← c .before .room-of2 .ensures, le-leb _ _ (c .if1 .taken))
 
 returns-2 : tie.Need-returns-2
-unfolding roomNumber
+unfolding runRoomNumber
 returns-2 c = rw (← c .before .before .room-of .ensures, ← c .before .room-of2 .ensures, lt-leb _ _ (c .if1 .left))
 
 pub room-number-spec : {M : Type 1} → statement M

@@ -1,5 +1,5 @@
--- `clock_tests::lists_number` is `listsNumber`. Assumes nothing.
-use Rattle.clock_tests.specs.TimingNumbers.{listsNumber}
+-- `clock_tests::lists_number` is `timingListsNumber`. Assumes nothing.
+use Rattle.clock_tests.specs.TimingNumbers.{timingListsNumber}
 use borrow.Author.Needs.{needs}
 use Rattle.clock_tests.proofs.lists_number.Statement.{statement}
 use Rattle.clock_tests.proofs.lists_number.Tie as tie
@@ -26,7 +26,7 @@ lower-of-requires-3 : tie.Need-lower-of-requires-3
 lower-of-requires-3 c κs = search needs
 
 returns : tie.Need-returns
-unfolding listsNumber
+unfolding timingListsNumber
 returns c =
     rw (
       ← c .before .before .before .before .before .before .list-number-f32 .ensures,

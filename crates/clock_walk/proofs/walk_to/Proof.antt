@@ -9,7 +9,7 @@ use mir.Val.{toZ, ofZ}
 use native.Mathlib.Omega.{arith}
 use Rattle.chart.specs.Timing.{Timing, timing}
 use Rattle.clock_walk.specs.Events.{next}
-use Rattle.clock_walk.specs.Walk.{isEvent, left, walkOn, walk}
+use Rattle.clock_walk.specs.Walk.{isEvent, eventsLeft, walkOn, walk}
 use Rattle.clock_walk.specs.Heads.{headsOf, nextOf}
 use Rattle.clock_walk.specs.declared.Next.{Next}
 use Rattle.clock_walk.specs.declared.Heads.{Heads}
@@ -27,7 +27,7 @@ Inv-loop asked tempo-beats tempo-values stop-beats stop-values delay-beats delay
 
 abbrev μ-loop : tie.MeasureT-loop
 μ-loop asked tempo-beats tempo-values stop-beats stop-values delay-beats delay-values warp-beats warp-lengths early start heads₀ none state heads passed =
-    left (timing tempo-beats tempo-values stop-beats stop-values delay-beats delay-values warp-beats warp-lengths) state
+    eventsLeft (timing tempo-beats tempo-values stop-beats stop-values delay-beats delay-values warp-beats warp-lengths) state
 
 early-tempo-requires : tie.Need-early-tempo-requires Inv-loop μ-loop
 early-tempo-requires c κs = search needs
@@ -91,7 +91,7 @@ moved : (c : tie.After-pass-event Inv-loop μ-loop) →
     let a = c .before .before .before .before .before .before .before .before .before .before .before .before .before .before .before .args in
     let t : Timing = timing (a .tempo-beats .now) (a .tempo-values .now) (a .stop-beats .now) (a .stop-values .now) (a .delay-beats .now) (a .delay-values .now) (a .warp-beats .now) (a .warp-lengths .now) in
     let l = c .before .before .before .before .loop in
-    Going (c .before .before .before .before .before .before .early-tempo .result) t (toZ w32 (ofZ w32 (a .asked))) (a .start) (c .pass-event .result) (l .passed + 1) × (left t (c .pass-event .result) < left t (l .state))
+    Going (c .before .before .before .before .before .before .early-tempo .result) t (toZ w32 (ofZ w32 (a .asked))) (a .start) (c .pass-event .result) (l .passed + 1) × (eventsLeft t (c .pass-event .result) < eventsLeft t (l .state))
 moved c =
     let a = c .before .before .before .before .before .before .before .before .before .before .before .before .before .before .before .args in
     let t : Timing = timing (a .tempo-beats .now) (a .tempo-values .now) (a .stop-beats .now) (a .stop-values .now) (a .delay-beats .now) (a .delay-values .now) (a .warp-beats .now) (a .warp-lengths .now) in
@@ -108,7 +108,7 @@ add-passed c =
     let t : Timing = timing (a .tempo-beats .now) (a .tempo-values .now) (a .stop-beats .now) (a .stop-values .now) (a .delay-beats .now) (a .delay-values .now) (a .warp-beats .now) (a .warp-lengths .now) in
     let g = s .good in
     let l = c .before .before .before .before .before .loop in
-    record { fits = count-fits t (a .start) (l .passed) (left t (l .state)) (l .inv .0 .few) (g .1 .1 .0 .1) (g .1 .1 .1 .1 .0 .1) (g .1 .1 .1 .1 .1 .1 .0 .1) (g .1 .1 .1 .1 .1 .1 .1 .1 .0 .1) }
+    record { fits = count-fits t (a .start) (l .passed) (eventsLeft t (l .state)) (l .inv .0 .few) (g .1 .1 .0 .1) (g .1 .1 .1 .1 .0 .1) (g .1 .1 .1 .1 .1 .1 .0 .1) (g .1 .1 .1 .1 .1 .1 .1 .1 .0 .1) }
 
 loop-less : tie.Need-loop-less Inv-loop μ-loop
 loop-less c =

@@ -1,6 +1,6 @@
 use mathlib.Core.Path.{refl}
 use native.Mathlib.Omega.{arith}
-use Rattle.process_sm_walk.specs.Inside.{placed}
+use Rattle.process_sm_walk.specs.Inside.{laidFrom}
 use borrow.Author.Needs.{needs}
 use Rattle.process_sm_walk.proofs.put.Statement.{statement}
 use Rattle.process_sm_walk.proofs.put.Tie as tie
@@ -33,7 +33,7 @@ add-result : tie.Need-add-result
 add-result c = search needs
 
 returns : tie.Need-returns
-unfolding placed
+unfolding laidFrom
 returns c = rw (c .enum-told .given .1) (omega arith, (refl, refl))
 
 same-length : tie.Need-same-length
@@ -43,7 +43,7 @@ same-length-2 : tie.Need-same-length-2
 same-length-2 c = search needs
 
 returns-2 : tie.Need-returns-2
-unfolding placed
+unfolding laidFrom
 returns-2 c = rw (c .before .before .before .what .given .1, c .f32-to-f64-with-nan2 .ensures, c .before .f32-to-f64-with-nan .ensures) (omega arith, (refl, refl))
 
 pub put-spec : {M : Type 1} → statement M

@@ -7,13 +7,13 @@ use lib.Ieee.{nan}
 use Rattle.order.specs.Entries.{entries}
 use Rattle.order.proofs.Columns.{length-entries, entries-getD}
 use Rattle.columns.proofs.KeptLaid.{KeptCount, count-none, count-kept, count-left, count-all}
-use Rattle.process_ssc.specs.Ssc.{staysSsc, onRow}
+use Rattle.process_ssc.specs.Ssc.{staysSsc, quantizedEntry}
 use borrow.Author.Needs.{needs}
 use Rattle.process_ssc.proofs.count_stayed.Statement.{statement}
 use Rattle.process_ssc.proofs.count_stayed.Tie as tie
 
 abbrev Inv-loop : tie.InvT-loop
-Inv-loop beats values count₀ i₀ count i = KeptCount staysSsc onRow (entries beats values) i count
+Inv-loop beats values count₀ i₀ count i = KeptCount staysSsc quantizedEntry (entries beats values) i count
 
 abbrev μ-loop : tie.MeasureT-loop
 μ-loop beats values count₀ i₀ count i = length beats - i
@@ -26,7 +26,7 @@ test : (c : tie.After-stays Inv-loop μ-loop) → staysSsc (getD (entries (c .be
 test c = ap staysSsc (entries-getD (c .before .before .before .before .before .before .before .args .beats .now) (c .before .before .before .before .before .before .before .args .values .now) (c .before .before .before .before .loop .i) nan nan (c .before .before .before .before .before .before .before .pre)) ∙ sym (c .stays .ensures)
 
 loop-holds : tie.Need-loop-holds Inv-loop μ-loop
-loop-holds c = count-none staysSsc onRow
+loop-holds c = count-none staysSsc quantizedEntry
 
 mul-stays : tie.Need-mul-stays Inv-loop μ-loop
 mul-stays c = search needs
@@ -53,7 +53,7 @@ loop-less : tie.Need-loop-less Inv-loop μ-loop
 loop-less c = search needs
 
 loop-again : tie.Need-loop-again Inv-loop μ-loop
-loop-again c = count-kept staysSsc onRow (c .before .before .before .before .before .loop .inv) (nan, nan) (inside (c .before)) (test (c .before) ∙ c .if1 .taken)
+loop-again c = count-kept staysSsc quantizedEntry (c .before .before .before .before .before .loop .inv) (nan, nan) (inside (c .before)) (test (c .before) ∙ c .if1 .taken)
 
 add-i-2 : tie.Need-add-i-2 Inv-loop μ-loop
 add-i-2 c = search needs
@@ -62,10 +62,10 @@ loop-less-2 : tie.Need-loop-less-2 Inv-loop μ-loop
 loop-less-2 c = search needs
 
 loop-again-2 : tie.Need-loop-again-2 Inv-loop μ-loop
-loop-again-2 c = count-left staysSsc onRow (c .before .before .before .before .before .loop .inv) (nan, nan) (inside (c .before)) (test (c .before) ∙ c .if1 .left)
+loop-again-2 c = count-left staysSsc quantizedEntry (c .before .before .before .before .before .loop .inv) (nan, nan) (inside (c .before)) (test (c .before) ∙ c .if1 .left)
 
 returns : tie.Need-returns Inv-loop μ-loop
-returns c = count-all staysSsc onRow (c .before .loop .inv) (omega (arith, length-entries (c .before .before .before .before .args .beats .now) (c .before .before .before .before .args .values .now) (c .before .before .before .before .pre), c .loop-test .left))
+returns c = count-all staysSsc quantizedEntry (c .before .loop .inv) (omega (arith, length-entries (c .before .before .before .before .args .beats .now) (c .before .before .before .before .args .values .now) (c .before .before .before .before .pre), c .loop-test .left))
 
 pub count-stayed-spec : {M : Type 1} → statement M
 count-stayed-spec =

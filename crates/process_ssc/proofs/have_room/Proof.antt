@@ -8,15 +8,15 @@ use lib.ListN.{length}
 use Rattle.order.specs.Entries.{entries}
 use Rattle.order.proofs.Columns.{length-entries}
 use Rattle.columns.proofs.KeptLaid.{few-kept}
-use Rattle.process_ssc.specs.Ssc.{staysSsc, onRow, stayed}
+use Rattle.process_ssc.specs.Ssc.{staysSsc, quantizedEntry, stayedSsc}
 use borrow.Author.Needs.{needs}
 use Rattle.process_ssc.proofs.have_room.Statement.{statement}
 use Rattle.process_ssc.proofs.have_room.Tie as tie
 
 returns : tie.Need-returns
 returns c =
-    let list = stayed (c .before .before .before .args .beats .now) (c .before .before .before .args .values .now) in
-    let few : length list ≤ (c .before .before .before .args .room) = omega (arith, few-kept staysSsc onRow (entries (c .before .before .before .args .beats .now) (c .before .before .before .args .values .now)), length-entries (c .before .before .before .args .beats .now) (c .before .before .before .args .values .now) (c .before .before .before .pre), c .if1 .taken) in
+    let list = stayedSsc (c .before .before .before .args .beats .now) (c .before .before .before .args .values .now) in
+    let few : length list ≤ (c .before .before .before .args .room) = omega (arith, few-kept staysSsc quantizedEntry (entries (c .before .before .before .args .beats .now) (c .before .before .before .args .values .now)), length-entries (c .before .before .before .args .beats .now) (c .before .before .before .args .values .now) (c .before .before .before .pre), c .if1 .taken) in
     sym (le-leb (length list) (c .before .before .before .args .room) few)
 
 count-stayed-requires : tie.Need-count-stayed-requires

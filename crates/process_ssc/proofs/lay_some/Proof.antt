@@ -7,13 +7,13 @@ use lib.Ieee.{Float, nan}
 use Rattle.order.specs.Entries.{entries}
 use Rattle.order.proofs.Columns.{length-entries, entries-getD}
 use Rattle.columns.proofs.KeptLaid.{KeptLaying, lay-none, lay-room, lay-kept, lay-left, lay-all}
-use Rattle.process_ssc.specs.Ssc.{staysSsc, onRow}
+use Rattle.process_ssc.specs.Ssc.{staysSsc, quantizedEntry}
 use borrow.Author.Needs.{needs}
 use Rattle.process_ssc.proofs.lay_some.Statement.{statement}
 use Rattle.process_ssc.proofs.lay_some.Tie as tie
 
 abbrev Inv-loop : tie.InvT-loop
-Inv-loop beats values out-beats₀ out-values₀ count₀ i₀ out-beats out-values count i = KeptLaying staysSsc onRow (entries beats values) out-beats₀ out-beats out-values₀ out-values i count
+Inv-loop beats values out-beats₀ out-values₀ count₀ i₀ out-beats out-values count i = KeptLaying staysSsc quantizedEntry (entries beats values) out-beats₀ out-beats out-values₀ out-values i count
 
 abbrev μ-loop : tie.MeasureT-loop
 μ-loop beats values out-beats₀ out-values₀ count₀ i₀ out-beats out-values count i = length beats - i
@@ -29,7 +29,7 @@ test : (c : tie.After-stays Inv-loop μ-loop) → staysSsc (getD (entries (c .be
 test c = ap staysSsc (entry c) ∙ sym (c .stays .ensures)
 
 loop-holds : tie.Need-loop-holds Inv-loop μ-loop
-loop-holds c = lay-none staysSsc onRow
+loop-holds c = lay-none staysSsc quantizedEntry
 
 mul-beat : tie.Need-mul-beat Inv-loop μ-loop
 mul-beat c = search needs
@@ -53,13 +53,13 @@ mul-out-beats : tie.Need-mul-out-beats Inv-loop μ-loop
 mul-out-beats c = search needs
 
 slice-write-out-beats : tie.Need-slice-write-out-beats Inv-loop μ-loop
-slice-write-out-beats c = lay-room staysSsc onRow (c .before .before .before .before .before .before .loop .inv) (nan, nan) (inside (c .before .before)) (test (c .before .before) ∙ c .before .if1 .taken) (c .before .before .before .before .before .before .before .before .before .before .before .pre .1) .0
+slice-write-out-beats c = lay-room staysSsc quantizedEntry (c .before .before .before .before .before .before .loop .inv) (nan, nan) (inside (c .before .before)) (test (c .before .before) ∙ c .before .if1 .taken) (c .before .before .before .before .before .before .before .before .before .before .before .pre .1) .0
 
 mul-out-values : tie.Need-mul-out-values Inv-loop μ-loop
 mul-out-values c = search needs
 
 slice-write-out-values : tie.Need-slice-write-out-values Inv-loop μ-loop
-slice-write-out-values c = lay-room staysSsc onRow (c .before .before .before .before .before .before .loop .inv) (nan, nan) (inside (c .before .before)) (test (c .before .before) ∙ c .before .if1 .taken) (c .before .before .before .before .before .before .before .before .before .before .before .pre .1) .1
+slice-write-out-values c = lay-room staysSsc quantizedEntry (c .before .before .before .before .before .before .loop .inv) (nan, nan) (inside (c .before .before)) (test (c .before .before) ∙ c .before .if1 .taken) (c .before .before .before .before .before .before .before .before .before .before .before .pre .1) .1
 
 add-count : tie.Need-add-count Inv-loop μ-loop
 add-count c = search needs
@@ -71,7 +71,7 @@ loop-less : tie.Need-loop-less Inv-loop μ-loop
 loop-less c = search needs
 
 loop-again : tie.Need-loop-again Inv-loop μ-loop
-loop-again c = lay-kept staysSsc onRow (c .before .before .before .before .before .before .loop .inv) (nan, nan) (inside (c .before .before)) (test (c .before .before) ∙ c .before .if1 .taken) (c .before .before .before .before .before .before .before .before .before .before .before .pre .1) _ _ (ap (λ (q : Float). (q, getD (c .before .before .before .before .before .before .before .before .before .before .before .args .values .now) (c .before .before .before .before .before .before .loop .i) nan)) (c .quantize-beat .ensures) ∙ sym (ap onRow (entry (c .before .before))))
+loop-again c = lay-kept staysSsc quantizedEntry (c .before .before .before .before .before .before .loop .inv) (nan, nan) (inside (c .before .before)) (test (c .before .before) ∙ c .before .if1 .taken) (c .before .before .before .before .before .before .before .before .before .before .before .pre .1) _ _ (ap (λ (q : Float). (q, getD (c .before .before .before .before .before .before .before .before .before .before .before .args .values .now) (c .before .before .before .before .before .before .loop .i) nan)) (c .quantize-beat .ensures) ∙ sym (ap quantizedEntry (entry (c .before .before))))
 
 add-i-2 : tie.Need-add-i-2 Inv-loop μ-loop
 add-i-2 c = search needs
@@ -80,7 +80,7 @@ loop-less-2 : tie.Need-loop-less-2 Inv-loop μ-loop
 loop-less-2 c = search needs
 
 loop-again-2 : tie.Need-loop-again-2 Inv-loop μ-loop
-loop-again-2 c = lay-left staysSsc onRow (c .before .before .before .before .before .loop .inv) (nan, nan) (inside (c .before)) (test (c .before) ∙ c .if1 .left)
+loop-again-2 c = lay-left staysSsc quantizedEntry (c .before .before .before .before .before .loop .inv) (nan, nan) (inside (c .before)) (test (c .before) ∙ c .if1 .left)
 
 same-length : tie.Need-same-length Inv-loop μ-loop
 same-length c = c .before .loop .inv .firsts .size
@@ -90,7 +90,7 @@ same-length-2 c = c .before .loop .inv .seconds .size
 
 returns : tie.Need-returns Inv-loop μ-loop
 returns c =
-    let all = lay-all staysSsc onRow (c .before .loop .inv) (omega (arith, length-entries (c .before .before .before .before .before .before .args .beats .now) (c .before .before .before .before .before .before .args .values .now) (c .before .before .before .before .before .before .pre .0), c .loop-test .left)) in
+    let all = lay-all staysSsc quantizedEntry (c .before .loop .inv) (omega (arith, length-entries (c .before .before .before .before .before .before .args .beats .now) (c .before .before .before .before .before .before .args .values .now) (c .before .before .before .before .before .before .pre .0), c .loop-test .left)) in
     (all .0, (all .1, all .2))
 
 pub lay-some-spec : {M : Type 1} → statement M

@@ -9,7 +9,7 @@ use lib.Ieee.{Float, ofBits}
 use Rattle.limits.proofs.ListTaken.{list-taken}
 use Rattle.process_raw.specs.RawLists.{rawNumbers, roomFor, processedNothing}
 use Rattle.process_raw.proofs.BothTaken.{BothTaken, both-taken}
-use Rattle.process_ssc.specs.Ssc.{stayed}
+use Rattle.process_ssc.specs.Ssc.{stayedSsc}
 use Rattle.process_ssc.proofs.Outcomes.{by-tests, for-stops, for-tempos, taken}
 use borrow.Author.Needs.{needs}
 use Rattle.process_ssc.proofs.process_known.Statement.{statement}
@@ -21,8 +21,8 @@ passed c = sym (c .before .number-of .ensures) ∙ c .if1 .left
 both : (c : tie.Else1) → BothTaken (c .before .before .before .before .before .before .before .before .before .before .args .tempo-beats .now) (c .before .before .before .before .before .before .before .before .before .before .args .tempo-values .now) (c .before .before .before .before .before .before .before .before .before .before .args .stop-beats .now) (c .before .before .before .before .before .before .before .before .before .before .args .stop-values .now)
 both c = both-taken (passed c)
 
-fit : (c : tie.Else2) → length (stayed (c .before .before .before .before .before .before .before .before .before .before .before .before .before .args .stop-beats .now) (c .before .before .before .before .before .before .before .before .before .before .before .before .before .args .stop-values .now)) ≤ roomFor (c .before .before .before .before .before .before .before .before .before .before .before .before .before .args .out-stop-beats .now) (c .before .before .before .before .before .before .before .before .before .before .before .before .before .args .out-stop-values .now)
-fit c = omega (arith, leb-true (length (stayed (c .before .before .before .before .before .before .before .before .before .before .before .before .before .args .stop-beats .now) (c .before .before .before .before .before .before .before .before .before .before .before .before .before .args .stop-values .now))) (c .before .before .room-of .result) (sym (c .before .have-room .ensures) ∙ not-false _ (c .if2 .left)), c .before .before .room-of .ensures)
+fit : (c : tie.Else2) → length (stayedSsc (c .before .before .before .before .before .before .before .before .before .before .before .before .before .args .stop-beats .now) (c .before .before .before .before .before .before .before .before .before .before .before .before .before .args .stop-values .now)) ≤ roomFor (c .before .before .before .before .before .before .before .before .before .before .before .before .before .args .out-stop-beats .now) (c .before .before .before .before .before .before .before .before .before .before .before .before .before .args .out-stop-values .now)
+fit c = omega (arith, leb-true (length (stayedSsc (c .before .before .before .before .before .before .before .before .before .before .before .before .before .args .stop-beats .now) (c .before .before .before .before .before .before .before .before .before .before .before .before .before .args .stop-values .now))) (c .before .before .room-of .result) (sym (c .before .have-room .ensures) ∙ not-false _ (c .if2 .left)), c .before .before .room-of .ensures)
 
 number-of-requires : tie.Need-number-of-requires
 number-of-requires c κs = search needs
@@ -44,7 +44,7 @@ refused-requires-2 c κs = search needs
 
 returns-2 : tie.Need-returns-2
 returns-2 c =
-    let short : roomFor (c .before .before .before .before .before .before .before .before .before .before .before .before .before .before .args .out-stop-beats .now) (c .before .before .before .before .before .before .before .before .before .before .before .before .before .before .args .out-stop-values .now) < length (stayed (c .before .before .before .before .before .before .before .before .before .before .before .before .before .before .args .stop-beats .now) (c .before .before .before .before .before .before .before .before .before .before .before .before .before .before .args .stop-values .now)) = omega (arith, leb-false (length (stayed (c .before .before .before .before .before .before .before .before .before .before .before .before .before .before .args .stop-beats .now) (c .before .before .before .before .before .before .before .before .before .before .before .before .before .before .args .stop-values .now))) (c .before .before .before .room-of .result) (sym (c .before .before .have-room .ensures) ∙ not-true _ (c .before .if2 .taken)), c .before .before .before .room-of .ensures) in
+    let short : roomFor (c .before .before .before .before .before .before .before .before .before .before .before .before .before .before .args .out-stop-beats .now) (c .before .before .before .before .before .before .before .before .before .before .before .before .before .before .args .out-stop-values .now) < length (stayedSsc (c .before .before .before .before .before .before .before .before .before .before .before .before .before .before .args .stop-beats .now) (c .before .before .before .before .before .before .before .before .before .before .before .before .before .before .args .stop-values .now)) = omega (arith, leb-false (length (stayedSsc (c .before .before .before .before .before .before .before .before .before .before .before .before .before .before .args .stop-beats .now) (c .before .before .before .before .before .before .before .before .before .before .before .before .before .before .args .stop-values .now))) (c .before .before .before .room-of .result) (sym (c .before .before .have-room .ensures) ∙ not-true _ (c .before .if2 .taken)), c .before .before .before .room-of .ensures) in
     rw (c .refused2 .ensures) (for-stops (passed (c .before .before .before .before)) short)
 
 lay-tempos-requires : tie.Need-lay-tempos-requires

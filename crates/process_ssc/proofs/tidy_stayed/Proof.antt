@@ -12,7 +12,7 @@ use Rattle.order.proofs.Columns.{length-entries}
 use Rattle.order.proofs.LaidOverFront.{laid-length}
 use Rattle.columns.proofs.KeptLaid.{few-kept}
 use Rattle.process_raw.proofs.FrontRead.{front-read}
-use Rattle.process_ssc.specs.Ssc.{staysSsc, onRow, stayed}
+use Rattle.process_ssc.specs.Ssc.{staysSsc, quantizedEntry, stayedSsc}
 use Rattle.process_ssc.proofs.TemposTaken.{tempos-taken}
 use borrow.Author.Needs.{needs}
 use Rattle.process_ssc.proofs.tidy_stayed.Statement.{statement}
@@ -21,27 +21,27 @@ use Rattle.process_ssc.proofs.tidy_stayed.Tie as tie
 even : (s : tie.Start) → length (s .args .beats .now) ≡ length (s .args .values .now)
 even s = list-taken (s .pre .0 .0) .even
 
-fit : (s : tie.Start) → length (stayed (s .args .beats .now) (s .args .values .now)) ≤ min (length (s .args .work-beats .now)) (length (s .args .work-values .now))
-fit s = omega (arith, few-kept staysSsc onRow (entries (s .args .beats .now) (s .args .values .now)), length-entries (s .args .beats .now) (s .args .values .now) (even s), s .pre .0 .1)
+fit : (s : tie.Start) → length (stayedSsc (s .args .beats .now) (s .args .values .now)) ≤ min (length (s .args .work-beats .now)) (length (s .args .work-values .now))
+fit s = omega (arith, few-kept staysSsc quantizedEntry (entries (s .args .beats .now) (s .args .values .now)), length-entries (s .args .beats .now) (s .args .values .now) (even s), s .pre .0 .1)
 
 -- what stands in the work columns
 room-beats : (c : tie.After-lay-stayed) → c .lay-stayed .result ≤ length (c .lay-stayed .last .1 .1 .0)
 room-beats c =
     let h = fit (c .before .before .before .before .before .before .before .before .before) in
-    let room : length (map first (stayed (c .before .before .before .before .before .before .before .before .before .args .beats .now) (c .before .before .before .before .before .before .before .before .before .args .values .now))) ≤ length (c .before .before .before .before .before .before .before .before .before .args .work-beats .now) = simp length-map (omega arith) in
-    omega (arith, c .lay-stayed .ensures .0, h, ap length (c .lay-stayed .ensures .1 .0) ∙ laid-length (map first (stayed (c .before .before .before .before .before .before .before .before .before .args .beats .now) (c .before .before .before .before .before .before .before .before .before .args .values .now))) (c .before .before .before .before .before .before .before .before .before .args .work-beats .now) room)
+    let room : length (map first (stayedSsc (c .before .before .before .before .before .before .before .before .before .args .beats .now) (c .before .before .before .before .before .before .before .before .before .args .values .now))) ≤ length (c .before .before .before .before .before .before .before .before .before .args .work-beats .now) = simp length-map (omega arith) in
+    omega (arith, c .lay-stayed .ensures .0, h, ap length (c .lay-stayed .ensures .1 .0) ∙ laid-length (map first (stayedSsc (c .before .before .before .before .before .before .before .before .before .args .beats .now) (c .before .before .before .before .before .before .before .before .before .args .values .now))) (c .before .before .before .before .before .before .before .before .before .args .work-beats .now) room)
 
 room-values : (c : tie.After-lay-stayed) → c .lay-stayed .result ≤ length (c .lay-stayed .last .1 .1 .1 .0)
 room-values c =
     let h = fit (c .before .before .before .before .before .before .before .before .before) in
-    let room : length (map second (stayed (c .before .before .before .before .before .before .before .before .before .args .beats .now) (c .before .before .before .before .before .before .before .before .before .args .values .now))) ≤ length (c .before .before .before .before .before .before .before .before .before .args .work-values .now) = simp length-map (omega arith) in
-    omega (arith, c .lay-stayed .ensures .0, h, ap length (c .lay-stayed .ensures .1 .1) ∙ laid-length (map second (stayed (c .before .before .before .before .before .before .before .before .before .args .beats .now) (c .before .before .before .before .before .before .before .before .before .args .values .now))) (c .before .before .before .before .before .before .before .before .before .args .work-values .now) room)
+    let room : length (map second (stayedSsc (c .before .before .before .before .before .before .before .before .before .args .beats .now) (c .before .before .before .before .before .before .before .before .before .args .values .now))) ≤ length (c .before .before .before .before .before .before .before .before .before .args .work-values .now) = simp length-map (omega arith) in
+    omega (arith, c .lay-stayed .ensures .0, h, ap length (c .lay-stayed .ensures .1 .1) ∙ laid-length (map second (stayedSsc (c .before .before .before .before .before .before .before .before .before .args .beats .now) (c .before .before .before .before .before .before .before .before .before .args .values .now))) (c .before .before .before .before .before .before .before .before .before .args .work-values .now) room)
 
-beats-read : (c : tie.After-lay-stayed) → take (c .lay-stayed .result) (c .lay-stayed .last .1 .1 .0) ≡ map first (stayed (c .before .before .before .before .before .before .before .before .before .args .beats .now) (c .before .before .before .before .before .before .before .before .before .args .values .now))
-beats-read c = ap (take (c .lay-stayed .result)) (c .lay-stayed .ensures .1 .0) ∙ front-read (map first (stayed (c .before .before .before .before .before .before .before .before .before .args .beats .now) (c .before .before .before .before .before .before .before .before .before .args .values .now))) _ (c .lay-stayed .result) (c .lay-stayed .ensures .0 ∙ sym (length-map (stayed (c .before .before .before .before .before .before .before .before .before .args .beats .now) (c .before .before .before .before .before .before .before .before .before .args .values .now)) first))
+beats-read : (c : tie.After-lay-stayed) → take (c .lay-stayed .result) (c .lay-stayed .last .1 .1 .0) ≡ map first (stayedSsc (c .before .before .before .before .before .before .before .before .before .args .beats .now) (c .before .before .before .before .before .before .before .before .before .args .values .now))
+beats-read c = ap (take (c .lay-stayed .result)) (c .lay-stayed .ensures .1 .0) ∙ front-read (map first (stayedSsc (c .before .before .before .before .before .before .before .before .before .args .beats .now) (c .before .before .before .before .before .before .before .before .before .args .values .now))) _ (c .lay-stayed .result) (c .lay-stayed .ensures .0 ∙ sym (length-map (stayedSsc (c .before .before .before .before .before .before .before .before .before .args .beats .now) (c .before .before .before .before .before .before .before .before .before .args .values .now)) first))
 
-values-read : (c : tie.After-lay-stayed) → take (c .lay-stayed .result) (c .lay-stayed .last .1 .1 .1 .0) ≡ map second (stayed (c .before .before .before .before .before .before .before .before .before .args .beats .now) (c .before .before .before .before .before .before .before .before .before .args .values .now))
-values-read c = ap (take (c .lay-stayed .result)) (c .lay-stayed .ensures .1 .1) ∙ front-read (map second (stayed (c .before .before .before .before .before .before .before .before .before .args .beats .now) (c .before .before .before .before .before .before .before .before .before .args .values .now))) _ (c .lay-stayed .result) (c .lay-stayed .ensures .0 ∙ sym (length-map (stayed (c .before .before .before .before .before .before .before .before .before .args .beats .now) (c .before .before .before .before .before .before .before .before .before .args .values .now)) second))
+values-read : (c : tie.After-lay-stayed) → take (c .lay-stayed .result) (c .lay-stayed .last .1 .1 .1 .0) ≡ map second (stayedSsc (c .before .before .before .before .before .before .before .before .before .args .beats .now) (c .before .before .before .before .before .before .before .before .before .args .values .now))
+values-read c = ap (take (c .lay-stayed .result)) (c .lay-stayed .ensures .1 .1) ∙ front-read (map second (stayedSsc (c .before .before .before .before .before .before .before .before .before .args .beats .now) (c .before .before .before .before .before .before .before .before .before .args .values .now))) _ (c .lay-stayed .result) (c .lay-stayed .ensures .0 ∙ sym (length-map (stayedSsc (c .before .before .before .before .before .before .before .before .before .args .beats .now) (c .before .before .before .before .before .before .before .before .before .args .values .now)) second))
 
 lay-stayed-requires : tie.Need-lay-stayed-requires
 lay-stayed-requires c κs = (even (c .before .before .before .before .before .before .before .before), (fit (c .before .before .before .before .before .before .before .before), c .before .before .before .before .before .before .before .before .pre .1))

@@ -1,17 +1,17 @@
 -- `report_feed::put_unit` meets its contract, test by test. Assumes nothing.
 use borrow.Author.Needs.{needs}
 use Rattle.picks.proofs.Rules.{picks}
-use Rattle.report_form.specs.Stores.{placed}
+use Rattle.report_form.specs.Stores.{storedIn}
 use Rattle.report_feed.proofs.Turns.{past}
 use Rattle.report_feed.proofs.put_unit.Statement.{statement}
 use Rattle.report_feed.proofs.put_unit.Tie as tie
 
 returns : tie.Need-returns
-unfolding placed
+unfolding storedIn
 returns c = search picks
 
 returns-2 : tie.Need-returns-2
-unfolding placed
+unfolding storedIn
 returns-2 c = search picks
 
 cast-units : tie.Need-cast-units
@@ -24,11 +24,11 @@ same-length : tie.Need-same-length
 same-length c = search needs
 
 returns-3 : tie.Need-returns-3
-unfolding placed
+unfolding storedIn
 returns-3 c = search picks
 
 returns-4 : tie.Need-returns-4
-unfolding placed
+unfolding storedIn
 returns-4 c = search (picks, past)
 
 pub put-unit-spec : {M : Type 1} → statement M

@@ -1,7 +1,7 @@
 -- `report_form::entry` meets its contract, test by test. Assumes nothing.
 use borrow.Author.Needs.{needs}
 use Rattle.picks.proofs.Rules.{picks}
-use Rattle.report_form.specs.Form.{entryOf}
+use Rattle.report_form.specs.Form.{entryEnded}
 use Rattle.report_form.proofs.entry.Statement.{statement}
 use Rattle.report_form.proofs.entry.Tie as tie
 
@@ -12,7 +12,7 @@ refuse-requires : tie.Need-refuse-requires
 refuse-requires c κs = search needs
 
 returns : tie.Need-returns
-unfolding entryOf
+unfolding entryEnded
 returns c = rw (← c .before .before .before .width .ensures) (search picks)
 
 last-digits-requires : tie.Need-last-digits-requires
@@ -22,7 +22,7 @@ refuse-requires-2 : tie.Need-refuse-requires-2
 refuse-requires-2 c κs = search needs
 
 returns-2 : tie.Need-returns-2
-unfolding entryOf
+unfolding entryEnded
 returns-2 c = rw (← c .before .before .before .before .before .before .width .ensures, ← c .before .before .before .last-digits .ensures) (search picks)
 
 one-more-requires : tie.Need-one-more-requires
@@ -32,7 +32,7 @@ close-requires : tie.Need-close-requires
 close-requires c κs = search needs
 
 returns-3 : tie.Need-returns-3
-unfolding entryOf
+unfolding entryEnded
 returns-3 c = rw (← c .before .before .before .before .before .before .before .width .ensures, ← c .before .before .before .before .last-digits .ensures, ← c .before .one-more .ensures) (search picks)
 
 pub entry-spec : {M : Type 1} → statement M

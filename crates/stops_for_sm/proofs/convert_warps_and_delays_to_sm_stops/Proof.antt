@@ -3,7 +3,7 @@ use mathlib.Core.Path.{_≡_, sym, ap, _∙_, subst}
 use native.Mathlib.Omega.{arith}
 use borrow.Author.Tests.{not-true, not-false, leb-true}
 use lib.ListN.{length}
-use Rattle.stops_for_sm.specs.Merging.{Sources, sources, merged, atFirst}
+use Rattle.stops_for_sm.specs.Merging.{Sources, sources, mergedStops, atFirst}
 use Rattle.stops_for_sm.specs.Filling.{flat, StopsFilled}
 use Rattle.stops_for_sm.specs.declared.Filled.{Filled}
 use Rattle.stops_for_sm.proofs.TurnByTurn.{flat-length}
@@ -73,8 +73,8 @@ lay-stops-requires c κs =
     let s : Sources = sources (a .tempo-beats .now) (a .tempo-values .now) (a .stops .now) (a .delay-beats .now) (a .delay-values .now) (a .warp-beats .now) (a .warp-lengths .now) in
     let old = a .work .now in
     let t = sources-taken s (length old) (sym (c .before .before .before .before .before .before .before .before .lists-number .ensures) ∙ c .before .before .before .before .before .before .before .if1 .left) in
-    let fits = leb-true (length (merged s atFirst)) _ (sym (c .before .before .has-room .ensures) ∙ not-false (c .before .before .has-room .result) (c .before .if4 .left)) in
-    (t .plain, omega (arith, fits, flat-length (merged s atFirst)))
+    let fits = leb-true (length (mergedStops s atFirst)) _ (sym (c .before .before .has-room .ensures) ∙ not-false (c .before .before .has-room .result) (c .before .if4 .left)) in
+    (t .plain, omega (arith, fits, flat-length (mergedStops s atFirst)))
 
 same-length : tie.Need-same-length
 same-length c = search needs

@@ -2,7 +2,7 @@
 use Rattle.ieee.specs.Constants.{plusZero}
 use Rattle.stops_for_sm.proofs.TurnByTurn.{at-most-left, flat-length}
 use Rattle.stops_for_sm.specs.Filling.{flat}
-use Rattle.stops_for_sm.specs.Merging.{Sources, sources, merged, atFirst}
+use Rattle.stops_for_sm.specs.Merging.{Sources, sources, mergedStops, atFirst}
 use lib.Dec.{leb}
 use Prim.Native.Nat.{ℕ, _/_}
 use lib.ListN.{length, replicate, length-replicate}
@@ -26,7 +26,7 @@ returns : tie.Need-returns
 returns c =
     let a = c .before .before .before .before .before .before .before .before .args in
     let s : Sources = sources (a .tempo-beats .now) (a .tempo-values .now) (a .stops .now) (a .delay-beats .now) (a .delay-values .now) (a .warp-beats .now) (a .warp-lengths .now) in
-    sym (le-leb (length (merged s atFirst)) (a .room) (omega (arith, at-most-left s atFirst, c .if1 .taken)))
+    sym (le-leb (length (mergedStops s atFirst)) (a .room) (omega (arith, at-most-left s atFirst, c .if1 .taken)))
 
 slice-aggregate-lay-stops : tie.Need-slice-aggregate-lay-stops
 slice-aggregate-lay-stops c = search needs
@@ -35,13 +35,13 @@ lay-stops-requires : tie.Need-lay-stops-requires
 lay-stops-requires c κs =
     let a = c .before .before .before .before .before .before .before .before .before .args in
     let s : Sources = sources (a .tempo-beats .now) (a .tempo-values .now) (a .stops .now) (a .delay-beats .now) (a .delay-values .now) (a .warp-beats .now) (a .warp-lengths .now) in
-    (c .before .before .before .before .before .before .before .before .before .pre .0, omega (arith, at-most-left s atFirst, flat-length (merged s atFirst), c .before .before .before .before .before .before .before .before .before .pre .1 .0, c .before .before .before .before .before .before .before .before .before .pre .1 .1, c .before .before .before .before .before .before .before .before .before .pre .1 .2, length-replicate 6144 plusZero))
+    (c .before .before .before .before .before .before .before .before .before .pre .0, omega (arith, at-most-left s atFirst, flat-length (mergedStops s atFirst), c .before .before .before .before .before .before .before .before .before .pre .1 .0, c .before .before .before .before .before .before .before .before .before .pre .1 .1, c .before .before .before .before .before .before .before .before .before .pre .1 .2, length-replicate 6144 plusZero))
 
 returns-2 : tie.Need-returns-2
 returns-2 c =
     let a = c .before .before .before .before .before .before .before .before .before .before .before .args in
     let s : Sources = sources (a .tempo-beats .now) (a .tempo-values .now) (a .stops .now) (a .delay-beats .now) (a .delay-values .now) (a .warp-beats .now) (a .warp-lengths .now) in
-    let half : c .before .lay-stops .result / 2 ≡ length (merged s atFirst) = omega (arith, c .before .lay-stops .ensures .0, flat-length (merged s atFirst)) in
+    let half : c .before .lay-stops .result / 2 ≡ length (mergedStops s atFirst) = omega (arith, c .before .lay-stops .ensures .0, flat-length (mergedStops s atFirst)) in
     ap (λ (n : ℕ). leb n (a .room)) half
 
 pub has-room-spec : {M : Type 1} → statement M

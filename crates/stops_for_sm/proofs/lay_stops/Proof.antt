@@ -6,11 +6,11 @@ use Rattle.stops_for_sm.proofs.StopsLeft.{stops-left, count-behind, lai
 use Rattle.stops_for_sm.specs.Filling.{flat}
 use Rattle.order.proofs.LaidOverFront.{Laying, laying-none, laid-length}
 use Rattle.order.specs.Order.{laid}
-use Rattle.stops_for_sm.specs.InHand.{alone, atStop}
+use Rattle.stops_for_sm.specs.InHand.{stopsAlone, atStop}
 use mathlib.Core.List.{List, _++_}
 use lib.Dec.{ltb}
 use lib.ListN.{length, take}
-use Rattle.stops_for_sm.specs.Merging.{Sources, Heads, Turned, sources, leastBeat, beatHere, isOver, turn, left, merged, atFirst}
+use Rattle.stops_for_sm.specs.Merging.{Sources, Heads, Turned, sources, leastBeat, beatHere, isOver, turn, turnsLeft, mergedStops, atFirst}
 use Rattle.stops_for_sm.specs.Plain.{Plain}
 use borrow.Author.Tests.{not-false}
 use lib.Ieee.{Float, inf, lt, ofBits}
@@ -24,11 +24,11 @@ use Rattle.stops_for_sm.proofs.lay_stops.Tie as tie
 
 abbrev Inv-loop : tie.InvT-loop
 Inv-loop tempo-beats tempo-values stops delay-beats delay-values warp-beats warp-lengths work₀ tempo₀ next₀ seconds₀ stop₀ stop-beat₀ delay₀ delay-beat₀ warp₀ warp-beat₀ at₀ work tempo next seconds stop stop-beat delay delay-beat warp warp-beat at =
-    Laying (flat (merged (sources tempo-beats tempo-values stops delay-beats delay-values warp-beats warp-lengths) atFirst)) work₀ work (flat (merged (sources tempo-beats tempo-values stops delay-beats delay-values warp-beats warp-lengths) (record { tempo = tempo; stop = stop; delay = delay; warp = warp }))) at × Fit (sources tempo-beats tempo-values stops delay-beats delay-values warp-beats warp-lengths) (record { tempo = tempo; stop = stop; delay = delay; warp = warp }) × InHand (sources tempo-beats tempo-values stops delay-beats delay-values warp-beats warp-lengths) (record { tempo = tempo; stop = stop; delay = delay; warp = warp }) next seconds stop-beat delay-beat warp-beat
+    Laying (flat (mergedStops (sources tempo-beats tempo-values stops delay-beats delay-values warp-beats warp-lengths) atFirst)) work₀ work (flat (mergedStops (sources tempo-beats tempo-values stops delay-beats delay-values warp-beats warp-lengths) (record { tempo = tempo; stop = stop; delay = delay; warp = warp }))) at × Fit (sources tempo-beats tempo-values stops delay-beats delay-values warp-beats warp-lengths) (record { tempo = tempo; stop = stop; delay = delay; warp = warp }) × InHand (sources tempo-beats tempo-values stops delay-beats delay-values warp-beats warp-lengths) (record { tempo = tempo; stop = stop; delay = delay; warp = warp }) next seconds stop-beat delay-beat warp-beat
 
 abbrev μ-loop : tie.MeasureT-loop
 μ-loop tempo-beats tempo-values stops delay-beats delay-values warp-beats warp-lengths work₀ tempo₀ next₀ seconds₀ stop₀ stop-beat₀ delay₀ delay-beat₀ warp₀ warp-beat₀ at₀ work tempo next seconds stop stop-beat delay delay-beat warp warp-beat at =
-    left (sources tempo-beats tempo-values stops delay-beats delay-values warp-beats warp-lengths) (record { tempo = tempo; stop = stop; delay = delay; warp = warp })
+    turnsLeft (sources tempo-beats tempo-values stops delay-beats delay-values warp-beats warp-lengths) (record { tempo = tempo; stop = stop; delay = delay; warp = warp })
 
 -- ---- where the loop stands
 abbrev lists : tie.At-loop Inv-loop μ-loop → Sources
@@ -98,7 +98,7 @@ unfolding ofBits
 loop-holds c =
     let a = c .before .before .before .before .before .before .before .before .before .before .before .before .before .args in
     let s : Sources = sources (a .tempo-beats .now) (a .tempo-values .now) (a .stops .now) (a .delay-beats .now) (a .delay-values .now) (a .warp-beats .now) (a .warp-lengths .now) in (
-      laying-none (flat (merged s atFirst)) (a .work .now),
+      laying-none (flat (mergedStops s atFirst)) (a .work .now),
       first-fit s,
       record {
         next = c .before .before .before .before .head-at .ensures;
@@ -113,7 +113,7 @@ are-over-requires : tie.Need-are-over-requires Inv-loop μ-loop
 are-over-requires c κs = search needs
 
 -- ---- the stops that are left
-rest : (c : tie.Then1 Inv-loop μ-loop) → flat (merged (lists (c .before .before)) (heads (c .before .before))) ≡ flat (merged (alone (lists (c .before .before) .stops)) (atStop (c .before .before .loop .stop)))
+rest : (c : tie.Then1 Inv-loop μ-loop) → flat (mergedStops (lists (c .before .before)) (heads (c .before .before))) ≡ flat (mergedStops (stopsAlone (lists (c .before .before) .stops)) (atStop (c .before .before .loop .stop)))
 rest c =
     let l = c .before .before in
     let none = both-over (ltb (l .loop .delay) (length (lists l .delayBeats))) (ltb (l .loop .warp) (length (lists l .warpBeats))) (sym (others (c .before)) ∙ c .if1 .taken) in
@@ -125,19 +125,19 @@ lay-rest-requires c κs =
     let fit = l .loop .inv .1 in
     ((plain l .stops, plain l .stopPairs, fit .stopPair, fit .stop), (l .loop .inv .0 .within, omega (arith, count-behind (l .loop .inv .0), ap length (rest (c .before)), l .loop .inv .0 .size, l .before .before .before .before .before .before .before .before .before .before .before .before .before .before .pre .1)))
 
-written : (c : tie.After-lay-rest Inv-loop μ-loop) → c .lay-rest .last .1 .1 .0 ≡ laid (flat (merged (lists (c .before .before .before .before)) atFirst)) (c .before .before .before .before .before .before .before .before .before .before .before .before .before .before .before .before .before .before .args .work .now)
+written : (c : tie.After-lay-rest Inv-loop μ-loop) → c .lay-rest .last .1 .1 .0 ≡ laid (flat (mergedStops (lists (c .before .before .before .before)) atFirst)) (c .before .before .before .before .before .before .before .before .before .before .before .before .before .before .before .before .before .before .args .work .now)
 written c =
     let l = c .before .before .before .before in
-    c .lay-rest .ensures .1 ∙ ap (λ (left : List Float). laid (take (l .loop .at) (l .loop .work) ++ left) (l .loop .work)) (sym (rest (c .before .before))) ∙ laid-behind (l .loop .inv .0)
+    c .lay-rest .ensures .1 ∙ ap (λ (turnsLeft : List Float). laid (take (l .loop .at) (l .loop .work) ++ turnsLeft) (l .loop .work)) (sym (rest (c .before .before))) ∙ laid-behind (l .loop .inv .0)
 
 same-length : tie.Need-same-length Inv-loop μ-loop
 same-length c =
-    ap length (written (c .before .before)) ∙ laid-length (flat (merged (lists (c .before .before .before .before .before .before)) atFirst)) (c .before .before .before .before .before .before .before .before .before .before .before .before .before .before .before .before .before .before .before .before .args .work .now) (c .before .before .before .before .before .before .before .before .before .before .before .before .before .before .before .before .before .before .before .before .pre .1)
+    ap length (written (c .before .before)) ∙ laid-length (flat (mergedStops (lists (c .before .before .before .before .before .before)) atFirst)) (c .before .before .before .before .before .before .before .before .before .before .before .before .before .before .before .before .before .before .before .before .args .work .now) (c .before .before .before .before .before .before .before .before .before .before .before .before .before .before .before .before .before .before .before .before .pre .1)
 
 returns : tie.Need-returns Inv-loop μ-loop
 returns c =
     let l = c .before .before .before .before .before .before in
-    (c .before .before .lay-rest .ensures .0 ∙ ap (λ (left : List Float). l .loop .at + length left) (sym (rest (c .before .before .before .before))) ∙ count-behind (l .loop .inv .0), written (c .before .before))
+    (c .before .before .lay-rest .ensures .0 ∙ ap (λ (turnsLeft : List Float). l .loop .at + length turnsLeft) (sym (rest (c .before .before .before .before))) ∙ count-behind (l .loop .inv .0), written (c .before .before))
 
 lesser-of-requires : tie.Need-lesser-of-requires Inv-loop μ-loop
 lesser-of-requires c κs = search needs
@@ -164,18 +164,18 @@ pass-warp-requires c κs =
 lay-sum-requires : tie.Need-lay-sum-requires Inv-loop μ-loop
 lay-sum-requires c κs =
     let l = c .before .before .before .before .before .before .before .before in
-    (sum-room (lists l) (heads l) (plain l) (flat (merged (lists l) atFirst)) (l .before .before .before .before .before .before .before .before .before .before .before .before .before .before .args .work .now) (l .loop .work) (l .loop .at) (l .loop .inv .0) (l .before .before .before .before .before .before .before .before .before .before .before .before .before .before .pre .1) (more (c .before .before .before .before .before .before)) (made (c .before)) (is (c .before)), omega (arith, l .loop .inv .0 .within, l .loop .inv .0 .size, l .before .before .before .before .before .before .before .before .before .before .before .before .before .before .good .1 .1 .1 .1 .1 .1 .1 .0 .1))
+    (sum-room (lists l) (heads l) (plain l) (flat (mergedStops (lists l) atFirst)) (l .before .before .before .before .before .before .before .before .before .before .before .before .before .before .args .work .now) (l .loop .work) (l .loop .at) (l .loop .inv .0) (l .before .before .before .before .before .before .before .before .before .before .before .before .before .before .pre .1) (more (c .before .before .before .before .before .before)) (made (c .before)) (is (c .before)), omega (arith, l .loop .inv .0 .within, l .loop .inv .0 .size, l .before .before .before .before .before .before .before .before .before .before .before .before .before .before .good .1 .1 .1 .1 .1 .1 .1 .0 .1))
 
 loop-less : tie.Need-loop-less Inv-loop μ-loop
 loop-less c =
     let l = c .before .before .before .before .before .before .before .before .before .before .before in
-    subst (λ (t : Turned). left (lists l) (t .heads) < left (lists l) (heads l)) (sym (is (c .before .before .before .before))) (left-falls (lists l) (heads l) (plain l) (more (c .before .before .before .before .before .before .before .before .before)))
+    subst (λ (t : Turned). turnsLeft (lists l) (t .heads) < turnsLeft (lists l) (heads l)) (sym (is (c .before .before .before .before))) (left-falls (lists l) (heads l) (plain l) (more (c .before .before .before .before .before .before .before .before .before)))
 
 loop-again : tie.Need-loop-again Inv-loop μ-loop
 loop-again c =
     let l = c .before .before .before .before .before .before .before .before .before .before .before in
     let laid = c .before .before .lay-sum in (
-      laid-turn (lists l) (heads l) (plain l) (flat (merged (lists l) atFirst)) (l .before .before .before .before .before .before .before .before .before .before .before .before .before .before .args .work .now) (l .loop .work) (l .loop .at) (l .loop .inv .0) (l .before .before .before .before .before .before .before .before .before .before .before .before .before .before .pre .1) (more (c .before .before .before .before .before .before .before .before .before)) (made (c .before .before .before .before)) (is (c .before .before .before .before)) (laid .result) (laid .last .0) (laid .ensures .0) (laid .ensures .1),
+      laid-turn (lists l) (heads l) (plain l) (flat (mergedStops (lists l) atFirst)) (l .before .before .before .before .before .before .before .before .before .before .before .before .before .before .args .work .now) (l .loop .work) (l .loop .at) (l .loop .inv .0) (l .before .before .before .before .before .before .before .before .before .before .before .before .before .before .pre .1) (more (c .before .before .before .before .before .before .before .before .before)) (made (c .before .before .before .before)) (is (c .before .before .before .before)) (laid .result) (laid .last .0) (laid .ensures .0) (laid .ensures .1),
       subst (λ (t : Turned). Fit (lists l) (t .heads)) (sym (is (c .before .before .before .before))) (turned-fit (lists l) (heads l) (plain l) (more (c .before .before .before .before .before .before .before .before .before)) (l .loop .inv .1)),
       record {
         next = c .before .before .before .before .pass-warp .ensures .1 .0;

@@ -1,5 +1,5 @@
--- `stops_for_sm::lists_number` is `listsNumber`. Assumes nothing.
-use Rattle.stops_for_sm.specs.Filling.{listsNumber}
+-- `stops_for_sm::lists_number` is `sourcesNumber`. Assumes nothing.
+use Rattle.stops_for_sm.specs.Filling.{sourcesNumber}
 use borrow.Author.Needs.{needs}
 use Rattle.stops_for_sm.proofs.lists_number.Statement.{statement}
 use Rattle.stops_for_sm.proofs.lists_number.Tie as tie
@@ -32,7 +32,7 @@ lower-of-requires-4 : tie.Need-lower-of-requires-4
 lower-of-requires-4 c κs = search needs
 
 returns : tie.Need-returns
-unfolding listsNumber
+unfolding sourcesNumber
 returns c =
     rw (
       ← c .before .before .before .before .before .before .before .before .list-number-f32 .ensures,

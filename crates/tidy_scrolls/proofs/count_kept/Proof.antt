@@ -1,7 +1,7 @@
 -- `tidy_scrolls::count_kept` counts what the pass would write. Assumes nothing.
 use Rattle.tidy_scrolls.proofs.Turns.{turn-writes, turn-waits, ends-waiting, ends}
-use Rattle.tidy_scrolls.specs.Ways.{waiting, unheld, writtenFrom}
-use Rattle.tidy_kept.specs.Passing.{written}
+use Rattle.tidy_scrolls.specs.Ways.{scrollWaiting, noScrollHeld, writtenFrom}
+use Rattle.tidy_kept.specs.Passing.{stillWritten}
 use Rattle.tidy_kept.specs.Near.{nearTo}
 use Rattle.tidy_rows.specs.RowTidying.{rowKeyAt, onItsRow}
 use Rattle.order.specs.Entries.{entries, first, second}
@@ -16,7 +16,7 @@ use Rattle.tidy_scrolls.proofs.count_kept.Statement.{statement}
 use Rattle.tidy_scrolls.proofs.count_kept.Tie as tie
 
 abbrev Inv-loop : tie.InvT-loop
-Inv-loop beats values held₀ count₀ i₀ held count i = (i ≤ length beats) × (count ≤ i) × (count + length (written rowKeyAt nearTo (waiting held) (drop i (entries beats values))) ≡ length (written rowKeyAt nearTo unheld (entries beats values)))
+Inv-loop beats values held₀ count₀ i₀ held count i = (i ≤ length beats) × (count ≤ i) × (count + length (stillWritten rowKeyAt nearTo (scrollWaiting held) (drop i (entries beats values))) ≡ length (stillWritten rowKeyAt nearTo noScrollHeld (entries beats values)))
 
 abbrev μ-loop : tie.MeasureT-loop
 μ-loop beats values held₀ count₀ i₀ held count i = length beats - i
@@ -27,7 +27,7 @@ none-held-requires c κs = search needs
 loop-holds : tie.Need-loop-holds Inv-loop μ-loop
 loop-holds c =
     let es = entries (c .before .before .before .args .beats .now) (c .before .before .before .args .values .now) in
-    (omega arith, omega arith, omega (arith, ap (λ s. length (written rowKeyAt nearTo s es)) (c .none-held .ensures)))
+    (omega arith, omega arith, omega (arith, ap (λ s. length (stillWritten rowKeyAt nearTo s es)) (c .none-held .ensures)))
 
 mul-row-key : tie.Need-mul-row-key Inv-loop μ-loop
 mul-row-key c = search needs
@@ -72,8 +72,8 @@ loop-again c =
     let beats = g .args .beats .now in
     let values = g .args .values .now in
     let i = at .loop .i in
-    let s = waiting (at .loop .held) in
-    let next = waiting (c .before .before .pass .result) in
+    let s = scrollWaiting (at .loop .held) in
+    let next = scrollWaiting (c .before .before .pass .result) in
     let turn = turn-writes beats values (g .pre) s next i (omega arith) (c .before .before .pass .ensures) (c .before .before .before .before .before .row-key .result) (c .before .before .before .before .before .row-key .ensures) (c .before .writes .result) (c .before .writes .ensures) (c .if1 .taken) in
     (omega arith, omega arith, omega (arith, ap length turn, at .loop .inv .2))
 
@@ -90,8 +90,8 @@ loop-again-2 c =
     let beats = g .args .beats .now in
     let values = g .args .values .now in
     let i = at .loop .i in
-    let s = waiting (at .loop .held) in
-    let next = waiting (c .before .before .pass .result) in
+    let s = scrollWaiting (at .loop .held) in
+    let next = scrollWaiting (c .before .before .pass .result) in
     let turn = turn-waits beats values (g .pre) s next i (omega arith) (c .before .before .pass .ensures) (c .before .before .before .before .before .row-key .result) (c .before .before .before .before .before .row-key .ensures) (c .before .writes .result) (c .before .writes .ensures) (c .if1 .left) in
     (omega arith, omega arith, omega (arith, ap length turn, at .loop .inv .2))
 
@@ -102,13 +102,13 @@ returns : tie.Need-returns Inv-loop μ-loop
 returns c =
     let at = c .before .before in
     let g = at .before .before .before .before in
-    omega (arith, ap length (ends-waiting (g .args .beats .now) (g .args .values .now) (g .pre) (waiting (at .loop .held)) (at .loop .i) (omega arith) (c .if2 .taken)), at .loop .inv .2)
+    omega (arith, ap length (ends-waiting (g .args .beats .now) (g .args .values .now) (g .pre) (scrollWaiting (at .loop .held)) (at .loop .i) (omega arith) (c .if2 .taken)), at .loop .inv .2)
 
 returns-2 : tie.Need-returns-2 Inv-loop μ-loop
 returns-2 c =
     let at = c .before .before in
     let g = at .before .before .before .before in
-    omega (arith, ap length (ends (g .args .beats .now) (g .args .values .now) (g .pre) (waiting (at .loop .held)) (at .loop .i) (omega arith) (c .if2 .left)), at .loop .inv .2)
+    omega (arith, ap length (ends (g .args .beats .now) (g .args .values .now) (g .pre) (scrollWaiting (at .loop .held)) (at .loop .i) (omega arith) (c .if2 .left)), at .loop .inv .2)
 
 pub count-kept-spec : {M : Type 1} → statement M
 count-kept-spec =

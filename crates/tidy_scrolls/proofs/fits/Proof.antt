@@ -1,7 +1,7 @@
 -- `tidy_scrolls::fits` counts only where it has to. Assumes nothing.
 use Rattle.tidy_scrolls.proofs.Outcomes.{few-kept}
-use Rattle.tidy_scrolls.specs.Ways.{unheld}
-use Rattle.tidy_kept.specs.Passing.{written}
+use Rattle.tidy_scrolls.specs.Ways.{noScrollHeld}
+use Rattle.tidy_kept.specs.Passing.{stillWritten}
 use Rattle.tidy_kept.specs.Near.{nearTo}
 use Rattle.tidy_rows.specs.RowTidying.{rowKeyAt}
 use Rattle.order.proofs.Columns.{length-entries}
@@ -20,8 +20,8 @@ returns : tie.Need-returns
 returns c =
     let g = c .before .before .before in
     let es = entries (g .args .beats .now) (g .args .values .now) in
-    let few : length (written rowKeyAt nearTo unheld es) ≤ g .args .room = omega (arith, few-kept (g .args .beats .now) (g .args .values .now), length-entries (g .args .beats .now) (g .args .values .now) (g .pre), c .if1 .taken) in
-    sym (le-leb (length (written rowKeyAt nearTo unheld es)) (g .args .room) few)
+    let few : length (stillWritten rowKeyAt nearTo noScrollHeld es) ≤ g .args .room = omega (arith, few-kept (g .args .beats .now) (g .args .values .now), length-entries (g .args .beats .now) (g .args .values .now) (g .pre), c .if1 .taken) in
+    sym (le-leb (length (stillWritten rowKeyAt nearTo noScrollHeld es)) (g .args .room) few)
 
 count-kept-requires : tie.Need-count-kept-requires
 count-kept-requires c κs = search needs

@@ -2,8 +2,8 @@
 use mathlib.Core.Path.{refl}
 use mathlib.Core.List.{[]}
 use Rattle.tidy_scrolls.proofs.Turns.{turn-writes, turn-waits, ends-waiting, ends, LayingRows, rows-none, rows-same, rows-room, rows-more, rows-count, rows-all}
-use Rattle.tidy_scrolls.specs.Ways.{waiting, unheld, writtenFrom}
-use Rattle.tidy_kept.specs.Passing.{written}
+use Rattle.tidy_scrolls.specs.Ways.{scrollWaiting, noScrollHeld, writtenFrom}
+use Rattle.tidy_kept.specs.Passing.{stillWritten}
 use Rattle.tidy_kept.specs.Near.{nearTo}
 use Rattle.tidy_rows.specs.RowTidying.{rowKeyAt, onItsRow}
 use Rattle.order.specs.Entries.{entries, first, second}
@@ -18,7 +18,7 @@ use Rattle.tidy_scrolls.proofs.lay_kept.Statement.{statement}
 use Rattle.tidy_scrolls.proofs.lay_kept.Tie as tie
 
 abbrev Inv-loop : tie.InvT-loop
-Inv-loop beats values out-beats₀ out-values₀ held₀ count₀ i₀ out-beats out-values held count i = (i ≤ length beats) × (count ≤ i) × LayingRows (written rowKeyAt nearTo unheld (entries beats values)) (written rowKeyAt nearTo (waiting held) (drop i (entries beats values))) out-beats₀ out-beats out-values₀ out-values count
+Inv-loop beats values out-beats₀ out-values₀ held₀ count₀ i₀ out-beats out-values held count i = (i ≤ length beats) × (count ≤ i) × LayingRows (stillWritten rowKeyAt nearTo noScrollHeld (entries beats values)) (stillWritten rowKeyAt nearTo (scrollWaiting held) (drop i (entries beats values))) out-beats₀ out-beats out-values₀ out-values count
 
 abbrev μ-loop : tie.MeasureT-loop
 μ-loop beats values out-beats₀ out-values₀ held₀ count₀ i₀ out-beats out-values held count i = length beats - i
@@ -30,7 +30,7 @@ loop-holds : tie.Need-loop-holds Inv-loop μ-loop
 loop-holds c =
     let g = c .before .before .before .before .before in
     let es = entries (g .args .beats .now) (g .args .values .now) in
-    (omega arith, omega arith, rows-none (written rowKeyAt nearTo unheld es) (written rowKeyAt nearTo (waiting (c .none-held .result)) es) (g .args .out-beats .now) (g .args .out-values .now) (ap (λ s. written rowKeyAt nearTo s es) (c .none-held .ensures)))
+    (omega arith, omega arith, rows-none (stillWritten rowKeyAt nearTo noScrollHeld es) (stillWritten rowKeyAt nearTo (scrollWaiting (c .none-held .result)) es) (g .args .out-beats .now) (g .args .out-values .now) (ap (λ s. stillWritten rowKeyAt nearTo s es) (c .none-held .ensures)))
 
 mul-row-key : tie.Need-mul-row-key Inv-loop μ-loop
 mul-row-key c = search needs
@@ -72,12 +72,12 @@ slice-write-out-beats c =
     let beats = g .args .beats .now in
     let values = g .args .values .now in
     let i = at .loop .i in
-    let s = waiting (at .loop .held) in
-    let whole = written rowKeyAt nearTo unheld (entries beats values) in
-    let left = written rowKeyAt nearTo s (drop i (entries beats values)) in
-    let next = waiting (c .before .before .before .pass .result) in
+    let s = scrollWaiting (at .loop .held) in
+    let whole = stillWritten rowKeyAt nearTo noScrollHeld (entries beats values) in
+    let left = stillWritten rowKeyAt nearTo s (drop i (entries beats values)) in
+    let next = scrollWaiting (c .before .before .before .pass .result) in
     let turn = turn-writes beats values (g .pre .0) s next i (omega arith) (c .before .before .before .pass .ensures) (c .before .before .before .before .before .before .row-key .result) (c .before .before .before .before .before .before .row-key .ensures) (c .before .before .writes .result) (c .before .before .writes .ensures) (c .before .if1 .taken) in
-    let less = written rowKeyAt nearTo next (drop (i + 1) (entries beats values)) in
+    let less = stillWritten rowKeyAt nearTo next (drop (i + 1) (entries beats values)) in
     rows-room whole left (g .args .out-beats .now) (at .loop .out-beats) (g .args .out-values .now) (at .loop .out-values) (at .loop .count) (at .loop .inv .2) (s .beat, s .value) less turn (g .pre .1) .0
 
 mul-out-values : tie.Need-mul-out-values Inv-loop μ-loop
@@ -90,12 +90,12 @@ slice-write-out-values c =
     let beats = g .args .beats .now in
     let values = g .args .values .now in
     let i = at .loop .i in
-    let s = waiting (at .loop .held) in
-    let whole = written rowKeyAt nearTo unheld (entries beats values) in
-    let left = written rowKeyAt nearTo s (drop i (entries beats values)) in
-    let next = waiting (c .before .before .before .pass .result) in
+    let s = scrollWaiting (at .loop .held) in
+    let whole = stillWritten rowKeyAt nearTo noScrollHeld (entries beats values) in
+    let left = stillWritten rowKeyAt nearTo s (drop i (entries beats values)) in
+    let next = scrollWaiting (c .before .before .before .pass .result) in
     let turn = turn-writes beats values (g .pre .0) s next i (omega arith) (c .before .before .before .pass .ensures) (c .before .before .before .before .before .before .row-key .result) (c .before .before .before .before .before .before .row-key .ensures) (c .before .before .writes .result) (c .before .before .writes .ensures) (c .before .if1 .taken) in
-    let less = written rowKeyAt nearTo next (drop (i + 1) (entries beats values)) in
+    let less = stillWritten rowKeyAt nearTo next (drop (i + 1) (entries beats values)) in
     rows-room whole left (g .args .out-beats .now) (at .loop .out-beats) (g .args .out-values .now) (at .loop .out-values) (at .loop .count) (at .loop .inv .2) (s .beat, s .value) less turn (g .pre .1) .1
 
 add-count : tie.Need-add-count Inv-loop μ-loop
@@ -114,12 +114,12 @@ loop-again c =
     let beats = g .args .beats .now in
     let values = g .args .values .now in
     let i = at .loop .i in
-    let s = waiting (at .loop .held) in
-    let whole = written rowKeyAt nearTo unheld (entries beats values) in
-    let left = written rowKeyAt nearTo s (drop i (entries beats values)) in
-    let next = waiting (c .before .before .before .pass .result) in
+    let s = scrollWaiting (at .loop .held) in
+    let whole = stillWritten rowKeyAt nearTo noScrollHeld (entries beats values) in
+    let left = stillWritten rowKeyAt nearTo s (drop i (entries beats values)) in
+    let next = scrollWaiting (c .before .before .before .pass .result) in
     let turn = turn-writes beats values (g .pre .0) s next i (omega arith) (c .before .before .before .pass .ensures) (c .before .before .before .before .before .before .row-key .result) (c .before .before .before .before .before .before .row-key .ensures) (c .before .before .writes .result) (c .before .before .writes .ensures) (c .before .if1 .taken) in
-    let less = written rowKeyAt nearTo next (drop (i + 1) (entries beats values)) in
+    let less = stillWritten rowKeyAt nearTo next (drop (i + 1) (entries beats values)) in
     let room = rows-room whole left (g .args .out-beats .now) (at .loop .out-beats) (g .args .out-values .now) (at .loop .out-values) (at .loop .count) (at .loop .inv .2) (s .beat, s .value) less turn (g .pre .1) in
     (omega arith, omega arith, rows-more whole left (g .args .out-beats .now) (at .loop .out-beats) (g .args .out-values .now) (at .loop .out-values) (at .loop .count) (at .loop .inv .2) (s .beat, s .value) less turn (c .on-row .result) (s .value) (c .on-row .ensures) refl (room .0) (room .1))
 
@@ -136,12 +136,12 @@ loop-again-2 c =
     let beats = g .args .beats .now in
     let values = g .args .values .now in
     let i = at .loop .i in
-    let s = waiting (at .loop .held) in
-    let whole = written rowKeyAt nearTo unheld (entries beats values) in
-    let left = written rowKeyAt nearTo s (drop i (entries beats values)) in
-    let next = waiting (c .before .before .pass .result) in
+    let s = scrollWaiting (at .loop .held) in
+    let whole = stillWritten rowKeyAt nearTo noScrollHeld (entries beats values) in
+    let left = stillWritten rowKeyAt nearTo s (drop i (entries beats values)) in
+    let next = scrollWaiting (c .before .before .pass .result) in
     let turn = turn-waits beats values (g .pre .0) s next i (omega arith) (c .before .before .pass .ensures) (c .before .before .before .before .before .row-key .result) (c .before .before .before .before .before .row-key .ensures) (c .before .writes .result) (c .before .writes .ensures) (c .if1 .left) in
-    let less = written rowKeyAt nearTo next (drop (i + 1) (entries beats values)) in
+    let less = stillWritten rowKeyAt nearTo next (drop (i + 1) (entries beats values)) in
     (omega arith, omega arith, rows-same whole left (g .args .out-beats .now) (at .loop .out-beats) (g .args .out-values .now) (at .loop .out-values) (at .loop .count) (at .loop .inv .2) less turn)
 
 on-row-requires-2 : tie.Need-on-row-requires-2 Inv-loop μ-loop
@@ -157,9 +157,9 @@ slice-write-out-beats-2 c =
     let beats = g .args .beats .now in
     let values = g .args .values .now in
     let i = at .loop .i in
-    let s = waiting (at .loop .held) in
-    let whole = written rowKeyAt nearTo unheld (entries beats values) in
-    let left = written rowKeyAt nearTo s (drop i (entries beats values)) in
+    let s = scrollWaiting (at .loop .held) in
+    let whole = stillWritten rowKeyAt nearTo noScrollHeld (entries beats values) in
+    let left = stillWritten rowKeyAt nearTo s (drop i (entries beats values)) in
     let turn = ends-waiting beats values (g .pre .0) s i (omega arith) (c .before .if2 .taken) in
     rows-room whole left (g .args .out-beats .now) (at .loop .out-beats) (g .args .out-values .now) (at .loop .out-values) (at .loop .count) (at .loop .inv .2) (s .beat, s .value) [] turn (g .pre .1) .0
 
@@ -173,9 +173,9 @@ slice-write-out-values-2 c =
     let beats = g .args .beats .now in
     let values = g .args .values .now in
     let i = at .loop .i in
-    let s = waiting (at .loop .held) in
-    let whole = written rowKeyAt nearTo unheld (entries beats values) in
-    let left = written rowKeyAt nearTo s (drop i (entries beats values)) in
+    let s = scrollWaiting (at .loop .held) in
+    let whole = stillWritten rowKeyAt nearTo noScrollHeld (entries beats values) in
+    let left = stillWritten rowKeyAt nearTo s (drop i (entries beats values)) in
     let turn = ends-waiting beats values (g .pre .0) s i (omega arith) (c .before .if2 .taken) in
     rows-room whole left (g .args .out-beats .now) (at .loop .out-beats) (g .args .out-values .now) (at .loop .out-values) (at .loop .count) (at .loop .inv .2) (s .beat, s .value) [] turn (g .pre .1) .1
 
@@ -195,9 +195,9 @@ returns c =
     let beats = g .args .beats .now in
     let values = g .args .values .now in
     let i = at .loop .i in
-    let s = waiting (at .loop .held) in
-    let whole = written rowKeyAt nearTo unheld (entries beats values) in
-    let left = written rowKeyAt nearTo s (drop i (entries beats values)) in
+    let s = scrollWaiting (at .loop .held) in
+    let whole = stillWritten rowKeyAt nearTo noScrollHeld (entries beats values) in
+    let left = stillWritten rowKeyAt nearTo s (drop i (entries beats values)) in
     let turn = ends-waiting beats values (g .pre .0) s i (omega arith) (c .before .if2 .taken) in
     let room = rows-room whole left (g .args .out-beats .now) (at .loop .out-beats) (g .args .out-values .now) (at .loop .out-values) (at .loop .count) (at .loop .inv .2) (s .beat, s .value) [] turn (g .pre .1) in
     let done = rows-more whole left (g .args .out-beats .now) (at .loop .out-beats) (g .args .out-values .now) (at .loop .out-values) (at .loop .count) (at .loop .inv .2) (s .beat, s .value) [] turn (c .on-row2 .result) (s .value) (c .on-row2 .ensures) refl (room .0) (room .1) in
@@ -216,9 +216,9 @@ returns-2 c =
     let beats = g .args .beats .now in
     let values = g .args .values .now in
     let i = at .loop .i in
-    let s = waiting (at .loop .held) in
-    let whole = written rowKeyAt nearTo unheld (entries beats values) in
-    let left = written rowKeyAt nearTo s (drop i (entries beats values)) in
+    let s = scrollWaiting (at .loop .held) in
+    let whole = stillWritten rowKeyAt nearTo noScrollHeld (entries beats values) in
+    let left = stillWritten rowKeyAt nearTo s (drop i (entries beats values)) in
     let turn = ends beats values (g .pre .0) s i (omega arith) (c .if2 .left) in
     (rows-count whole left (g .args .out-beats .now) (at .loop .out-beats) (g .args .out-values .now) (at .loop .out-values) (at .loop .count) (at .loop .inv .2) turn, rows-all whole left (g .args .out-beats .now) (at .loop .out-beats) (g .args .out-values .now) (at .loop .out-values) (at .loop .count) (at .loop .inv .2) turn)
 

@@ -4,7 +4,7 @@ use mathlib.Core.Path.{refl}
 use native.Mathlib.Omega.{arith}
 use lib.ListN.{drop, getD}
 use lib.Ieee.{Float, nan}
-use Rattle.tidy_kept.specs.Placing.{listed}
+use Rattle.tidy_kept.specs.Placing.{frontEntries}
 use Rattle.tidy_kept.proofs.PlacedInColumns.{listed-here, listed-end}
 use Rattle.tidy_scrolls.proofs.Turns.{LayingRows, rows-none, rows-more, rows-all}
 use borrow.Author.Needs.{needs}
@@ -12,7 +12,7 @@ use Rattle.tidy_scrolls.proofs.lay_rows.Statement.{statement}
 use Rattle.tidy_scrolls.proofs.lay_rows.Tie as tie
 
 abbrev Inv-loop : tie.InvT-loop
-Inv-loop beats values count out-beats₀ out-values₀ i₀ out-beats out-values i = (i ≤ count) × LayingRows (listed count beats values) (drop i (listed count beats values)) out-beats₀ out-beats out-values₀ out-values i
+Inv-loop beats values count out-beats₀ out-values₀ i₀ out-beats out-values i = (i ≤ count) × LayingRows (frontEntries count beats values) (drop i (frontEntries count beats values)) out-beats₀ out-beats out-values₀ out-values i
 
 abbrev μ-loop : tie.MeasureT-loop
 μ-loop beats values count out-beats₀ out-values₀ i₀ out-beats out-values i = count - i
@@ -20,7 +20,7 @@ abbrev μ-loop : tie.MeasureT-loop
 loop-holds : tie.Need-loop-holds Inv-loop μ-loop
 loop-holds c =
     let g = c .before .before .before .before in
-    let whole = listed (g .args .count) (g .args .beats .now) (g .args .values .now) in
+    let whole = frontEntries (g .args .count) (g .args .beats .now) (g .args .values .now) in
     (omega arith, rows-none whole whole (g .args .out-beats .now) (g .args .out-values .now) refl)
 
 mul-on-row : tie.Need-mul-on-row Inv-loop μ-loop
@@ -63,7 +63,7 @@ loop-again c =
     let beats = g .args .beats .now in
     let values = g .args .values .now in
     let i = at .loop .i in
-    let whole = listed (g .args .count) beats values in
+    let whole = frontEntries (g .args .count) beats values in
     let turn = listed-here (g .args .count) beats values (omega arith) (omega arith) i nan nan (omega arith) in
     let e : Float × Float = (getD beats i nan, getD values i nan) in
     (omega arith, rows-more whole (drop i whole) (g .args .out-beats .now) (at .loop .out-beats) (g .args .out-values .now) (at .loop .out-values) i (at .loop .inv .1) e (drop (i + 1) whole) turn (c .before .on-row .result) (getD values i nan) (c .before .on-row .ensures) refl (omega arith) (omega arith))
@@ -81,7 +81,7 @@ returns c =
     let beats = g .args .beats .now in
     let values = g .args .values .now in
     let i = at .loop .i in
-    let whole = listed (g .args .count) beats values in
+    let whole = frontEntries (g .args .count) beats values in
     rows-all whole (drop i whole) (g .args .out-beats .now) (at .loop .out-beats) (g .args .out-values .now) (at .loop .out-values) i (at .loop .inv .1) (listed-end (g .args .count) beats values (omega arith) (omega arith) i (omega arith))
 
 pub lay-rows-spec : {M : Type 1} → statement M

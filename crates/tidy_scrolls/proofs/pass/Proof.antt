@@ -1,5 +1,5 @@
 -- `tidy_scrolls::pass` meets its contract. Assumes nothing.
-use Rattle.tidy_scrolls.specs.Ways.{waiting}
+use Rattle.tidy_scrolls.specs.Ways.{scrollWaiting}
 use Rattle.tidy_kept.proofs.PassTurns.{passed-later, passed-away, passed-by, passed-over, passed-alone}
 use Rattle.tidy_kept.specs.Near.{nearTo}
 use Rattle.tidy_rows.specs.RowTidying.{rowKeyAt}
@@ -16,7 +16,7 @@ come-requires c κs = search needs
 returns : tie.Need-returns
 returns c =
     let g = c .before .before .before .before in
-    let s = waiting (g .args .held) in
+    let s = scrollWaiting (g .args .held) in
     let e : Float × Float = (g .args .beat, g .args .value) in
     c .come .ensures ∙ sym (passed-later rowKeyAt nearTo s e (c .before .before .before .if1 .taken) (omega (arith, g .pre)))
 
@@ -29,7 +29,7 @@ come-requires-2 c κs = search needs
 returns-2 : tie.Need-returns-2
 returns-2 c =
     let g = c .before .before .before .before .before .before in
-    let s = waiting (g .args .held) in
+    let s = scrollWaiting (g .args .held) in
     let e : Float × Float = (g .args .beat, g .args .value) in
     c .come2 .ensures ∙ sym (passed-away rowKeyAt nearTo s e (c .before .before .before .before .before .if1 .taken) (omega (arith, g .pre)) (sym (c .before .before .near .ensures) ∙ c .before .if3 .taken))
 
@@ -39,7 +39,7 @@ near-requires-2 c κs = search needs
 returns-3 : tie.Need-returns-3
 returns-3 c =
     let g = c .before .before .before .before .before .before .before in
-    let s = waiting (g .args .held) in
+    let s = scrollWaiting (g .args .held) in
     let e : Float × Float = (g .args .beat, g .args .value) in
     sym (passed-by rowKeyAt nearTo s e (c .before .before .before .before .before .before .if1 .taken) (omega (arith, g .pre)) (sym (c .before .before .before .near .ensures) ∙ c .before .before .if3 .left) (sym (c .before .near2 .ensures) ∙ c .if4 .taken))
 
@@ -49,7 +49,7 @@ come-requires-3 c κs = search needs
 returns-4 : tie.Need-returns-4
 returns-4 c =
     let g = c .before .before .before .before .before .before .before .before in
-    let s = waiting (g .args .held) in
+    let s = scrollWaiting (g .args .held) in
     let e : Float × Float = (g .args .beat, g .args .value) in
     c .come3 .ensures ∙ sym (passed-over rowKeyAt nearTo s e (c .before .before .before .before .before .before .before .if1 .taken) (omega (arith, g .pre)) (sym (c .before .before .before .before .near .ensures) ∙ c .before .before .before .if3 .left) (sym (c .before .before .near2 .ensures) ∙ c .before .if4 .left))
 
@@ -59,7 +59,7 @@ come-requires-4 c κs = search needs
 returns-5 : tie.Need-returns-5
 returns-5 c =
     let g = c .before .before in
-    let s = waiting (g .args .held) in
+    let s = scrollWaiting (g .args .held) in
     let e : Float × Float = (g .args .beat, g .args .value) in
     c .come4 .ensures ∙ sym (passed-alone rowKeyAt nearTo s e (c .before .if1 .left))
 

@@ -1,7 +1,7 @@
 -- `tidy_scrolls::tidy_ordered` refuses for want of room, or lays. Assumes nothing.
 use Rattle.tidy_scrolls.proofs.Outcomes.{even-columns, ordered-refused, ordered-laid}
-use Rattle.tidy_scrolls.specs.Ways.{unheld}
-use Rattle.tidy_kept.specs.Passing.{written}
+use Rattle.tidy_scrolls.specs.Ways.{noScrollHeld}
+use Rattle.tidy_kept.specs.Passing.{stillWritten}
 use Rattle.tidy_kept.specs.Near.{nearTo}
 use Rattle.tidy_rows.specs.RowTidying.{rowKeyAt}
 use Rattle.order.specs.Entries.{entries}
@@ -25,12 +25,12 @@ refused-requires c κs = search needs
 returns : tie.Need-returns
 returns c =
     let g = c .before .before .before .before .before .before .before .before in
-    rw (c .refused .ensures) (ordered-refused (g .args .beats .now) (g .args .values .now) (g .args .out-beats .now) (g .args .out-values .now) (g .pre .0) (g .pre .1) (omega (arith, leb-false (length (written rowKeyAt nearTo unheld (entries (g .args .beats .now) (g .args .values .now)))) (c .before .before .before .room-of .result) (sym (c .before .before .fits2 .ensures) ∙ not-true _ (c .before .if1 .taken)), c .before .before .before .room-of .ensures)))
+    rw (c .refused .ensures) (ordered-refused (g .args .beats .now) (g .args .values .now) (g .args .out-beats .now) (g .args .out-values .now) (g .pre .0) (g .pre .1) (omega (arith, leb-false (length (stillWritten rowKeyAt nearTo noScrollHeld (entries (g .args .beats .now) (g .args .values .now)))) (c .before .before .before .room-of .result) (sym (c .before .before .fits2 .ensures) ∙ not-true _ (c .before .if1 .taken)), c .before .before .before .room-of .ensures)))
 
 lay-kept-requires : tie.Need-lay-kept-requires
 lay-kept-requires c κs =
     let g = c .before .before .before .before .before .before .before .before .before in
-    (even-columns (g .args .beats .now) (g .args .values .now) (g .pre .0), omega (arith, leb-true (length (written rowKeyAt nearTo unheld (entries (g .args .beats .now) (g .args .values .now)))) (c .before .before .before .before .room-of .result) (sym (c .before .before .before .fits2 .ensures) ∙ not-false _ (c .before .before .if1 .left)), c .before .before .before .before .room-of .ensures))
+    (even-columns (g .args .beats .now) (g .args .values .now) (g .pre .0), omega (arith, leb-true (length (stillWritten rowKeyAt nearTo noScrollHeld (entries (g .args .beats .now) (g .args .values .now)))) (c .before .before .before .before .room-of .result) (sym (c .before .before .before .fits2 .ensures) ∙ not-false _ (c .before .before .if1 .left)), c .before .before .before .before .room-of .ensures))
 
 same-length : tie.Need-same-length
 same-length c = search needs
@@ -41,7 +41,7 @@ same-length-2 c = search needs
 returns-2 : tie.Need-returns-2
 returns-2 c =
     let g = c .before .before .before .before .before .before .before .before .before .before .before .before .before .before in
-    ordered-laid (g .args .beats .now) (g .args .values .now) (g .args .out-beats .now) (g .args .out-values .now) (g .pre .0) (g .pre .1) _ _ _ (omega (arith, leb-true (length (written rowKeyAt nearTo unheld (entries (g .args .beats .now) (g .args .values .now)))) (c .before .before .before .before .before .before .before .before .before .room-of .result) (sym (c .before .before .before .before .before .before .before .before .fits2 .ensures) ∙ not-false _ (c .before .before .before .before .before .before .before .if1 .left)), c .before .before .before .before .before .before .before .before .before .room-of .ensures)) (c .before .before .before .before .lay-kept .ensures .0) (c .before .before .before .before .lay-kept .ensures .1)
+    ordered-laid (g .args .beats .now) (g .args .values .now) (g .args .out-beats .now) (g .args .out-values .now) (g .pre .0) (g .pre .1) _ _ _ (omega (arith, leb-true (length (stillWritten rowKeyAt nearTo noScrollHeld (entries (g .args .beats .now) (g .args .values .now)))) (c .before .before .before .before .before .before .before .before .before .room-of .result) (sym (c .before .before .before .before .before .before .before .before .fits2 .ensures) ∙ not-false _ (c .before .before .before .before .before .before .before .if1 .left)), c .before .before .before .before .before .before .before .before .before .room-of .ensures)) (c .before .before .before .before .lay-kept .ensures .0) (c .before .before .before .before .lay-kept .ensures .1)
 
 pub tidy-ordered-spec : {M : Type 1} → statement M
 tidy-ordered-spec =

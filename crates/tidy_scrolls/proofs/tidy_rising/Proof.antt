@@ -13,9 +13,9 @@ use Rattle.columns.proofs.EachOverFront.{copied-over-front}
 use Rattle.tidy_rows.specs.RowTidying.{rowKeyAt, onItsRow}
 use Rattle.tidy_rows.proofs.BothWays.{each-beat, each-value}
 use Rattle.tidy_kept.specs.Near.{nearTo}
-use Rattle.tidy_kept.specs.Passing.{written}
+use Rattle.tidy_kept.specs.Passing.{stillWritten}
 use Rattle.tidy_by_rows.proofs.ByMarks.{marked-over-front, rising-never-falls}
-use Rattle.tidy_scrolls.specs.Ways.{unheld}
+use Rattle.tidy_scrolls.specs.Ways.{noScrollHeld}
 use Rattle.tidy_scrolls.proofs.AllKept.{every-kept}
 use Rattle.tidy_scrolls.proofs.Outcomes.{even-columns, ordered-laid}
 use borrow.Author.Needs.{needs}
@@ -49,7 +49,7 @@ returns c =
     let out-values = s .args .out-values .now in
     let same = even-columns beats values (s .pre .0) in
     let list = entries beats values in
-    let kept = written rowKeyAt nearTo unheld list in
+    let kept = stillWritten rowKeyAt nearTo noScrollHeld list in
     let every : kept ≡ list = every-kept beats values same (s .pre .1) (sym (c .before .before .before .before .before .before .before .before .before .all-apart .ensures) ∙ c .before .before .before .before .before .before .before .before .if2 .taken) in
     let long : length kept ≡ length beats = ap length every ∙ length-entries beats values same in
     let rooms : length beats ≤ min (length out-beats) (length out-values) = omega (arith, c .before .before .before .before .before .before .before .before .before .before .if1 .taken, c .before .before .before .before .before .before .before .before .before .before .before .room-of .ensures) in

@@ -4,16 +4,16 @@ use mathlib.Core.Path.{_≡_, refl, sym, ap, _∙_}
 use native.Mathlib.Omega.{arith}
 use lib.ListN.{length, drop}
 use Rattle.tidy_rows.specs.RowTidying.{rowKeyAt}
-use Rattle.tidy_kept.specs.Passing.{written}
-use Rattle.tidy_speeds_entries.specs.Speed.{valueOf, nearSpeed, speedEntries}
-use Rattle.tidy_speeds_ordered.specs.OrderedSpeeds.{waiting, unheld, keptSpeeds}
+use Rattle.tidy_kept.specs.Passing.{stillWritten}
+use Rattle.tidy_speeds_entries.specs.Speed.{speedValueOf, nearSpeed, speedEntries}
+use Rattle.tidy_speeds_ordered.specs.OrderedSpeeds.{speedWaiting, noSpeedHeld, keptSpeeds}
 use Rattle.tidy_speeds_ordered.proofs.Turns.{speed-writes, speed-waits, ends-waiting, ends}
 use borrow.Author.Needs.{needs}
 use Rattle.tidy_speeds_ordered.proofs.count_kept.Statement.{statement}
 use Rattle.tidy_speeds_ordered.proofs.count_kept.Tie as tie
 
 abbrev Inv-loop : tie.InvT-loop
-Inv-loop beats ratios delays units n held₀ count₀ i₀ held count i = (i ≤ n) × (count ≤ i) × (n < 9223372036854775808) × (count + length (written rowKeyAt nearSpeed (waiting held) (drop i (speedEntries beats ratios delays units))) ≡ length (keptSpeeds (speedEntries beats ratios delays units)))
+Inv-loop beats ratios delays units n held₀ count₀ i₀ held count i = (i ≤ n) × (count ≤ i) × (n < 9223372036854775808) × (count + length (stillWritten rowKeyAt nearSpeed (speedWaiting held) (drop i (speedEntries beats ratios delays units))) ≡ length (keptSpeeds (speedEntries beats ratios delays units)))
 
 abbrev μ-loop : tie.MeasureT-loop
 μ-loop beats ratios delays units n held₀ count₀ i₀ held count i = n - i
@@ -25,7 +25,7 @@ loop-holds : tie.Need-loop-holds Inv-loop μ-loop
 loop-holds c =
     let g = c .before .before .before .before .before in
     let es = speedEntries (g .args .beats .now) (g .args .ratios .now) (g .args .delays .now) (g .args .units .now) in
-    (omega arith, omega arith, omega (arith, g .pre), omega (arith, ap (λ s. length (written rowKeyAt nearSpeed s es)) (c .none-held .ensures)))
+    (omega arith, omega arith, omega (arith, g .pre), omega (arith, ap (λ s. length (stillWritten rowKeyAt nearSpeed s es)) (c .none-held .ensures)))
 
 mul-row-key : tie.Need-mul-row-key Inv-loop μ-loop
 mul-row-key c = search needs
@@ -69,10 +69,10 @@ loop-again c =
     let delays = g .args .delays .now in
     let units = g .args .units .now in
     let i = at .loop .i in
-    let s = waiting (at .loop .held) in
+    let s = speedWaiting (at .loop .held) in
     let more = c .before .before .before .before .before .before .before .loop-test .taken in
-    let next = waiting (c .before .before .pass .result) in
-    let turn = speed-writes beats ratios delays units (g .args .n) (g .pre) s next i (omega (arith, more)) (valueOf (c .before .before .before .speed-at .result)) (c .before .before .before .speed-at .ensures) (c .before .before .pass .ensures) (c .before .before .before .before .before .row-key .result) (c .before .before .before .before .before .row-key .ensures) (c .before .writes .result) (c .before .writes .ensures) (c .if1 .taken) in
+    let next = speedWaiting (c .before .before .pass .result) in
+    let turn = speed-writes beats ratios delays units (g .args .n) (g .pre) s next i (omega (arith, more)) (speedValueOf (c .before .before .before .speed-at .result)) (c .before .before .before .speed-at .ensures) (c .before .before .pass .ensures) (c .before .before .before .before .before .row-key .result) (c .before .before .before .before .before .row-key .ensures) (c .before .writes .result) (c .before .writes .ensures) (c .if1 .taken) in
     (omega (arith, more), omega (arith, more, at .loop .inv .1), at .loop .inv .2, omega (arith, ap length turn, at .loop .inv .3))
 
 add-i-2 : tie.Need-add-i-2 Inv-loop μ-loop
@@ -90,10 +90,10 @@ loop-again-2 c =
     let delays = g .args .delays .now in
     let units = g .args .units .now in
     let i = at .loop .i in
-    let s = waiting (at .loop .held) in
+    let s = speedWaiting (at .loop .held) in
     let more = c .before .before .before .before .before .before .before .loop-test .taken in
-    let next = waiting (c .before .before .pass .result) in
-    let turn = speed-waits beats ratios delays units (g .args .n) (g .pre) s next i (omega (arith, more)) (valueOf (c .before .before .before .speed-at .result)) (c .before .before .before .speed-at .ensures) (c .before .before .pass .ensures) (c .before .before .before .before .before .row-key .result) (c .before .before .before .before .before .row-key .ensures) (c .before .writes .result) (c .before .writes .ensures) (c .if1 .left) in
+    let next = speedWaiting (c .before .before .pass .result) in
+    let turn = speed-waits beats ratios delays units (g .args .n) (g .pre) s next i (omega (arith, more)) (speedValueOf (c .before .before .before .speed-at .result)) (c .before .before .before .speed-at .ensures) (c .before .before .pass .ensures) (c .before .before .before .before .before .row-key .result) (c .before .before .before .before .before .row-key .ensures) (c .before .writes .result) (c .before .writes .ensures) (c .if1 .left) in
     (omega (arith, more), omega (arith, more, at .loop .inv .1), at .loop .inv .2, omega (arith, ap length turn, at .loop .inv .3))
 
 add-result : tie.Need-add-result Inv-loop μ-loop
@@ -108,7 +108,7 @@ returns c =
     let delays = g .args .delays .now in
     let units = g .args .units .now in
     let i = at .loop .i in
-    let s = waiting (at .loop .held) in
+    let s = speedWaiting (at .loop .held) in
     omega (arith, ap length (ends-waiting beats ratios delays units (g .args .n) (g .pre) s i (c .before .loop-test .left) (c .if2 .taken)), at .loop .inv .3)
 
 returns-2 : tie.Need-returns-2 Inv-loop μ-loop
@@ -120,7 +120,7 @@ returns-2 c =
     let delays = g .args .delays .now in
     let units = g .args .units .now in
     let i = at .loop .i in
-    let s = waiting (at .loop .held) in
+    let s = speedWaiting (at .loop .held) in
     omega (arith, ap length (ends beats ratios delays units (g .args .n) (g .pre) s i (c .before .loop-test .left) (c .if2 .left)), at .loop .inv .3)
 
 pub count-kept-spec : {M : Type 1} → statement M

@@ -4,7 +4,7 @@ use mathlib.Core.Path.{refl}
 use native.Mathlib.Omega.{arith}
 use lib.ListN.{length, drop, getD}
 use lib.Ieee.{nan}
-use Rattle.tidy_speeds_entries.specs.Speed.{valueOf, speedEntries}
+use Rattle.tidy_speeds_entries.specs.Speed.{speedValueOf, speedEntries}
 use Rattle.tidy_speeds_entries.proofs.SpeedColumns.{many-speeds}
 use Rattle.tidy_speeds_entries.proofs.SpeedsLaid.{LayingSpeeds, speeds-none, speeds-room, speeds-more, speeds-all}
 use Rattle.tidy_speeds_ordered.proofs.Turns.{speed-next, speed-end}
@@ -40,7 +40,7 @@ write-speed-requires c κs =
     let i = at .loop .i in
     let whole = (speedEntries (g .args .beats .now) (g .args .ratios .now) (g .args .delays .now) (g .args .units .now)) in
     let more = c .before .before .before .before .before .before .loop-test .taken in
-    let v = valueOf (c .speed-at .result) in
+    let v = speedValueOf (c .speed-at .result) in
     let turn = speed-next (g .args .beats .now) (g .args .ratios .now) (g .args .delays .now) (g .args .units .now) (g .args .n) (g .pre .0) i v more (c .speed-at .ensures) in
     let room = speeds-room whole (drop i whole) (g .args .out-beats .now) (at .loop .out-beats) (g .args .out-ratios .now) (at .loop .out-ratios) (g .args .out-delays .now) (at .loop .out-delays) (g .args .out-units .now) (at .loop .out-units) i (at .loop .inv .2) (getD (g .args .beats .now) i nan, v) (drop (i + 1) whole) turn (omega (arith, many-speeds (g .args .ratios .now) (g .args .delays .now) (g .args .units .now) (g .args .beats .now), g .pre .0, g .pre .1)) in
     room
@@ -58,7 +58,7 @@ loop-again c =
     let i = at .loop .i in
     let whole = (speedEntries (g .args .beats .now) (g .args .ratios .now) (g .args .delays .now) (g .args .units .now)) in
     let more = c .before .before .before .before .before .before .before .before .before .before .before .before .before .before .before .loop-test .taken in
-    let v = valueOf (c .before .before .before .before .before .before .before .before .before .speed-at .result) in
+    let v = speedValueOf (c .before .before .before .before .before .before .before .before .before .speed-at .result) in
     let turn = speed-next (g .args .beats .now) (g .args .ratios .now) (g .args .delays .now) (g .args .units .now) (g .args .n) (g .pre .0) i v more (c .before .before .before .before .before .before .before .before .before .speed-at .ensures) in
     let room = speeds-room whole (drop i whole) (g .args .out-beats .now) (at .loop .out-beats) (g .args .out-ratios .now) (at .loop .out-ratios) (g .args .out-delays .now) (at .loop .out-delays) (g .args .out-units .now) (at .loop .out-units) i (at .loop .inv .2) (getD (g .args .beats .now) i nan, v) (drop (i + 1) whole) turn (omega (arith, many-speeds (g .args .ratios .now) (g .args .delays .now) (g .args .units .now) (g .args .beats .now), g .pre .0, g .pre .1)) in
     (omega (arith, more), at .loop .inv .1, speeds-more whole (drop i whole) (g .args .out-beats .now) (at .loop .out-beats) (g .args .out-ratios .now) (at .loop .out-ratios) (g .args .out-delays .now) (at .loop .out-delays) (g .args .out-units .now) (at .loop .out-units) i (at .loop .inv .2) (getD (g .args .beats .now) i nan, v) (drop (i + 1) whole) turn _ _ _ _ room (c .before .before .before .before .before .before .before .before .write-speed .ensures .0) (c .before .before .before .before .before .before .before .before .write-speed .ensures .1 .0) (c .before .before .before .before .before .before .before .before .write-speed .ensures .1 .1 .0) (c .before .before .before .before .before .before .before .before .write-speed .ensures .1 .1 .1))

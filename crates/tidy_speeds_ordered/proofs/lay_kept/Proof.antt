@@ -5,9 +5,9 @@ use mathlib.Core.List.{[]}
 use native.Mathlib.Omega.{arith}
 use lib.ListN.{length, drop}
 use Rattle.tidy_rows.specs.RowTidying.{rowKeyAt}
-use Rattle.tidy_kept.specs.Passing.{written}
-use Rattle.tidy_speeds_entries.specs.Speed.{valueOf, nearSpeed, speedEntries}
-use Rattle.tidy_speeds_ordered.specs.OrderedSpeeds.{waiting, unheld, keptSpeeds}
+use Rattle.tidy_kept.specs.Passing.{stillWritten}
+use Rattle.tidy_speeds_entries.specs.Speed.{speedValueOf, nearSpeed, speedEntries}
+use Rattle.tidy_speeds_ordered.specs.OrderedSpeeds.{speedWaiting, noSpeedHeld, keptSpeeds}
 use Rattle.tidy_speeds_ordered.proofs.Turns.{speed-writes, speed-waits, ends-waiting, ends}
 use Rattle.tidy_speeds_entries.proofs.SpeedsLaid.{LayingSpeeds, speeds-none, speeds-same, speeds-room, speeds-more, speeds-count, speeds-all}
 use borrow.Author.Needs.{needs}
@@ -16,7 +16,7 @@ use Rattle.tidy_speeds_ordered.proofs.lay_kept.Tie as tie
 
 abbrev Inv-loop : tie.InvT-loop
 Inv-loop beats ratios delays units n out-beats₀ out-ratios₀ out-delays₀ out-units₀ held₀ count₀ i₀ out-beats out-ratios out-delays out-units held count i =
-    (i ≤ n) × (count ≤ i) × (n < 9223372036854775808) × LayingSpeeds (keptSpeeds (speedEntries beats ratios delays units)) (written rowKeyAt nearSpeed (waiting held) (drop i (speedEntries beats ratios delays units))) out-beats₀ out-beats out-ratios₀ out-ratios out-delays₀ out-delays out-units₀ out-units count
+    (i ≤ n) × (count ≤ i) × (n < 9223372036854775808) × LayingSpeeds (keptSpeeds (speedEntries beats ratios delays units)) (stillWritten rowKeyAt nearSpeed (speedWaiting held) (drop i (speedEntries beats ratios delays units))) out-beats₀ out-beats out-ratios₀ out-ratios out-delays₀ out-delays out-units₀ out-units count
 
 abbrev μ-loop : tie.MeasureT-loop
 μ-loop beats ratios delays units n out-beats₀ out-ratios₀ out-delays₀ out-units₀ held₀ count₀ i₀ out-beats out-ratios out-delays out-units held count i = n - i
@@ -28,7 +28,7 @@ loop-holds : tie.Need-loop-holds Inv-loop μ-loop
 loop-holds c =
     let g = c .before .before .before .before .before .before .before .before .before in
     let es = speedEntries (g .args .beats .now) (g .args .ratios .now) (g .args .delays .now) (g .args .units .now) in
-    (omega arith, omega arith, omega (arith, g .pre .0), speeds-none (keptSpeeds es) (written rowKeyAt nearSpeed (waiting (c .none-held .result)) es) (g .args .out-beats .now) (g .args .out-ratios .now) (g .args .out-delays .now) (g .args .out-units .now) (ap (λ s. written rowKeyAt nearSpeed s es) (c .none-held .ensures)))
+    (omega arith, omega arith, omega (arith, g .pre .0), speeds-none (keptSpeeds es) (stillWritten rowKeyAt nearSpeed (speedWaiting (c .none-held .result)) es) (g .args .out-beats .now) (g .args .out-ratios .now) (g .args .out-delays .now) (g .args .out-units .now) (ap (λ s. stillWritten rowKeyAt nearSpeed s es) (c .none-held .ensures)))
 
 mul-row-key : tie.Need-mul-row-key Inv-loop μ-loop
 mul-row-key c = search needs
@@ -63,13 +63,13 @@ write-speed-requires c κs =
     let delays = g .args .delays .now in
     let units = g .args .units .now in
     let i = at .loop .i in
-    let s = waiting (at .loop .held) in
+    let s = speedWaiting (at .loop .held) in
     let more = c .before .before .before .before .before .before .before .before .before .before .before .before .loop-test .taken in
     let whole = keptSpeeds (speedEntries beats ratios delays units) in
-    let left = written rowKeyAt nearSpeed s (drop i (speedEntries beats ratios delays units)) in
-    let next = waiting (c .before .before .before .before .before .before .before .pass .result) in
-    let turn = speed-writes beats ratios delays units (g .args .n) (g .pre .0) s next i (omega (arith, more)) (valueOf (c .before .before .before .before .before .before .before .before .speed-at .result)) (c .before .before .before .before .before .before .before .before .speed-at .ensures) (c .before .before .before .before .before .before .before .pass .ensures) (c .before .before .before .before .before .before .before .before .before .before .row-key .result) (c .before .before .before .before .before .before .before .before .before .before .row-key .ensures) (c .before .before .before .before .before .before .writes .result) (c .before .before .before .before .before .before .writes .ensures) (c .before .before .before .before .before .if1 .taken) in
-    speeds-room whole left (g .args .out-beats .now) (at .loop .out-beats) (g .args .out-ratios .now) (at .loop .out-ratios) (g .args .out-delays .now) (at .loop .out-delays) (g .args .out-units .now) (at .loop .out-units) (at .loop .count) (at .loop .inv .3) (s .beat, s .value) (written rowKeyAt nearSpeed next (drop (i + 1) (speedEntries beats ratios delays units))) turn (g .pre .1)
+    let left = stillWritten rowKeyAt nearSpeed s (drop i (speedEntries beats ratios delays units)) in
+    let next = speedWaiting (c .before .before .before .before .before .before .before .pass .result) in
+    let turn = speed-writes beats ratios delays units (g .args .n) (g .pre .0) s next i (omega (arith, more)) (speedValueOf (c .before .before .before .before .before .before .before .before .speed-at .result)) (c .before .before .before .before .before .before .before .before .speed-at .ensures) (c .before .before .before .before .before .before .before .pass .ensures) (c .before .before .before .before .before .before .before .before .before .before .row-key .result) (c .before .before .before .before .before .before .before .before .before .before .row-key .ensures) (c .before .before .before .before .before .before .writes .result) (c .before .before .before .before .before .before .writes .ensures) (c .before .before .before .before .before .if1 .taken) in
+    speeds-room whole left (g .args .out-beats .now) (at .loop .out-beats) (g .args .out-ratios .now) (at .loop .out-ratios) (g .args .out-delays .now) (at .loop .out-delays) (g .args .out-units .now) (at .loop .out-units) (at .loop .count) (at .loop .inv .3) (s .beat, s .value) (stillWritten rowKeyAt nearSpeed next (drop (i + 1) (speedEntries beats ratios delays units))) turn (g .pre .1)
 
 add-count : tie.Need-add-count Inv-loop μ-loop
 add-count c = record { fits = omega (arith, c .before .before .before .before .before .before .before .before .before .before .before .before .before .before .before .before .before .before .before .before .before .loop-test .taken, c .before .before .before .before .before .before .before .before .before .before .before .before .before .before .before .before .before .before .before .before .before .before .loop .inv .1, c .before .before .before .before .before .before .before .before .before .before .before .before .before .before .before .before .before .before .before .before .before .before .loop .inv .2) }
@@ -89,13 +89,13 @@ loop-again c =
     let delays = g .args .delays .now in
     let units = g .args .units .now in
     let i = at .loop .i in
-    let s = waiting (at .loop .held) in
+    let s = speedWaiting (at .loop .held) in
     let more = c .before .before .before .before .before .before .before .before .before .before .before .before .before .before .before .before .before .before .before .before .before .loop-test .taken in
     let whole = keptSpeeds (speedEntries beats ratios delays units) in
-    let left = written rowKeyAt nearSpeed s (drop i (speedEntries beats ratios delays units)) in
-    let next = waiting (c .before .before .before .before .before .before .before .before .before .before .before .before .before .before .before .before .pass .result) in
-    let turn = speed-writes beats ratios delays units (g .args .n) (g .pre .0) s next i (omega (arith, more)) (valueOf (c .before .before .before .before .before .before .before .before .before .before .before .before .before .before .before .before .before .speed-at .result)) (c .before .before .before .before .before .before .before .before .before .before .before .before .before .before .before .before .before .speed-at .ensures) (c .before .before .before .before .before .before .before .before .before .before .before .before .before .before .before .before .pass .ensures) (c .before .before .before .before .before .before .before .before .before .before .before .before .before .before .before .before .before .before .before .row-key .result) (c .before .before .before .before .before .before .before .before .before .before .before .before .before .before .before .before .before .before .before .row-key .ensures) (c .before .before .before .before .before .before .before .before .before .before .before .before .before .before .before .writes .result) (c .before .before .before .before .before .before .before .before .before .before .before .before .before .before .before .writes .ensures) (c .before .before .before .before .before .before .before .before .before .before .before .before .before .before .if1 .taken) in
-    (omega (arith, more), omega (arith, more, at .loop .inv .1), at .loop .inv .2, speeds-more whole left (g .args .out-beats .now) (at .loop .out-beats) (g .args .out-ratios .now) (at .loop .out-ratios) (g .args .out-delays .now) (at .loop .out-delays) (g .args .out-units .now) (at .loop .out-units) (at .loop .count) (at .loop .inv .3) (s .beat, s .value) (written rowKeyAt nearSpeed next (drop (i + 1) (speedEntries beats ratios delays units))) turn _ _ _ _ (speeds-room whole left (g .args .out-beats .now) (at .loop .out-beats) (g .args .out-ratios .now) (at .loop .out-ratios) (g .args .out-delays .now) (at .loop .out-delays) (g .args .out-units .now) (at .loop .out-units) (at .loop .count) (at .loop .inv .3) (s .beat, s .value) (written rowKeyAt nearSpeed next (drop (i + 1) (speedEntries beats ratios delays units))) turn (g .pre .1)) (c .before .before .before .before .before .before .before .before .write-speed .ensures .0) (c .before .before .before .before .before .before .before .before .write-speed .ensures .1 .0) (c .before .before .before .before .before .before .before .before .write-speed .ensures .1 .1 .0) (c .before .before .before .before .before .before .before .before .write-speed .ensures .1 .1 .1))
+    let left = stillWritten rowKeyAt nearSpeed s (drop i (speedEntries beats ratios delays units)) in
+    let next = speedWaiting (c .before .before .before .before .before .before .before .before .before .before .before .before .before .before .before .before .pass .result) in
+    let turn = speed-writes beats ratios delays units (g .args .n) (g .pre .0) s next i (omega (arith, more)) (speedValueOf (c .before .before .before .before .before .before .before .before .before .before .before .before .before .before .before .before .before .speed-at .result)) (c .before .before .before .before .before .before .before .before .before .before .before .before .before .before .before .before .before .speed-at .ensures) (c .before .before .before .before .before .before .before .before .before .before .before .before .before .before .before .before .pass .ensures) (c .before .before .before .before .before .before .before .before .before .before .before .before .before .before .before .before .before .before .before .row-key .result) (c .before .before .before .before .before .before .before .before .before .before .before .before .before .before .before .before .before .before .before .row-key .ensures) (c .before .before .before .before .before .before .before .before .before .before .before .before .before .before .before .writes .result) (c .before .before .before .before .before .before .before .before .before .before .before .before .before .before .before .writes .ensures) (c .before .before .before .before .before .before .before .before .before .before .before .before .before .before .if1 .taken) in
+    (omega (arith, more), omega (arith, more, at .loop .inv .1), at .loop .inv .2, speeds-more whole left (g .args .out-beats .now) (at .loop .out-beats) (g .args .out-ratios .now) (at .loop .out-ratios) (g .args .out-delays .now) (at .loop .out-delays) (g .args .out-units .now) (at .loop .out-units) (at .loop .count) (at .loop .inv .3) (s .beat, s .value) (stillWritten rowKeyAt nearSpeed next (drop (i + 1) (speedEntries beats ratios delays units))) turn _ _ _ _ (speeds-room whole left (g .args .out-beats .now) (at .loop .out-beats) (g .args .out-ratios .now) (at .loop .out-ratios) (g .args .out-delays .now) (at .loop .out-delays) (g .args .out-units .now) (at .loop .out-units) (at .loop .count) (at .loop .inv .3) (s .beat, s .value) (stillWritten rowKeyAt nearSpeed next (drop (i + 1) (speedEntries beats ratios delays units))) turn (g .pre .1)) (c .before .before .before .before .before .before .before .before .write-speed .ensures .0) (c .before .before .before .before .before .before .before .before .write-speed .ensures .1 .0) (c .before .before .before .before .before .before .before .before .write-speed .ensures .1 .1 .0) (c .before .before .before .before .before .before .before .before .write-speed .ensures .1 .1 .1))
 
 add-i-2 : tie.Need-add-i-2 Inv-loop μ-loop
 add-i-2 c = record { fits = omega (arith, c .before .before .before .before .before .before .before .loop-test .taken, c .before .before .before .before .before .before .before .before .loop .inv .1, c .before .before .before .before .before .before .before .before .loop .inv .2) }
@@ -112,13 +112,13 @@ loop-again-2 c =
     let delays = g .args .delays .now in
     let units = g .args .units .now in
     let i = at .loop .i in
-    let s = waiting (at .loop .held) in
+    let s = speedWaiting (at .loop .held) in
     let more = c .before .before .before .before .before .before .before .loop-test .taken in
     let whole = keptSpeeds (speedEntries beats ratios delays units) in
-    let left = written rowKeyAt nearSpeed s (drop i (speedEntries beats ratios delays units)) in
-    let next = waiting (c .before .before .pass .result) in
-    let turn = speed-waits beats ratios delays units (g .args .n) (g .pre .0) s next i (omega (arith, more)) (valueOf (c .before .before .before .speed-at .result)) (c .before .before .before .speed-at .ensures) (c .before .before .pass .ensures) (c .before .before .before .before .before .row-key .result) (c .before .before .before .before .before .row-key .ensures) (c .before .writes .result) (c .before .writes .ensures) (c .if1 .left) in
-    (omega (arith, more), omega (arith, more, at .loop .inv .1), at .loop .inv .2, speeds-same whole left (g .args .out-beats .now) (at .loop .out-beats) (g .args .out-ratios .now) (at .loop .out-ratios) (g .args .out-delays .now) (at .loop .out-delays) (g .args .out-units .now) (at .loop .out-units) (at .loop .count) (at .loop .inv .3) (written rowKeyAt nearSpeed next (drop (i + 1) (speedEntries beats ratios delays units))) turn)
+    let left = stillWritten rowKeyAt nearSpeed s (drop i (speedEntries beats ratios delays units)) in
+    let next = speedWaiting (c .before .before .pass .result) in
+    let turn = speed-waits beats ratios delays units (g .args .n) (g .pre .0) s next i (omega (arith, more)) (speedValueOf (c .before .before .before .speed-at .result)) (c .before .before .before .speed-at .ensures) (c .before .before .pass .ensures) (c .before .before .before .before .before .row-key .result) (c .before .before .before .before .before .row-key .ensures) (c .before .writes .result) (c .before .writes .ensures) (c .if1 .left) in
+    (omega (arith, more), omega (arith, more, at .loop .inv .1), at .loop .inv .2, speeds-same whole left (g .args .out-beats .now) (at .loop .out-beats) (g .args .out-ratios .now) (at .loop .out-ratios) (g .args .out-delays .now) (at .loop .out-delays) (g .args .out-units .now) (at .loop .out-units) (at .loop .count) (at .loop .inv .3) (stillWritten rowKeyAt nearSpeed next (drop (i + 1) (speedEntries beats ratios delays units))) turn)
 
 write-speed-requires-2 : tie.Need-write-speed-requires-2 Inv-loop μ-loop
 write-speed-requires-2 c κs =
@@ -129,9 +129,9 @@ write-speed-requires-2 c κs =
     let delays = g .args .delays .now in
     let units = g .args .units .now in
     let i = at .loop .i in
-    let s = waiting (at .loop .held) in
+    let s = speedWaiting (at .loop .held) in
     let whole = keptSpeeds (speedEntries beats ratios delays units) in
-    let left = written rowKeyAt nearSpeed s (drop i (speedEntries beats ratios delays units)) in
+    let left = stillWritten rowKeyAt nearSpeed s (drop i (speedEntries beats ratios delays units)) in
     let turn = ends-waiting beats ratios delays units (g .args .n) (g .pre .0) s i (c .before .before .before .before .before .before .loop-test .left) (c .before .before .before .before .before .if2 .taken) in
     speeds-room whole left (g .args .out-beats .now) (at .loop .out-beats) (g .args .out-ratios .now) (at .loop .out-ratios) (g .args .out-delays .now) (at .loop .out-delays) (g .args .out-units .now) (at .loop .out-units) (at .loop .count) (at .loop .inv .3) (s .beat, s .value) [] turn (g .pre .1)
 
@@ -159,9 +159,9 @@ returns c =
     let delays = g .args .delays .now in
     let units = g .args .units .now in
     let i = at .loop .i in
-    let s = waiting (at .loop .held) in
+    let s = speedWaiting (at .loop .held) in
     let whole = keptSpeeds (speedEntries beats ratios delays units) in
-    let left = written rowKeyAt nearSpeed s (drop i (speedEntries beats ratios delays units)) in
+    let left = stillWritten rowKeyAt nearSpeed s (drop i (speedEntries beats ratios delays units)) in
     let turn = ends-waiting beats ratios delays units (g .args .n) (g .pre .0) s i (c .before .before .before .before .before .before .before .before .before .before .before .before .before .before .before .loop-test .left) (c .before .before .before .before .before .before .before .before .before .before .before .before .before .before .if2 .taken) in
     let done = speeds-more whole left (g .args .out-beats .now) (at .loop .out-beats) (g .args .out-ratios .now) (at .loop .out-ratios) (g .args .out-delays .now) (at .loop .out-delays) (g .args .out-units .now) (at .loop .out-units) (at .loop .count) (at .loop .inv .3) (s .beat, s .value) [] turn _ _ _ _ (speeds-room whole left (g .args .out-beats .now) (at .loop .out-beats) (g .args .out-ratios .now) (at .loop .out-ratios) (g .args .out-delays .now) (at .loop .out-delays) (g .args .out-units .now) (at .loop .out-units) (at .loop .count) (at .loop .inv .3) (s .beat, s .value) [] turn (g .pre .1)) (c .before .before .before .before .before .before .before .before .write-speed2 .ensures .0) (c .before .before .before .before .before .before .before .before .write-speed2 .ensures .1 .0) (c .before .before .before .before .before .before .before .before .write-speed2 .ensures .1 .1 .0) (c .before .before .before .before .before .before .before .before .write-speed2 .ensures .1 .1 .1) in
     (speeds-count whole [] (g .args .out-beats .now) _ (g .args .out-ratios .now) _ (g .args .out-delays .now) _ (g .args .out-units .now) _ (at .loop .count + 1) done refl, speeds-all whole [] (g .args .out-beats .now) _ (g .args .out-ratios .now) _ (g .args .out-delays .now) _ (g .args .out-units .now) _ (at .loop .count + 1) done refl)
@@ -187,9 +187,9 @@ returns-2 c =
     let delays = g .args .delays .now in
     let units = g .args .units .now in
     let i = at .loop .i in
-    let s = waiting (at .loop .held) in
+    let s = speedWaiting (at .loop .held) in
     let whole = keptSpeeds (speedEntries beats ratios delays units) in
-    let left = written rowKeyAt nearSpeed s (drop i (speedEntries beats ratios delays units)) in
+    let left = stillWritten rowKeyAt nearSpeed s (drop i (speedEntries beats ratios delays units)) in
     let turn = ends beats ratios delays units (g .args .n) (g .pre .0) s i (c .before .loop-test .left) (c .if2 .left) in
     (speeds-count whole left (g .args .out-beats .now) (at .loop .out-beats) (g .args .out-ratios .now) (at .loop .out-ratios) (g .args .out-delays .now) (at .loop .out-delays) (g .args .out-units .now) (at .loop .out-units) (at .loop .count) (at .loop .inv .3) turn, speeds-all whole left (g .args .out-beats .now) (at .loop .out-beats) (g .args .out-ratios .now) (at .loop .out-ratios) (g .args .out-delays .now) (at .loop .out-delays) (g .args .out-units .now) (at .loop .out-units) (at .loop .count) (at .loop .inv .3) turn)
 

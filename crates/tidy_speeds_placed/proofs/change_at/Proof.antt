@@ -4,7 +4,7 @@ use mathlib.Core.Path.{refl, sym}
 use lib.Seq.{length-take-le}
 use lib.Ieee.{nan}
 use Rattle.tidy_rows.specs.RowTidying.{rowKeyAt}
-use Rattle.tidy_speeds_entries.specs.Speed.{valueOf, nearSpeed, noSpeed, speedValues}
+use Rattle.tidy_speeds_entries.specs.Speed.{speedValueOf, nearSpeed, noSpeed, speedValues}
 use Rattle.tidy_speeds_entries.proofs.SpeedColumns.{many-values}
 use Rattle.tidy_kept.proofs.Searched.{place-within}
 use Rattle.tidy_kept.proofs.PlacedInColumns.{change-by}
@@ -64,7 +64,7 @@ returns c =
     let last = c .before .before .before .before .before .before .before .place-before in
     let lastKey = c .before .before .before .before .before .row-key2 in
     let against = c .before .before .before .held-against in
-    change-by rowKeyAt nearSpeed nan noSpeed (g .args .n) (g .args .beats .now) values (g .pre .0 .2) (omega (arith, many-values (g .args .ratios .now) (g .args .delays .now) (g .args .units .now), g .pre .1 .0 .0, g .pre .1 .0 .1, g .pre .1 .0 .2)) (g .args .beat, valueOf (g .args .value)) (at .result) (last .result) (against .result) (key .result) (lastKey .result) (last .ensures) (key .ensures) (lastKey .ensures) (at .ensures) (g .pre .1 .1) (g .pre .0 .0) (g .pre .0 .1) _ (c .before .before .before .before .near-at .result) (c .before .before .near-at2 .result) (c .before .near-at3 .result) refl (against .ensures) (c .before .before .before .before .near-at .ensures) (c .before .before .near-at2 .ensures) (c .before .near-at3 .ensures) (c .change-of .result) (c .change-of .ensures)
+    change-by rowKeyAt nearSpeed nan noSpeed (g .args .n) (g .args .beats .now) values (g .pre .0 .2) (omega (arith, many-values (g .args .ratios .now) (g .args .delays .now) (g .args .units .now), g .pre .1 .0 .0, g .pre .1 .0 .1, g .pre .1 .0 .2)) (g .args .beat, speedValueOf (g .args .value)) (at .result) (last .result) (against .result) (key .result) (lastKey .result) (last .ensures) (key .ensures) (lastKey .ensures) (at .ensures) (g .pre .1 .1) (g .pre .0 .0) (g .pre .0 .1) _ (c .before .before .before .before .near-at .result) (c .before .before .near-at2 .result) (c .before .near-at3 .result) refl (against .ensures) (c .before .before .before .before .near-at .ensures) (c .before .before .near-at2 .ensures) (c .before .near-at3 .ensures) (c .change-of .result) (c .change-of .ensures)
 
 pub change-at-spec : {M : Type 1} → statement M
 change-at-spec =

@@ -5,7 +5,7 @@ use mathlib.Core.List.{_∷_}
 use native.Mathlib.Omega.{arith}
 use lib.ListN.{length, drop, getD}
 use lib.Ieee.{nan}
-use Rattle.tidy_speeds_entries.specs.Speed.{SpeedValue, valueOf, noSpeed, speedValues}
+use Rattle.tidy_speeds_entries.specs.Speed.{SpeedValue, speedValueOf, noSpeed, speedValues}
 use Rattle.tidy_speeds_entries.proofs.SpeedColumns.{many-values}
 use Rattle.tidy_kept.proofs.PlacedInColumns.{length-listed, listed-here, listed-end}
 use Rattle.tidy_speeds_entries.proofs.SpeedsLaid.{LayingSpeeds, speeds-none, speeds-room, speeds-more, speeds-all}
@@ -40,7 +40,7 @@ write-speed-requires c κs =
     let i = at .loop .i in
     let whole = (listedSpeeds (g .args .count) (g .args .beats .now) (g .args .ratios .now) (g .args .delays .now) (g .args .units .now)) in
     let more = c .before .before .before .before .before .before .loop-test .taken in
-    let v = valueOf (c .before .before .before .before .before .speed-at .result) in
+    let v = speedValueOf (c .before .before .before .before .before .speed-at .result) in
     let turn = listed-here (g .args .count) (g .args .beats .now) (speedValues (g .args .ratios .now) (g .args .delays .now) (g .args .units .now)) (g .pre .0 .0) (omega (arith, many-values (g .args .ratios .now) (g .args .delays .now) (g .args .units .now), g .pre .0 .1, g .pre .0 .2, g .pre .0 .3)) i nan noSpeed more ∙ ap (λ (w : SpeedValue). (getD (g .args .beats .now) i nan, w) ∷ drop (i + 1) whole) (sym (c .before .before .before .before .before .speed-at .ensures)) in
     let room = speeds-room whole (drop i whole) (g .args .out-beats .now) (at .loop .out-beats) (g .args .out-ratios .now) (at .loop .out-ratios) (g .args .out-delays .now) (at .loop .out-delays) (g .args .out-units .now) (at .loop .out-units) i (at .loop .inv .2) (getD (g .args .beats .now) i nan, v) (drop (i + 1) whole) turn (omega (arith, length-listed (g .args .count) (g .args .beats .now) (speedValues (g .args .ratios .now) (g .args .delays .now) (g .args .units .now)) (g .pre .0 .0) (omega (arith, many-values (g .args .ratios .now) (g .args .delays .now) (g .args .units .now), g .pre .0 .1, g .pre .0 .2, g .pre .0 .3)), g .pre .1)) in
     room
@@ -58,7 +58,7 @@ loop-again c =
     let i = at .loop .i in
     let whole = (listedSpeeds (g .args .count) (g .args .beats .now) (g .args .ratios .now) (g .args .delays .now) (g .args .units .now)) in
     let more = c .before .before .before .before .before .before .before .before .before .before .before .before .before .before .before .loop-test .taken in
-    let v = valueOf (c .before .before .before .before .before .before .before .before .before .before .before .before .before .before .speed-at .result) in
+    let v = speedValueOf (c .before .before .before .before .before .before .before .before .before .before .before .before .before .before .speed-at .result) in
     let turn = listed-here (g .args .count) (g .args .beats .now) (speedValues (g .args .ratios .now) (g .args .delays .now) (g .args .units .now)) (g .pre .0 .0) (omega (arith, many-values (g .args .ratios .now) (g .args .delays .now) (g .args .units .now), g .pre .0 .1, g .pre .0 .2, g .pre .0 .3)) i nan noSpeed more ∙ ap (λ (w : SpeedValue). (getD (g .args .beats .now) i nan, w) ∷ drop (i + 1) whole) (sym (c .before .before .before .before .before .before .before .before .before .before .before .before .before .before .speed-at .ensures)) in
     let room = speeds-room whole (drop i whole) (g .args .out-beats .now) (at .loop .out-beats) (g .args .out-ratios .now) (at .loop .out-ratios) (g .args .out-delays .now) (at .loop .out-delays) (g .args .out-units .now) (at .loop .out-units) i (at .loop .inv .2) (getD (g .args .beats .now) i nan, v) (drop (i + 1) whole) turn (omega (arith, length-listed (g .args .count) (g .args .beats .now) (speedValues (g .args .ratios .now) (g .args .delays .now) (g .args .units .now)) (g .pre .0 .0) (omega (arith, many-values (g .args .ratios .now) (g .args .delays .now) (g .args .units .now), g .pre .0 .1, g .pre .0 .2, g .pre .0 .3)), g .pre .1)) in
     (omega (arith, more), at .loop .inv .1, speeds-more whole (drop i whole) (g .args .out-beats .now) (at .loop .out-beats) (g .args .out-ratios .now) (at .loop .out-ratios) (g .args .out-delays .now) (at .loop .out-delays) (g .args .out-units .now) (at .loop .out-units) i (at .loop .inv .2) (getD (g .args .beats .now) i nan, v) (drop (i + 1) whole) turn _ _ _ _ room (c .before .before .before .before .before .before .before .before .write-speed .ensures .0) (c .before .before .before .before .before .before .before .before .write-speed .ensures .1 .0) (c .before .before .before .before .before .before .before .before .write-speed .ensures .1 .1 .0) (c .before .before .before .before .before .before .before .before .write-speed .ensures .1 .1 .1))

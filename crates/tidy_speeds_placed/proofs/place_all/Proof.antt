@@ -5,7 +5,7 @@ use native.Mathlib.Omega.{arith}
 use lib.ListN.{length, getD}
 use lib.Ieee.{nan}
 use Rattle.tidy_rows.specs.RowTidying.{rowKeyAt}
-use Rattle.tidy_speeds_entries.specs.Speed.{valueOf, nearSpeed, noSpeed, speedValues, speedEntries}
+use Rattle.tidy_speeds_entries.specs.Speed.{speedValueOf, nearSpeed, noSpeed, speedValues, speedEntries}
 use Rattle.tidy_speeds_entries.proofs.SpeedColumns.{many-values, many-speeds, speed-here, speed-entry}
 use Rattle.tidy_kept.proofs.PlacedInColumns.{PlacingAll, placing-none, beats-stand, placing-falls, placing-more, placing-ends}
 use borrow.Author.Needs.{needs}
@@ -78,7 +78,7 @@ loop-again c =
     let at = c .before .before .before .before .before .before .before .before .before .before .before .before .before .before .before .before .before in
     let g = c .before .before .before .before .before .before .before .before .before .before .before .before .before .before .before .before .before .before .before .before .before .before .before .before .before .before in
     let more = c .before .before .before .before .before .before .before .before .before .before .before .before .before .before .before .before .loop-test .taken in
-    let v = valueOf (c .before .before .before .before .before .before .before .before .before .before .before .before .before .before .speed-at .result) in (
+    let v = speedValueOf (c .before .before .before .before .before .before .before .before .before .before .before .before .before .before .speed-at .result) in (
       omega (arith, more),
       c .before .before .before .before .before .before .before .before .place .kept .0 ∙ at .loop .inv .1,
       c .before .before .before .before .before .before .before .before .place .kept .1 .0 ∙ at .loop .inv .2,

@@ -3,7 +3,7 @@ use native.Mathlib.Omega.{arith}
 use mathlib.Core.Path.{refl}
 use lib.Ieee.{nan}
 use Rattle.tidy_rows.specs.RowTidying.{rowKeyAt}
-use Rattle.tidy_speeds_entries.specs.Speed.{valueOf, nearSpeed, noSpeed, speedValues}
+use Rattle.tidy_speeds_entries.specs.Speed.{speedValueOf, nearSpeed, noSpeed, speedValues}
 use Rattle.tidy_speeds_entries.proofs.SpeedColumns.{many-values, set-value}
 use Rattle.tidy_kept.proofs.PlacedInColumns.{placed-first}
 use borrow.Author.Needs.{needs}
@@ -37,8 +37,8 @@ same-length-4 c = search needs
 returns : tie.Need-returns
 returns c =
     let g = c in
-    rw (set-value (g .args .ratios .now) (g .args .delays .now) (g .args .units .now) 0 (valueOf (g .args .value)))
-    (placed-first rowKeyAt nearSpeed nan noSpeed (g .args .beat, valueOf (g .args .value)) (g .args .beats .now) (speedValues (g .args .ratios .now) (g .args .delays .now) (g .args .units .now)) (g .pre .0) (omega (arith, many-values (g .args .ratios .now) (g .args .delays .now) (g .args .units .now), g .pre .1, g .pre .2, g .pre .3)))
+    rw (set-value (g .args .ratios .now) (g .args .delays .now) (g .args .units .now) 0 (speedValueOf (g .args .value)))
+    (placed-first rowKeyAt nearSpeed nan noSpeed (g .args .beat, speedValueOf (g .args .value)) (g .args .beats .now) (speedValues (g .args .ratios .now) (g .args .delays .now) (g .args .units .now)) (g .pre .0) (omega (arith, many-values (g .args .ratios .now) (g .args .delays .now) (g .args .units .now), g .pre .1, g .pre .2, g .pre .3)))
 
 pub place-first-spec : {M : Type 1} → statement M
 place-first-spec =

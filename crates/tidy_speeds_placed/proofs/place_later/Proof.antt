@@ -3,7 +3,7 @@ use native.Mathlib.Omega.{arith}
 use mathlib.Core.Path.{refl, sym, _∙_}
 use lib.Ieee.{nan}
 use Rattle.tidy_rows.specs.RowTidying.{rowKeyAt}
-use Rattle.tidy_speeds_entries.specs.Speed.{valueOf, nearSpeed, noSpeed, speedValues}
+use Rattle.tidy_speeds_entries.specs.Speed.{speedValueOf, nearSpeed, noSpeed, speedValues}
 use Rattle.tidy_speeds_entries.proofs.SpeedColumns.{many-values, splice-values}
 use Rattle.tidy_kept.proofs.PlacedInColumns.{high-fits, placed-later}
 use borrow.Author.Needs.{needs}
@@ -16,7 +16,7 @@ change-at-requires c κs = let g = c .before .before .before .before .before .be
 speed-of-requires : tie.Need-speed-of-requires
 speed-of-requires c κs =
     let g = c .before .before .before .before .before .before .before .before .before .before .before .before in
-    let few = high-fits rowKeyAt nearSpeed nan noSpeed (g .args .beat, valueOf (g .args .value)) (g .args .n) (g .args .beats .now) (speedValues (g .args .ratios .now) (g .args .delays .now) (g .args .units .now)) (g .pre .0 .2) (omega (arith, many-values (g .args .ratios .now) (g .args .delays .now) (g .args .units .now), g .pre .1 .0 .0, g .pre .1 .0 .1, g .pre .1 .0 .2)) (c .before .before .before .change-at .result) (c .before .before .before .change-at .ensures) in
+    let few = high-fits rowKeyAt nearSpeed nan noSpeed (g .args .beat, speedValueOf (g .args .value)) (g .args .n) (g .args .beats .now) (speedValues (g .args .ratios .now) (g .args .delays .now) (g .args .units .now)) (g .pre .0 .2) (omega (arith, many-values (g .args .ratios .now) (g .args .delays .now) (g .args .units .now), g .pre .1 .0 .0, g .pre .1 .0 .1, g .pre .1 .0 .2)) (c .before .before .before .change-at .result) (c .before .before .before .change-at .ensures) in
     (c .before .before .before .change-at .ensures .moving, (omega (arith, few, g .pre .0 .2, g .pre .1 .0 .0), omega (arith, few, g .pre .0 .2, g .pre .1 .0 .1), omega (arith, few, g .pre .0 .2, g .pre .1 .0 .2)))
 
 splice-requires : tie.Need-splice-requires
@@ -32,7 +32,7 @@ splice-units-requires : tie.Need-splice-units-requires
 splice-units-requires c κs = search needs
 
 left-of-requires : tie.Need-left-of-requires
-left-of-requires c κs = let g = c .before .before .before .before .before .before .before .before .before .before .before .before .before .before .before .before .before .before .before .before .before .before .before .before .before .before .before .before .before in (c .before .before .before .before .before .before .before .before .before .before .before .before .before .before .before .before .before .before .before .before .change-at .ensures .low, high-fits rowKeyAt nearSpeed nan noSpeed (g .args .beat, valueOf (g .args .value)) (g .args .n) (g .args .beats .now) (speedValues (g .args .ratios .now) (g .args .delays .now) (g .args .units .now)) (g .pre .0 .2) (omega (arith, many-values (g .args .ratios .now) (g .args .delays .now) (g .args .units .now), g .pre .1 .0 .0, g .pre .1 .0 .1, g .pre .1 .0 .2)) (c .before .before .before .before .before .before .before .before .before .before .before .before .before .before .before .before .before .before .before .before .change-at .result) (c .before .before .before .before .before .before .before .before .before .before .before .before .before .before .before .before .before .before .before .before .change-at .ensures), omega (arith, g .pre .0 .1))
+left-of-requires c κs = let g = c .before .before .before .before .before .before .before .before .before .before .before .before .before .before .before .before .before .before .before .before .before .before .before .before .before .before .before .before .before in (c .before .before .before .before .before .before .before .before .before .before .before .before .before .before .before .before .before .before .before .before .change-at .ensures .low, high-fits rowKeyAt nearSpeed nan noSpeed (g .args .beat, speedValueOf (g .args .value)) (g .args .n) (g .args .beats .now) (speedValues (g .args .ratios .now) (g .args .delays .now) (g .args .units .now)) (g .pre .0 .2) (omega (arith, many-values (g .args .ratios .now) (g .args .delays .now) (g .args .units .now), g .pre .1 .0 .0, g .pre .1 .0 .1, g .pre .1 .0 .2)) (c .before .before .before .before .before .before .before .before .before .before .before .before .before .before .before .before .before .before .before .before .change-at .result) (c .before .before .before .before .before .before .before .before .before .before .before .before .before .before .before .before .before .before .before .before .change-at .ensures), omega (arith, g .pre .0 .1))
 
 same-length : tie.Need-same-length
 same-length c = c .before .before .before .before .before .before .before .before .before .before .before .before .before .before .before .splice .kept .0
@@ -56,9 +56,9 @@ returns c =
       c .before .before .before .before .before .before .before .before .before .before .before .splice2 .ensures,
       c .before .before .before .before .before .before .before .splice3 .ensures,
       c .before .before .before .splice-units .ensures,
-      splice-values (g .args .ratios .now) (g .args .delays .now) (g .args .units .now) (g .args .n) (change .low) (change .high) (change .comes) (valueOf comes) (sym (g .pre .1 .0 .0) ∙ g .pre .1 .0 .1) (sym (g .pre .1 .0 .0) ∙ g .pre .1 .0 .2) (omega (arith, g .pre .0 .2, g .pre .1 .0 .0)) (c .before .before .before .before .before .before .before .before .before .before .before .before .before .before .before .before .before .before .before .before .before .change-at .ensures .low) (high-fits rowKeyAt nearSpeed nan noSpeed (g .args .beat, valueOf (g .args .value)) (g .args .n) (g .args .beats .now) (speedValues (g .args .ratios .now) (g .args .delays .now) (g .args .units .now)) (g .pre .0 .2) (omega (arith, many-values (g .args .ratios .now) (g .args .delays .now) (g .args .units .now), g .pre .1 .0 .0, g .pre .1 .0 .1, g .pre .1 .0 .2)) (c .before .before .before .before .before .before .before .before .before .before .before .before .before .before .before .before .before .before .before .before .before .change-at .result) (c .before .before .before .before .before .before .before .before .before .before .before .before .before .before .before .before .before .before .before .before .before .change-at .ensures)),
+      splice-values (g .args .ratios .now) (g .args .delays .now) (g .args .units .now) (g .args .n) (change .low) (change .high) (change .comes) (speedValueOf comes) (sym (g .pre .1 .0 .0) ∙ g .pre .1 .0 .1) (sym (g .pre .1 .0 .0) ∙ g .pre .1 .0 .2) (omega (arith, g .pre .0 .2, g .pre .1 .0 .0)) (c .before .before .before .before .before .before .before .before .before .before .before .before .before .before .before .before .before .before .before .before .before .change-at .ensures .low) (high-fits rowKeyAt nearSpeed nan noSpeed (g .args .beat, speedValueOf (g .args .value)) (g .args .n) (g .args .beats .now) (speedValues (g .args .ratios .now) (g .args .delays .now) (g .args .units .now)) (g .pre .0 .2) (omega (arith, many-values (g .args .ratios .now) (g .args .delays .now) (g .args .units .now), g .pre .1 .0 .0, g .pre .1 .0 .1, g .pre .1 .0 .2)) (c .before .before .before .before .before .before .before .before .before .before .before .before .before .before .before .before .before .before .before .before .before .change-at .result) (c .before .before .before .before .before .before .before .before .before .before .before .before .before .before .before .before .before .before .before .before .before .change-at .ensures)),
     )
-    (placed-later rowKeyAt nearSpeed nan noSpeed (g .args .beat, valueOf (g .args .value)) (g .args .n) (g .args .beats .now) (speedValues (g .args .ratios .now) (g .args .delays .now) (g .args .units .now)) (g .pre .0 .2) (omega (arith, many-values (g .args .ratios .now) (g .args .delays .now) (g .args .units .now), g .pre .1 .0 .0, g .pre .1 .0 .1, g .pre .1 .0 .2)) change (c .before .before .before .before .before .before .before .before .before .before .before .before .before .before .before .before .before .before .before .before .before .change-at .ensures) (valueOf comes) (c .before .before .before .before .before .before .before .before .before .before .before .before .before .before .before .before .before .speed-of .ensures) _ _ (c .left-of .ensures) refl)
+    (placed-later rowKeyAt nearSpeed nan noSpeed (g .args .beat, speedValueOf (g .args .value)) (g .args .n) (g .args .beats .now) (speedValues (g .args .ratios .now) (g .args .delays .now) (g .args .units .now)) (g .pre .0 .2) (omega (arith, many-values (g .args .ratios .now) (g .args .delays .now) (g .args .units .now), g .pre .1 .0 .0, g .pre .1 .0 .1, g .pre .1 .0 .2)) change (c .before .before .before .before .before .before .before .before .before .before .before .before .before .before .before .before .before .before .before .before .before .change-at .ensures) (speedValueOf comes) (c .before .before .before .before .before .before .before .before .before .before .before .before .before .before .before .before .before .speed-of .ensures) _ _ (c .left-of .ensures) refl)
 
 pub place-later-spec : {M : Type 1} → statement M
 place-later-spec =
