@@ -22,7 +22,8 @@ use Rattle.clock.specs.Question.{filled, freshState, freshCursor, beginning, re
 use Rattle.clock.specs.History.{History, answers, lastCursor, countOf}
 use Rattle.clock.specs.declared.Cursor.{Cursor}
 use Rattle.clock.specs.declared.Answer.{Answer}
-use Rattle.clock_histories.specs.Costs.{beatsOf, acceptedRows, falls, events, mostOf, total}
+use Rattle.clock_histories.specs.Costs.{beatsOf, acceptedRows, falls, events, mostOf}
+use Rattle.order.specs.Entries.{total}
 use Rattle.clock_histories.proofs.WithATempo.{all-left}
 use Rattle.clock_histories.proofs.WhereAFreshOneEnds.{new}
 use Rattle.clock_histories.proofs.AnyQuestion.{row-near, Comes, as-asked, asked-stays}

@@ -36,8 +36,3 @@ events t = temposOf t + length (t .stopBeats) + length (t .delayBeats) + 2 * len
 -- one round of events for the first question and one for each time that the row fell, and one for each question that is accepted
 abbrev pub mostOf : Timing → List ℤ → ℕ
 mostOf t rows = (falls rows + 1) * events t + length rows
-
--- numbers added up
-unfoldable pub total : List ℕ → ℕ
-total [] = 0
-total (n ∷ list) = n + total list

@@ -15,7 +15,8 @@ use Rattle.clock.specs.Question.{filled, freshCursor, beginning, question}
 use Rattle.clock.specs.History.{Asking, asks, History, answers, lastCursor, countOf}
 use Rattle.clock.specs.declared.Cursor.{Cursor}
 use Rattle.clock.specs.declared.Answer.{Answer}
-use Rattle.clock_histories.specs.Costs.{beatsOf, acceptedRows, mostOf, total}
+use Rattle.clock_histories.specs.Costs.{beatsOf, acceptedRows, mostOf}
+use Rattle.order.specs.Entries.{total}
 
 module _ (t : Timing) (offset global : Float) where
   -- the cursor after a history, which began with a fresh one

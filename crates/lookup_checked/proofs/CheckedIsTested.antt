@@ -38,7 +38,7 @@ use Rattle.lookup.specs.Finding.{keyAt, Passed, Split}
 use Rattle.lookup.specs.Lookups.{keyOf, rowsRise, risingNumber, askedNumber, warpNumber, fakeNumber, judgableNumber, warpCovers, fakeCovers, lastPasses, isPaused, isWarped, isFake, isJudgable, askedRow, looked}
 use Rattle.lookup.proofs.UsableLists.{rising-taken}
 use Rattle.lookup.proofs.FoundEntries.{passed-to, past-from, last-found, pause-found}
-use Rattle.lookup_checked.specs.Checked.{placeOf, isOnRow, counted, lastCounted, pausedBy, unpausedBy, fakeBy, warpedBy, judgableBy, atRow}
+use Rattle.lookup_checked.specs.Checked.{placeOf, isOnRow, upToRow, lastCounted, pausedBy, unpausedBy, fakeBy, warpedBy, judgableBy, atRow}
 use Rattle.lookup_checked.specs.SameAnswers.{SameAnswers}
 use Rattle.lookup_checked.proofs.WhereHalvesEnd.{Around, place-ends}
 use Rattle.lookup_checked.proofs.LastCounted.{on-row, off-row}
@@ -98,8 +98,8 @@ module _ (value : Range) (beats values : List Float) (taken : risingNumber value
           let last = up-to m inside (rw here at (ends .before (omega arith))) in
           rw (sym (add-one m)) (passed-to (rowKey asked) beats rising m inside last)
 
-  pub counted-splits : Split (rowKey asked) beats (counted at (rowKey asked) beats)
-  unfolding counted
+  pub counted-splits : Split (rowKey asked) beats (upToRow at (rowKey asked) beats)
+  unfolding upToRow
   counted-splits = go (isOnRow beats place (rowKey asked)) refl
     where
       go : (t : Bool) → isOnRow beats place (rowKey asked) ≡ t → Split (rowKey asked) beats (pick t (place + 1) place)
@@ -117,10 +117,10 @@ module _ (value : Range) (beats values : List Float) (taken : risingNumber value
   -- so its last entry is the tested one, and so is a pause
   module _ (test : Float → Float → Bool) where
     pub last-same : lastCounted test at (rowKey asked) beats values ≡ lastPasses test (rowKey asked) false beats values
-    last-same = sym (last-found test (rowKey asked) false beats values (counted at (rowKey asked) beats) (list-is .0 .even) counted-splits)
+    last-same = sym (last-found test (rowKey asked) false beats values (upToRow at (rowKey asked) beats) (list-is .0 .even) counted-splits)
 
   pub pause-same : pausedBy at (rowKey asked) beats values ≡ isPaused (rowKey asked) beats values
-  pause-same = sym (pause-found (rowKey asked) beats values (counted at (rowKey asked) beats) (list-is .0 .even) rising counted-splits)
+  pause-same = sym (pause-found (rowKey asked) beats values (upToRow at (rowKey asked) beats) (list-is .0 .even) rising counted-splits)
 
 -- ---- the questions
 module _ (fakeBeats fakeLengths : List Float) (asked : ℤ) (allowed : natAbs asked ≤ mostRow) where

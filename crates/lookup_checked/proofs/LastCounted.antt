@@ -17,7 +17,7 @@ use Rattle.lookup.specs.Finding.{keyAt, ofLast, pausesOn}
 use Rattle.lookup.specs.Lookups.{warpCovers, fakeCovers}
 use Rattle.lookup_tests.proofs.RowsRise.{never}
 use Rattle.lookup.proofs.FoundEntries.{of-next}
-use Rattle.lookup_checked.specs.Checked.{placeOf, isOnRow, counted, lastCounted, pausedBy}
+use Rattle.lookup_checked.specs.Checked.{placeOf, isOnRow, upToRow, lastCounted, pausedBy}
 use Rattle.lookup_checked.proofs.WhereHalvesEnd.{place-ends}
 
 -- an entry that is on a row is there, and has its key
@@ -48,7 +48,7 @@ next-last test beats values place = rw (add-one place) (of-next test false beats
 module _ (test : Float → Float → Bool) (at : Float) (key : ℕ) (beats values : List Float) (only : (beat value : Float) → le beat at ≡ false → test beat value ≡ false) where
   by-place : lastCounted test at key beats values
       ≡ pick (eqb (placeOf beats at) 0) false (pick (test (getD beats (placeOf beats at - 1) nan) (getD values (placeOf beats at - 1) nan)) (not (isOnRow beats (placeOf beats at) key)) false)
-  unfolding counted
+  unfolding upToRow
   by-place = go (isOnRow beats (placeOf beats at) key) refl
     where
       go : (t : Bool) → isOnRow beats (placeOf beats at) key ≡ t
@@ -105,7 +105,7 @@ module _ (at : Float) (key : ℕ) (beats values : List Float) where
   paused-by-place : pausedBy at key beats values
       ≡ pick (isOnRow beats (placeOf beats at) key) (lt plusZero (getD values (placeOf beats at) nan))
       (pick (eqb (placeOf beats at) 0) false (pick (isOnRow beats (placeOf beats at - 1) key) (lt plusZero (getD values (placeOf beats at - 1) nan)) false))
-  unfolding counted
+  unfolding upToRow
   paused-by-place = go (isOnRow beats (placeOf beats at) key) refl
     where
       go : (t : Bool) → isOnRow beats (placeOf beats at) key ≡ t

@@ -25,12 +25,12 @@ unfoldable pub isOnRow : List Float → ℕ → ℕ → Bool
 isOnRow beats place key = pick (ltb place (length beats)) (eqb (keyAt beats place) key) false
 
 -- how many entries count as at or before the row with a beat and a key
-unfoldable pub counted : Float → ℕ → List Float → ℕ
-counted at key beats = pick (isOnRow beats (placeOf beats at) key) (placeOf beats at + 1) (placeOf beats at)
+unfoldable pub upToRow : Float → ℕ → List Float → ℕ
+upToRow at key beats = pick (isOnRow beats (placeOf beats at) key) (placeOf beats at + 1) (placeOf beats at)
 
 -- what a test says of the last of them; no where there is none
 abbrev pub lastCounted : (Float → Float → Bool) → Float → ℕ → List Float → List Float → Bool
-lastCounted test at key beats values = ofLast test false beats values (counted at key beats)
+lastCounted test at key beats values = ofLast test false beats values (upToRow at key beats)
 
 -- ---- the questions, of a row by its beat and its key
 

@@ -10,21 +10,21 @@ use Rattle.order.specs.RowKey.{rowKey}
 use Rattle.order.proofs.OrderedList.{ordered-never-falls, only-ordered}
 use Rattle.order.proofs.TidiedList.{tidied-rises, only-tidied}
 use Rattle.order.proofs.EachEntry.{length-the-last}
-use Rattle.lookup_row_store.specs.RowStore.{givenRows, partOf}
+use Rattle.lookup_row_store.specs.RowStore.{givenRows, storePart}
 
 module _ (beats values : List Float) where
-  pub pauses-rise : Rises rowKey (partOf true beats values)
-  unfolding partOf
+  pub pauses-rise : Rises rowKey (storePart true beats values)
+  unfolding storePart
   pauses-rise = tidied-rises rowKey (givenRows true beats values)
 
-  pub pause-row-once : (key : ℕ) → length (only rowKey key (partOf true beats values)) ≡ min 1 (length (only rowKey key (givenRows true beats values)))
-  unfolding partOf
+  pub pause-row-once : (key : ℕ) → length (only rowKey key (storePart true beats values)) ≡ min 1 (length (only rowKey key (givenRows true beats values)))
+  unfolding storePart
   pause-row-once key = ap length (only-tidied rowKey key (givenRows true beats values)) ∙ length-the-last (only rowKey key (givenRows true beats values))
 
-  pub ranges-never-fall : NeverFalls rowKey (partOf false beats values)
-  unfolding partOf
+  pub ranges-never-fall : NeverFalls rowKey (storePart false beats values)
+  unfolding storePart
   ranges-never-fall = ordered-never-falls rowKey (givenRows false beats values)
 
-  pub range-rows : (key : ℕ) → only rowKey key (partOf false beats values) ≡ only rowKey key (givenRows false beats values)
-  unfolding partOf
+  pub range-rows : (key : ℕ) → only rowKey key (storePart false beats values) ≡ only rowKey key (givenRows false beats values)
+  unfolding storePart
   range-rows key = only-ordered rowKey key (givenRows false beats values)

@@ -30,8 +30,8 @@ givenRows pauses (beat ∷ beats) (value ∷ values) =
     pick (isStored pauses value) (row binary32 beat ∷ givenRows pauses beats values) (givenRows pauses beats values)
 
 -- a list's part of the store: its rows in rising order, those of pauses without repeats
-unfoldable pub partOf : Bool → List Float → List Float → List ℤ
-partOf pauses beats values = pick pauses (tidied rowKey (givenRows pauses beats values)) (ordered rowKey (givenRows pauses beats values))
+unfoldable pub storePart : Bool → List Float → List Float → List ℤ
+storePart pauses beats values = pick pauses (tidied rowKey (givenRows pauses beats values)) (ordered rowKey (givenRows pauses beats values))
 
 abbrev pub storeRefusedBy : ℕ → Stored
 storeRefusedBy number = record { number = number; stops = 0; delays = 0; warps = 0; fakes = 0 }
@@ -39,16 +39,16 @@ storeRefusedBy number = record { number = number; stops = 0; delays = 0; warps =
 -- ---- the call: the columns of the four lists, and the room for all rows
 module _ (stopBeats stopValues delayBeats delayValues warpBeats warpLengths fakeBeats fakeLengths : List Float) where
   abbrev pub stopsPart : List ℤ
-  stopsPart = partOf true stopBeats stopValues
+  stopsPart = storePart true stopBeats stopValues
 
   abbrev pub delaysPart : List ℤ
-  delaysPart = partOf true delayBeats delayValues
+  delaysPart = storePart true delayBeats delayValues
 
   abbrev pub warpsPart : List ℤ
-  warpsPart = partOf false warpBeats warpLengths
+  warpsPart = storePart false warpBeats warpLengths
 
   abbrev pub fakesPart : List ℤ
-  fakesPart = partOf false fakeBeats fakeLengths
+  fakesPart = storePart false fakeBeats fakeLengths
 
   -- the parts, one behind another
   abbrev pub packed : List ℤ

@@ -22,11 +22,11 @@ use Rattle.process_sm_walk.specs.Chart.{Output, joined, writtenAt, walkChanges}
 
 -- ---- a walk up to a change: what it has written, and the state it has come to
 
-abbrev pub nothingYet : Output
-nothingYet = record { tempos = []; stops = []; warps = [] }
+abbrev pub nothingWritten : Output
+nothingWritten = record { tempos = []; stops = []; warps = [] }
 
 unfoldable pub writtenSoFar : List Change → State → Output
-writtenSoFar [] state = nothingYet
+writtenSoFar [] state = nothingWritten
 writtenSoFar (change ∷ changes) state = joined (writtenAt state change) (writtenSoFar changes (met state change .state))
 
 unfoldable pub comeTo : List Change → State → State
