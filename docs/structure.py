@@ -1,7 +1,7 @@
 #!/usr/bin/env python3
 """structure.py [--check]: writes docs/STRUCTURE.md and docs/structure.svg from crates.txt and the sources: the families of crates and what they stand on, and
-for each crate its public calls with those who call them, its definitions and its laws. With --check it only says whether both are as they should be, and whether
-crates.txt lists for each crate just the crates that its files name.
+for each crate its public calls with those who call them, its definitions and its laws. With --check it only says whether both are as they should be, whether
+crates.txt lists for each crate just the crates that its files name, and whether a definition's name stands in two crates.
 
 crates.txt has the families in the order in which data flows; a comment '# NAME: words' begins one."""
 import html
@@ -48,6 +48,18 @@ def wrong_lists(listed):
         used = named(name, set(listed) | KIT)
         for one in sorted(used ^ set(needs)):
             yield f"{name} names {one}, and crates.txt does not list it" if one in used else f"crates.txt lists {one} for {name}, whose files do not name it"
+
+
+def twice(listed):
+    """The names of definitions that two crates have."""
+    found = {}
+    for name in listed:
+        for path in (root / "crates" / name / "specs").rglob("*.antt"):
+            for word in re.findall(r"^ *(?:(?:abbrev|unfoldable) pub|pub record|pub data) ([^\s:(]+)", path.read_text(), re.M):
+                found.setdefault(word, set()).add(name)
+    for word, names in found.items():
+        if len(names) > 1 and word != "use":
+            yield f"{word} is defined in {' and in '.join(sorted(names))}"
 
 
 def implied(listed):
@@ -204,7 +216,7 @@ def written(listed, families, edges):
 
 def main():
     listed, families = crates()
-    wrong = list(wrong_lists(listed))
+    wrong = list(wrong_lists(listed)) + list(twice(listed))
     if wrong:
         sys.exit("structure: " + "; ".join(wrong))
     edges = implied(listed)
