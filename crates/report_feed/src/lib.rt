@@ -109,7 +109,7 @@ fn put(
     put_number(store, 8, 2, fake_values);
 }
 
-// Bytes, one readOn the other, from the state that the last piece left. Each column holds the numbers of one part of one list; `counts` has,
+// Bytes, one after the other, from the state that the last piece left. Each column holds the numbers of one part of one list; `counts` has,
 // at the number of a list, how many entries it has so far.
 pub fn feed(
     begun: Reading,

@@ -27,7 +27,7 @@ ghost use Rattle.tidy_scrolls.specs.Ways.{scrollWaiting, noScrollHeld, w
 
 // ---- entries in order: no working memory
 
-// The value stillWritten last, and the entry that waits to be stillWritten, if one does.
+// The value written last, and the entry that waits to be written, if one does.
 struct Held {
     before: f64,
     waits: bool,
@@ -48,7 +48,7 @@ fn none_held() -> Held
     }
 }
 
-// An entry on a row from that of the scrollWaiting one on comes, after the value that is stillWritten last.
+// An entry on a row from that of the waiting one on comes, after the value that is written last.
 fn come(before: f64, held: Held, row: u32, beat: f64, value: f64) -> Held
     requires { ⌜ row ≡ rowKeyAt beat ⌝ }
     ensures { λ r. ⌜ scrollWaiting r ≡ comes rowKeyAt nearTo before (scrollWaiting held) (beat, value) ⌝ }
@@ -71,7 +71,7 @@ fn come(before: f64, held: Held, row: u32, beat: f64, value: f64) -> Held
     }
 }
 
-// Whether the scrollWaiting entry is stillWritten when an entry on a row comes.
+// Whether the waiting entry is written when an entry on a row comes.
 fn writes(held: Held, row: u32) -> bool
     ensures { λ r. ⌜ r ≡ pick (held .waits) (ltb (held .row) row) false ⌝ }
 {

@@ -47,19 +47,19 @@ fn none_held() -> Held
     }
 }
 
-// An entry on a row from that of the speedWaiting one on comes, after the speed that is written last.
+// An entry on a row from that of the waiting one on comes, after the speed that is written last.
 fn come(before: Speed, held: Held, row: u32, beat: f64, value: Speed) -> Held
     requires { ⌜ row ≡ rowKeyAt beat ⌝ }
     ensures { λ r. ⌜ speedWaiting r ≡ comes rowKeyAt nearSpeed (speedValueOf before) (speedWaiting held) (beat, speedValueOf value) ⌝ }
 {
-    let speedWaiting = held.value;
+    let waiting = held.value;
     if tidy_speeds_entries::near(value, before) {
         return Held {
             before: before,
             waits: false,
             row: held.row,
             beat: held.beat,
-            value: speedWaiting,
+            value: waiting,
         };
     }
     Held {
@@ -71,7 +71,7 @@ fn come(before: Speed, held: Held, row: u32, beat: f64, value: Speed) -> Held
     }
 }
 
-// Whether the speedWaiting entry is written when an entry on a row comes.
+// Whether the waiting entry is written when an entry on a row comes.
 fn writes(held: Held, row: u32) -> bool
     ensures { λ r. ⌜ r ≡ pick (held .waits) (ltb (held .row) row) false ⌝ }
 {
@@ -86,15 +86,15 @@ fn pass(held: Held, row: u32, beat: f64, value: Speed) -> Held
     ensures { λ r. ⌜ speedWaiting r ≡ entryPassed rowKeyAt nearSpeed (speedWaiting held) (beat, speedValueOf value) ⌝ }
 {
     let before = held.before;
-    let speedWaiting = held.value;
+    let waiting = held.value;
     if held.waits {
         if held.row < row {
-            return come(speedWaiting, held, row, beat, value);
+            return come(waiting, held, row, beat, value);
         }
         if tidy_speeds_entries::near(value, before) {
             return come(before, held, row, beat, value);
         }
-        if tidy_speeds_entries::near(value, speedWaiting) {
+        if tidy_speeds_entries::near(value, waiting) {
             return held;
         }
         return come(before, held, row, beat, value);
@@ -183,7 +183,7 @@ fn lay_kept(
         let row = tidy_rows_sort::row_key(beats[i]);
         let next = pass(held, row, beats[i], speed_at(ratios, delays, units, i));
         if writes(held, row) {
-            let speedWaiting = held.value;
+            let waiting = held.value;
             write_speed(
                 out_beats,
                 out_ratios,
@@ -191,7 +191,7 @@ fn lay_kept(
                 out_units,
                 count,
                 held.beat,
-                speedWaiting,
+                waiting,
             );
             count += 1;
             held = next;
@@ -202,7 +202,7 @@ fn lay_kept(
         i += 1;
     }
     if held.waits {
-        let speedWaiting = held.value;
+        let waiting = held.value;
         write_speed(
             out_beats,
             out_ratios,
@@ -210,7 +210,7 @@ fn lay_kept(
             out_units,
             count,
             held.beat,
-            speedWaiting,
+            waiting,
         );
         return count + 1;
     }
