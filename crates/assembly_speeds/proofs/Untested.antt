@@ -26,9 +26,10 @@ use Rattle.tidy_rows.proofs.TakenBeats.{taken-allowed}
 use Rattle.tidy_by_rows.specs.ByMarks.{rowRises}
 use Rattle.tidy_by_rows.proofs.ByMarks.{rising-never-falls}
 use Rattle.tidy_speeds_entries.specs.Speed.{speedEntries, speedOnRow}
-use Rattle.tidy_speeds_entries.specs.LaidSpeeds.{leastOf, LaidSpeeds, LaidRooms}
+use Rattle.tidy_speeds_entries.specs.LaidSpeeds.{leastOf, LaidSpeeds}
+use Rattle.tidy_speeds_entries.specs.inside.LaidRooms.{LaidRooms}
 use Rattle.tidy_speeds_entries.proofs.SpeedColumns.{many-speeds}
-use Rattle.tidy_speeds_ordered.specs.Apart.{ColumnsApart}
+use Rattle.tidy_speeds_ordered.specs.inside.Apart.{ColumnsApart}
 use Rattle.tidy_speeds_ordered.proofs.ColumnsLaid.{apart-kept}
 use Rattle.tidy_speeds.specs.SpeedTidying.{speedListNumber}
 use Rattle.tidy_speeds.proofs.ListTaken.{speeds-taken}

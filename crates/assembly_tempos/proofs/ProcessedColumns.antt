@@ -26,7 +26,7 @@ use Rattle.assembly_rows.specs.AssembledRows.{narrowedEntry, changeBy, assemble
 use Rattle.assembly_rows.proofs.QuantizedTaken.{quantized-taken}
 use Rattle.assembly_rows.proofs.Untested.{untested-taken}
 use Rattle.assembly_tempos.specs.AssembledTempos.{assembledTempos, assembledStops, assembledWarps, threeRooms, fitNumber}
-use Rattle.assembly_tempos.specs.Inside.{Processed, listsOf}
+use Rattle.assembly_tempos.specs.inside.ProcessedColumns.{Processed, listsOf}
 use Rattle.assembly_tempos.proofs.OnRows.{held-laid, on-row-held}
 use Rattle.assembly_tempos.proofs.RowsFit.{fit-number}
 

@@ -31,7 +31,7 @@ use Rattle.assembly_rows.proofs.Outcomes.{number-with-room}
 use Rattle.assembly_rows.proofs.NarrowedFront.{front-laid}
 use Rattle.assembly_tempos.specs.declared.AssembledTempos.{AssembledTempos}
 use Rattle.assembly_tempos.specs.AssembledTempos.{ThreeLaid}
-use Rattle.assembly_tempos.specs.Inside.{Held, Processed, listsOf, WorkRooms}
+use Rattle.assembly_tempos.specs.inside.ProcessedColumns.{Held, Processed, listsOf, WorkRooms}
 
 -- ---- read back
 

@@ -1,2 +1,2 @@
 pub mod AssembledTempos
-pub mod Inside
+pub mod inside

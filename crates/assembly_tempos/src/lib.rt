@@ -17,7 +17,7 @@ ghost use Rattle.assembly_rows.specs.AssembledRows.{RowsUntested};
 ghost use Rattle.limits.specs.Refusals.{lower};
 ghost use Rattle.assembly_warps.specs.MergedWarps.{threeNumber, mergedLists};
 ghost use Rattle.assembly_tempos.specs.AssembledTempos.{threeRooms, ThreeLaid, nothingAssembled};
-ghost use Rattle.assembly_tempos.specs.Inside.{heldF32, Held, Processed, listsOf, WorkRooms};
+ghost use Rattle.assembly_tempos.specs.inside.ProcessedColumns.{heldF32, Held, Processed, listsOf, WorkRooms};
 
 // The refusal number of all lists, 0 where they are taken, how many entries of each list were written, and the seconds that beat 0 is moved by.
 #[repr(C)]

@@ -17,8 +17,8 @@ use Rattle.clock.specs.History.{answers, lastCursor, numberOf, timeOf, countOf}
 use Rattle.clock.specs.declared.Cursor.{Cursor}
 use Rattle.clock.specs.declared.Answer.{Answer}
 use Rattle.clock_run.specs.Run.{runOf}
-use Rattle.clock_run.specs.Asked.{AllAsked}
-use Rattle.clock_run.specs.Ahead.{quietTime}
+use Rattle.clock_run.specs.inside.Asked.{AllAsked}
+use Rattle.clock_run.specs.inside.Ahead.{quietTime}
 use Rattle.clock_run.proofs.QuietRows.{quietly}
 
 module _ (t : Timing) (offset global : Float) where

@@ -26,7 +26,7 @@ use Rattle.clock_tests.specs.TimingNumbers.{beatNumber}
 use Rattle.clock.specs.Question.{filled, beginning, reply, asking}
 use Rattle.clock.specs.declared.Cursor.{Cursor}
 use Rattle.clock.specs.declared.Answer.{Answer}
-use Rattle.clock_run.specs.Ahead.{lesserRow, restUntil, blind, lookOn, lookAhead, isBefore, quietTime, pastOne, pastNone, pastTempo}
+use Rattle.clock_run.specs.inside.Ahead.{lesserRow, restUntil, blind, lookOn, lookAhead, isBefore, quietTime, pastOne, pastNone, pastTempo}
 use Rattle.clock_run.specs.declared.Ahead.{Ahead}
 use Rattle.clock_run.specs.declared.Past.{Past}
 use Rattle.clock_walk.proofs.RowOrder.{no, lt-le, lt-not}

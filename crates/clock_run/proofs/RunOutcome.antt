@@ -17,7 +17,7 @@ use Rattle.clock.specs.Question.{cursorRefusal}
 use Rattle.clock.specs.History.{lastCursor}
 use Rattle.clock.specs.declared.Cursor.{Cursor}
 use Rattle.clock_run.specs.Run.{runRoomNumber, runNumber, RunLaid}
-use Rattle.clock_run.specs.Asked.{AllAsked}
+use Rattle.clock_run.specs.inside.Asked.{AllAsked}
 
 has-room : (b : Bool) → _≡_ {A = ℕ} (pick b 0 7) 0 → b ≡ true
 has-room true h = refl

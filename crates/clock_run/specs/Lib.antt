@@ -1,3 +1,2 @@
 pub mod Run
-pub mod Asked
-pub mod Ahead
+pub mod inside

@@ -6,8 +6,8 @@ ghost use Prim.Native.Nat.{_≤_};
 ghost use lib.ListN.{length};
 ghost use Rattle.chart.specs.Timing.{timing};
 ghost use Rattle.clock_run.specs.Run.{runRoomNumber, RunLaid};
-ghost use Rattle.clock_run.specs.Asked.{AllAsked};
-ghost use Rattle.clock_run.specs.Ahead.{lesserRow, restUntil, lookOn, lookAhead, isBefore, quietTime, pastTempo};
+ghost use Rattle.clock_run.specs.inside.Asked.{AllAsked};
+ghost use Rattle.clock_run.specs.inside.Ahead.{lesserRow, restUntil, lookOn, lookAhead, isBefore, quietTime, pastTempo};
 
 // The run's number, and the cursor after its last beat; after a refusal the cursor that was lent.
 #[repr(C)]

@@ -18,7 +18,7 @@ use Rattle.chart.specs.Timing.{Timing}
 use Rattle.clock_walk.specs.Events.{nothingYet, sooner, offered, endOffered, nextEvent}
 use Rattle.clock_walk.specs.Passing.{arrived, eventPassed, afterWarpEnd, afterTempo, afterDelay, afterStop, afterWarp}
 use Rattle.clock_walk.specs.Quiet.{farthest, rowAt, endRow}
-use Rattle.clock_walk.specs.Heads.{headsOf, headsAfter, nextOf}
+use Rattle.clock_walk.specs.inside.Heads.{headsOf, headsAfter, nextOf}
 use Rattle.chart.specs.declared.State.{State}
 use Rattle.clock_walk.specs.declared.Next.{Next}
 use Rattle.clock_walk.specs.declared.Heads.{Heads}

@@ -17,7 +17,7 @@ use Rattle.chart.specs.Timing.{Timing}
 use Rattle.clock_walk.specs.Events.{next}
 use Rattle.clock_walk.specs.Passing.{earlyTempo, timeTo, eventPassed, step, afterTempo}
 use Rattle.clock_walk.specs.Quiet.{farthest, rowAt, endRow, isLater, isNextLater, onlyTempos}
-use Rattle.clock_walk.specs.Heads.{headsOf}
+use Rattle.clock_walk.specs.inside.Heads.{headsOf}
 use Rattle.clock_walk.specs.Soon.{tempoPassed, soonOf, walkedSoon}
 use Rattle.clock_walk.specs.Walk.{timeAt, due, isEvent, walkOn, walk}
 use Rattle.chart.specs.declared.State.{State}

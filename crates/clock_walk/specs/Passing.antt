@@ -1,7 +1,7 @@
 -- Passing one event: how time moves up to it, and the state that it leaves. Definitions only.
-use Prim.Native.Nat.{ℕ, _+_, _-_, _^_, _<_}
+use Prim.Native.Nat.{ℕ, _+_, _-_}
 use mathlib.Core.List.{List, [], _∷_}
-use mathlib.Core.Bool.{Bool, true, false}
+use mathlib.Core.Bool.{true, false}
 use lib.ListN.{getD}
 use lib.Dec.{eqb}
 use lib.IntN.{ℤ, _-ℤ_}
@@ -131,13 +131,3 @@ eventPassed early tempoValues stopValues delayValues warpBeats warpLengths s n =
 -- the state after the next event
 abbrev pub step : Float → Timing → ℤ → State → State
 step early t asked s = eventPassed early (t .tempoValues) (t .stopValues) (t .delayValues) (t .warpBeats) (t .warpLengths) s (next t asked s)
-
--- a place that an event moves on can be moved
-abbrev pub CanMove : State → Event → Type 0
-CanMove s WarpEnd = Unit {0}
-CanMove s Tempo = s .tempos < 2 ^ 63
-CanMove s Delay = s .delays < 2 ^ 63
-CanMove s Stop = s .stops < 2 ^ 63
-CanMove s Warp = s .warps < 2 ^ 63
-CanMove s Asked = Unit {0}
-CanMove s NotFound = Unit {0}

@@ -11,7 +11,7 @@ use lib.Pow.{pow-add, pow-pos, pow-mono, pow-lt}
 use lib.Ieee.{Float, fin, binary64, lt, toBits, ofBits, nanBits}
 use lib.Ieee.Exact.{HasValue}
 use borrow.Author.Tests.{lt-leb}
-use Rattle.ieee.specs.Narrowing.{stepPower, Anchor}
+use Rattle.ieee.specs.inside.Spacing.{stepPower, Anchor}
 use Rattle.ieee.proofs.Closest.{lt-or-ge}
 use Rattle.ieee.proofs.Fields.{normal-bits}
 use Rattle.ieee.proofs.Signs.{number-bits}

@@ -10,7 +10,8 @@ use lib.Ieee.{Float, nan, inf, fin, Format, low, up, down, fits, isNan, round}
 use lib.Ieee.Fits.{down-pos, nan-fits, inf-fits, round-fits}
 use lib.Ieee.Exact.{HasValue, round-exact}
 use lib.Ieee.Scale.{finite, round-same}
-use Rattle.ieee.specs.Narrowing.{convert, withSign}
+use Rattle.ieee.specs.Narrowing.{convert}
+use Rattle.ieee.specs.inside.Spacing.{withSign}
 use Rattle.ieee.specs.Nearest.{valueOf, NearestValue, Overflows, TiesToEven}
 use Rattle.ieee.proofs.Signs.{round-signed}
 use Rattle.ieee.proofs.Units.{in-units, same-units, round-number}

@@ -9,7 +9,8 @@ use lib.Ieee.{Float, nan, inf, fin, up, down, lt, le}
 use lib.Ieee.Fits.{down-pos}
 use lib.Ieee.Nearest.{closest}
 use lib.Ieee.Scale.{finite}
-use Rattle.ieee.specs.Rounding.{rint, hold, leastFloat, mostFloat, InI32}
+use Rattle.ieee.specs.Rounding.{rint, hold}
+use Rattle.ieee.specs.inside.FloatEnds.{leastFloat, mostFloat, InI32}
 use Rattle.ieee.proofs.ClosestLaws.{closest-ge}
 use Rattle.ieee.proofs.Held.{held-within}
 use Rattle.ieee.proofs.RintBySum.{within-small}

@@ -12,7 +12,8 @@ use lib.Ieee.Fits.{down-pos}
 use lib.Ieee.Order.{round-mono}
 use lib.Ieee.Scale.{round-same}
 use Rattle.ieee.specs.Rounding.{signed}
-use Rattle.ieee.specs.Narrowing.{convert, withSign}
+use Rattle.ieee.specs.Narrowing.{convert}
+use Rattle.ieee.specs.inside.Spacing.{withSign}
 use Rattle.ieee.specs.Nearest.{signOf}
 use Rattle.ieee.proofs.Tests.{or-false, not-above}
 use Rattle.ieee.proofs.SignedSizes.{ordered-turned, ordered-whole, whole-ordered, test-ordered, ordered-test}

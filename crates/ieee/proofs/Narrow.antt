@@ -8,7 +8,8 @@ use lib.Dec.{T}
 use lib.Ieee.{Float, nan, inf, fin, binary32, up, down, fits, isNan, round, le}
 use lib.Ieee.Exact.{HasValue}
 use lib.Ieee.Scale.{finite}
-use Rattle.ieee.specs.Narrowing.{narrow, withSign}
+use Rattle.ieee.specs.Narrowing.{narrow}
+use Rattle.ieee.specs.inside.Spacing.{withSign}
 use Rattle.ieee.specs.Nearest.{valueOf, NearestValue, Overflows, signOf, TiesToEven}
 use Rattle.ieee.proofs.Convert.{convert-ties-to-even, convert-nearest, convert-infinite, convert-value, convert-nan, convert-inf, convert-fits, convert-number, convert-signed, convert-own, convert-twice}
 use Rattle.ieee.proofs.Signs.{own-sign, sign-sign}

@@ -12,7 +12,8 @@ use lib.Ieee.Exact.{HasValue, round-exact}
 use lib.Ieee.Nearest.{closest, closest-same}
 use lib.Ieee.Scale.{overflow}
 use Rattle.ieee.specs.Nearest.{Overflows, signOf}
-use Rattle.ieee.specs.Narrowing.{narrow, boundary, stepPower, Anchor}
+use Rattle.ieee.specs.Narrowing.{narrow}
+use Rattle.ieee.specs.inside.Spacing.{boundary, stepPower, Anchor}
 use Rattle.ieee.proofs.ClosestLaws.{closest-add}
 use Rattle.ieee.proofs.Narrow.{narrow-value, narrow-fits, narrow-inf, narrow-infinite}
 use Rattle.ieee.proofs.Overflow.{past-overflows}

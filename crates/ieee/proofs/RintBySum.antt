@@ -16,7 +16,8 @@ use mir.Syntax.{w32, w64}
 use mir.Val.{SFits, toZ, ofZ}
 use mir.ValLaws.{toZ-pos, toZ-ofZ}
 use borrow.Author.Tests.{lt-ltb, le-ltb}
-use Rattle.ieee.specs.Rounding.{rint, leastFloat, mostFloat, InI32}
+use Rattle.ieee.specs.Rounding.{rint}
+use Rattle.ieee.specs.inside.FloatEnds.{leastFloat, mostFloat, InI32}
 use Rattle.ieee.proofs.ClosestLaws.{closest-le, closest-add, closest-sub}
 use Rattle.ieee.proofs.Units.{round-number}
 use Rattle.ieee.proofs.Tests.{or-eq, eq-or}

@@ -10,7 +10,7 @@ use lib.Ieee.{Float, nan, inf, fin, Format, prec, low, top, odd, units, round, i
 use lib.Ieee.Fits.{round-is}
 use lib.Ieee.Scale.{overflow}
 use lib.Ieee.Bits.{ofBits-toBits, toBits-lt, nanBits-is}
-use Rattle.ieee.specs.Narrowing.{withSign}
+use Rattle.ieee.specs.inside.Spacing.{withSign}
 use Rattle.ieee.specs.Nearest.{signOf}
 use Rattle.ieee.proofs.Pack.{dropped, held}
 

@@ -14,7 +14,7 @@ use lib.Ieee.Fits.{kept-lt}
 use lib.Ieee.Nearest.{div-same}
 use lib.Ieee.Scale.{finite}
 use Rattle.ieee.specs.Nearest.{Overflows, signOf}
-use Rattle.ieee.specs.Narrowing.{boundary, stepPower}
+use Rattle.ieee.specs.inside.Spacing.{boundary, stepPower}
 use Rattle.ieee.proofs.Closest.{lt-or-ge}
 use Rattle.ieee.proofs.Pack.{size-between, dropped, toBits-of}
 use Rattle.ieee.proofs.SumByValue.{lt-values}

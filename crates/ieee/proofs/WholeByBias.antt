@@ -9,7 +9,8 @@ use lib.IntN.{ℤ, pos, subℕ, _-ℤ_}
 use lib.Ieee.{Float, binary64, round, add, sub, ofInt}
 use lib.Ieee.Exact.{HasValue}
 use borrow.Author.Tests.{lt-ltb, le-ltb}
-use Rattle.ieee.specs.Rounding.{rint, InI32}
+use Rattle.ieee.specs.Rounding.{rint}
+use Rattle.ieee.specs.inside.FloatEnds.{InI32}
 use Rattle.ieee.proofs.Closest.{lt-or-ge}
 use Rattle.ieee.proofs.SumByValue.{minus-values, minus-less}
 use Rattle.ieee.proofs.RintBySum.{biasFloat, biasPattern, Summed, summed}

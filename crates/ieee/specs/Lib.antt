@@ -3,3 +3,4 @@ pub mod Narrowing
 pub mod Nearest
 pub mod Magnitude
 pub mod Constants
+pub mod inside

@@ -2,8 +2,7 @@
 use Prim.Native.Nat.{ℕ, _*_, _-_, _^_, min}
 use mathlib.Core.Bool.{Bool, true, false}
 use lib.IntN.{ℤ, pos, negsuc, negℤ}
-use lib.Dec.{T}
-use lib.Ieee.{Float, nan, inf, fin, up, down, le}
+use lib.Ieee.{Float, nan, inf, fin, up, down}
 use lib.Ieee.Nearest.{closest}
 
 -- n with a sign, negative where it is true
@@ -29,13 +28,3 @@ mostI32 = pos (2 ^ 31 - 1)
 unfoldable pub hold : ℤ → ℤ
 hold (pos n) = pos (min n (2 ^ 31 - 1))
 hold (negsuc n) = negsuc (min n (2 ^ 31 - 1))
-
--- those ends as floats, and a float between them
-abbrev pub leastFloat : Float
-leastFloat = fin true 1 (pos 31)
-
-abbrev pub mostFloat : Float
-mostFloat = fin false 2147483647 (pos 0)
-
-abbrev pub InI32 : Float → Type 0
-InI32 x = T (le leastFloat x) × T (le x mostFloat)

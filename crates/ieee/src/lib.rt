@@ -4,9 +4,11 @@ ghost use mathlib.Core.Bool.{false, not};
 ghost use lib.Dec.{T};
 ghost use lib.Ieee.{isNan, lt};
 ghost use lib.Ieee.Scale.{finite};
-ghost use Rattle.ieee.specs.Rounding.{rint, hold, InI32};
+ghost use Rattle.ieee.specs.Rounding.{rint, hold};
+ghost use Rattle.ieee.specs.inside.FloatEnds.{InI32};
 ghost use Rattle.ieee.specs.Nearest.{signOf};
-ghost use Rattle.ieee.specs.Narrowing.{narrow, withSign, boundary, Anchor};
+ghost use Rattle.ieee.specs.Narrowing.{narrow};
+ghost use Rattle.ieee.specs.inside.Spacing.{withSign, boundary, Anchor};
 
 // x held at the ends of an i32.
 fn within_i32(x: f64) -> f64

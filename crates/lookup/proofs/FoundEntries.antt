@@ -11,8 +11,8 @@ use lib.Ieee.{Float, nan, lt}
 use Rattle.ieee.specs.Constants.{plusZero}
 use Rattle.picks.specs.Pick.{pick}
 use Rattle.order.proofs.Compare.{below?}
-use Rattle.lookup.specs.Lookups.{keyOf, lastPasses, isPaused}
-use Rattle.lookup.specs.Finding.{keyAt, Passed, Past, Split, Between, ofLast, pausesOn}
+use Rattle.lookup.specs.Lookups.{keyOf, lastPasses, isPaused, ofLast, pausesOn}
+use Rattle.lookup.specs.inside.Finding.{keyAt, Passed, Past, Split, Between}
 use Rattle.lookup_tests.proofs.RowsRise.{Rising}
 
 -- ---- the search, and the cursor

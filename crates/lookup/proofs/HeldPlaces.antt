@@ -13,8 +13,8 @@ use lib.Ieee.{Float, nan, lt}
 use Rattle.ieee.specs.Constants.{plusZero}
 use Rattle.picks.specs.Pick.{pick}
 use Rattle.order.proofs.Compare.{below?}
-use Rattle.lookup.specs.Lookups.{isPaused}
-use Rattle.lookup.specs.Finding.{keyAt, keyBefore, keyAfter, Passed, Past, Split, ofLast, pausesOn, Stands, Usable}
+use Rattle.lookup.specs.Lookups.{isPaused, ofLast, pausesOn}
+use Rattle.lookup.specs.inside.Finding.{keyAt, keyBefore, keyAfter, Passed, Past, Split, Stands, Usable}
 use Rattle.lookup_tests.proofs.RowsRise.{Rising, rises}
 use Rattle.lookup.proofs.FoundEntries.{passed-to, past-from, ended, of-next, pause-found}
 

@@ -12,8 +12,8 @@ use Rattle.ieee.specs.Constants.{plusZero}
 use Rattle.picks.specs.Pick.{pick}
 use Rattle.rows.specs.Rows.{beatOf}
 use Rattle.order.specs.RowKey.{rowKey}
-use Rattle.lookup.specs.Lookups.{warpCovers, fakeCovers, inWarp, isPaused, isWarped, isFake, isJudgable}
-use Rattle.lookup.specs.Finding.{Split, Usable, ofLast, spanCovers, startOf, warpEnd, fakeEnd}
+use Rattle.lookup.specs.Lookups.{warpCovers, fakeCovers, inWarp, isPaused, isWarped, isFake, isJudgable, ofLast}
+use Rattle.lookup.specs.inside.Finding.{Split, Usable, spanCovers, startOf, warpEnd, fakeEnd}
 use Rattle.lookup.proofs.FoundEntries.{last-found}
 
 -- no beat is before a NaN

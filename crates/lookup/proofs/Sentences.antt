@@ -16,7 +16,7 @@ use Rattle.order.specs.RowKey.{rowKey}
 use Rattle.columns.specs.declared.Outcome.{Outcome}
 use Rattle.columns.specs.Laying.{given}
 use Rattle.lookup.specs.Lookups.{keyOf, lastPasses, isPaused, inWarp, isWarped, isFake, isJudgable, byte, Judged}
-use Rattle.lookup.specs.Finding.{keyAt, Split}
+use Rattle.lookup.specs.inside.Finding.{keyAt, Split}
 use Rattle.lookup_tests.proofs.RowsRise.{never}
 use Rattle.lookup.proofs.FoundEntries.{of-next, last-found}
 

@@ -15,7 +15,7 @@ use Rattle.limits.specs.Refusals.{listNumber}
 use Rattle.limits.proofs.NoRefusal.{lower-none}
 use Rattle.limits.proofs.ListTaken.{Taken, list-taken}
 use Rattle.lookup.specs.Lookups.{rowsRise, risingNumber, warpNumber, fakeNumber, judgableNumber}
-use Rattle.lookup.specs.Finding.{Usable, AllUsable}
+use Rattle.lookup.specs.inside.Finding.{Usable, AllUsable}
 
 -- a list that answers 0 is taken as any list is, and its rows rise
 pub rising-taken : (value : Range) (beats values : List Float) → risingNumber value beats values ≡ 0 → Taken (rangeOf Beat) value beats values × (rowsRise beats ≡ true)

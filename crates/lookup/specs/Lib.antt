@@ -1,2 +1,2 @@
 pub mod Lookups
-pub mod Finding
+pub mod inside

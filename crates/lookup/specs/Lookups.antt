@@ -1,12 +1,12 @@
 -- Lookups: whether a row is warped, fake or judgable. Rows are compared by their keys, which have the order of the rows. Definitions only.
-use Prim.Native.Nat.{ℕ}
+use Prim.Native.Nat.{ℕ, _-_}
 use mathlib.Core.Bool.{Bool, true, false, not}
 use mathlib.Core.List.{List, [], _∷_, map}
 use mathlib.Core.Path.{_≡_}
 use lib.Dec.{leb, eqb}
 use lib.IntN.{ℤ}
-use lib.ListN.{length}
-use lib.Ieee.{Float, Format, binary32, binary64, lt, le, add}
+use lib.ListN.{length, getD}
+use lib.Ieee.{Float, Format, nan, binary32, binary64, lt, le, add}
 use Rattle.ieee.specs.Constants.{plusZero}
 use Rattle.picks.specs.Pick.{pick}
 use Rattle.ieee.specs.Narrowing.{narrow}
@@ -32,6 +32,14 @@ unfoldable pub isPaused : ℕ → List Float → List Float → Bool
 isPaused key [] values = false
 isPaused key (beat ∷ beats) [] = false
 isPaused key (beat ∷ beats) (value ∷ values) = pick (eqb (keyOf beat) key) (pick (lt plusZero value) true (isPaused key beats values)) (isPaused key beats values)
+
+-- what a test says of the last of the first n entries
+abbrev pub ofLast : (Float → Float → Bool) → Bool → List Float → List Float → ℕ → Bool
+ofLast test none beats values n = pick (eqb n 0) none (test (getD beats (n - 1) nan) (getD values (n - 1) nan))
+
+-- an entry above 0 on a row
+abbrev pub pausesOn : ℕ → Float → Float → Bool
+pausesOn key beat value = pick (eqb (keyOf beat) key) (lt plusZero value) false
 
 -- ---- the three questions
 

@@ -13,7 +13,7 @@ ghost use Rattle.limits.specs.Numbers.{rangeOf, inRange, every, rowIn};
 ghost use Rattle.order.specs.RowKey.{rowKey};
 ghost use Rattle.lookup_tests.specs.Refused.{rowsRise, warpNumber, fakeNumber, judgableNumber};
 ghost use Rattle.lookup.specs.Lookups.{isPaused, isWarped, isFake, isJudgable, askedRow, looked, byte, Judged};
-ghost use Rattle.lookup.specs.Finding.{Usable, AllUsable, Split, Between, keyBefore, keyAfter, Stands, PlaceStands, spanCovers, startOf, warpEnd, fakeEnd, Holds, HeldStands, AllStand};
+ghost use Rattle.lookup.specs.inside.Finding.{Usable, AllUsable, Split, Between, keyBefore, keyAfter, Stands, PlaceStands, spanCovers, startOf, warpEnd, fakeEnd, Holds, HeldStands, AllStand};
 
 // ---- where the entries at or before a row end
 

@@ -34,7 +34,7 @@ use Rattle.limits.proofs.TakenWithin.{taken-within}
 use Rattle.order.specs.RowKey.{rowKey}
 use Rattle.order.proofs.RowKeys.{rows-at-most}
 use Rattle.lookup_tests.proofs.RowsRise.{Rising, rises}
-use Rattle.lookup.specs.Finding.{keyAt, Passed, Split}
+use Rattle.lookup.specs.inside.Finding.{keyAt, Passed, Split}
 use Rattle.lookup.specs.Lookups.{keyOf, rowsRise, risingNumber, askedNumber, warpNumber, fakeNumber, judgableNumber, warpCovers, fakeCovers, lastPasses, isPaused, isWarped, isFake, isJudgable, askedRow, looked}
 use Rattle.lookup.proofs.UsableLists.{rising-taken}
 use Rattle.lookup.proofs.FoundEntries.{passed-to, past-from, last-found, pause-found}

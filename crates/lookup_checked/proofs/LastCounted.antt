@@ -13,8 +13,8 @@ use lib.Ieee.{Float, nan, le, lt}
 use Rattle.ieee.specs.Constants.{plusZero}
 use Rattle.picks.specs.Pick.{pick}
 use Rattle.order.proofs.Compare.{below?}
-use Rattle.lookup.specs.Finding.{keyAt, ofLast, pausesOn}
-use Rattle.lookup.specs.Lookups.{warpCovers, fakeCovers}
+use Rattle.lookup.specs.inside.Finding.{keyAt}
+use Rattle.lookup.specs.Lookups.{ofLast, pausesOn, warpCovers, fakeCovers}
 use Rattle.lookup_tests.proofs.RowsRise.{never}
 use Rattle.lookup.proofs.FoundEntries.{of-next}
 use Rattle.lookup_checked.specs.Checked.{placeOf, isOnRow, upToRow, lastCounted, pausedBy}

@@ -13,8 +13,8 @@ use Rattle.picks.specs.Pick.{pick}
 use Rattle.rows.specs.Rows.{beatOf}
 use Rattle.order.specs.RowKey.{rowKey}
 use Rattle.tidy_kept.specs.Searching.{halved}
-use Rattle.lookup.specs.Finding.{keyAt, ofLast, pausesOn}
-use Rattle.lookup.specs.Lookups.{warpCovers, fakeCovers}
+use Rattle.lookup_tests.specs.Refused.{keyAt}
+use Rattle.lookup.specs.Lookups.{ofLast, pausesOn, warpCovers, fakeCovers}
 
 -- where the search ends: in beats that rise, after those that are not above `at`
 unfoldable pub placeOf : List Float → Float → ℕ

@@ -1,3 +1,2 @@
 pub mod RowStore
-pub mod Placing
-pub mod InLine
+pub mod inside

@@ -1,1 +1,2 @@
 pub mod RawLists
+pub mod inside

@@ -1,8 +1,6 @@
 -- Raw tempos and raw stops, as both formats are given them: by what numbers they are refused. Definitions only.
 use Prim.Native.Nat.{ℕ, min}
 use mathlib.Core.List.{List}
-use mathlib.Core.Bool.{Bool, true, false}
-use mathlib.Core.Path.{_≡_}
 use lib.Ieee.{Float}
 use lib.ListN.{length}
 use Rattle.ieee.specs.Constants.{plusZero}
@@ -18,15 +16,6 @@ rawNumber beats values = listNumber (rangeOf RawBeat) (rangeOf RawTempo) beats v
 -- both lists, every entry of either before one is dropped
 abbrev pub rawNumbers : List Float → List Float → List Float → List Float → ℕ
 rawNumbers tempoBeats tempoValues stopBeats stopValues = lower (rawNumber tempoBeats tempoValues) (rawNumber stopBeats stopValues)
-
--- a list that is taken, and of which nothing is dropped: `stayed` is what stays of a list
-pub record TakenWhole (stayed : List Float → List Float → List (Float × Float)) (beats values : List Float) : Type 0 where
-  pub number : rawNumber beats values ≡ 0
-  pub stay : length (stayed beats values) ≡ length beats
-
--- what a test has told of a list
-abbrev pub Known : (List Float → List Float → List (Float × Float)) → Bool → List Float → List Float → Type 0
-Known stayed whole beats values = whole ≡ true → TakenWhole stayed beats values
 
 -- the room of two columns
 abbrev pub roomFor : List Float → List Float → ℕ

@@ -31,7 +31,7 @@ use Rattle.process_sm_walk_raw.proofs.Numbers.{number-with-room}
 use Rattle.process_sm_lent.specs.Sm.{tidiedTempos, smWritten}
 use Rattle.process_sm_lent.proofs.Ends.{by-tests, taken}
 use Rattle.process_sm_lent.proofs.WalkedColumns.{Fronts, walked-fronts}
-use Rattle.process_sm.specs.Inside.{WalkRooms, RoomsHold, ResultRooms}
+use Rattle.process_sm.specs.inside.Rooms.{WalkRooms, RoomsHold, ResultRooms}
 use Rattle.process_sm.specs.Sm.{SmProcessed}
 use Rattle.process_sm.proofs.FewTidied.{few-tidied}
 use Rattle.process_sm.proofs.WorkRoom.{room-for}

@@ -9,8 +9,8 @@ use Rattle.process_raw.specs.RawLists.{rawNumbers}
 use Rattle.process_raw.proofs.BothTaken.{both-taken}
 use Rattle.process_sm_changes.specs.SmChanges.{smChanges}
 use Rattle.process_sm_walk.specs.Columns.{Columns, columns, mostWritten}
-use Rattle.process_sm_walk.specs.Inside.{Room}
-use Rattle.process_sm.specs.Inside.{WalkRooms}
+use Rattle.process_sm_walk.specs.inside.Rooms.{Room}
+use Rattle.process_sm.specs.inside.Rooms.{WalkRooms}
 use Rattle.process_sm_laws.proofs.ChangesTaken.{few-changes}
 use Rattle.process_raw.specs.declared.Processed.{Processed}
 use Rattle.process_sm_walk_raw.proofs.Numbers.{number-with-room}

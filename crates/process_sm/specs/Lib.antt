@@ -1,2 +1,2 @@
 pub mod Sm
-pub mod Inside
+pub mod inside

@@ -6,7 +6,7 @@ ghost use Prim.Native.Nat.{_≤_, _+_, _<_, _^_, max, min};
 ghost use lib.ListN.{length};
 ghost use Rattle.process_raw.specs.RawLists.{rawNumbers};
 ghost use Rattle.process_sm.specs.Sm.{SmProcessed};
-ghost use Rattle.process_sm.specs.Inside.{RoomsHold, ResultRooms};
+ghost use Rattle.process_sm.specs.inside.Rooms.{RoomsHold, ResultRooms};
 
 // ---- where every room holds the most that the lists come to: stops and warps are written into their rooms by the walk itself
 

@@ -14,7 +14,8 @@ use lib.Ieee.{Float, nan, inf, fin, up, down, neg, lt, eq, le, fits}
 use lib.Ieee.Bits.{is-true}
 use lib.Ieee.Scale.{finite}
 use Rattle.picks.specs.Pick.{pick}
-use Rattle.ieee.specs.Narrowing.{narrow, withSign}
+use Rattle.ieee.specs.Narrowing.{narrow}
+use Rattle.ieee.specs.inside.Spacing.{withSign}
 use Rattle.ieee.proofs.Narrow.{narrow-own, narrow-keeps-order, narrow-signed}
 use Rattle.ieee.proofs.FloatOrder.{le-sizes}
 use Rattle.rows.specs.Rows.{allowedBeat}

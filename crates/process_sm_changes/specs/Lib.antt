@@ -1,2 +1,2 @@
 pub mod SmChanges
-pub mod Inside
+pub mod inside

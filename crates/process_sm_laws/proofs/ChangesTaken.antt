@@ -24,10 +24,10 @@ use Rattle.columns.proofs.KeptLaid.{few-kept}
 use Rattle.process_raw.specs.RawLists.{rawNumber}
 use Rattle.process_sm_changes.specs.SmChanges.{staysSm, narrowed, stayedSm, beatKey32, smChanges}
 use Rattle.process_sm_changes.proofs.Narrowed.{stays-says, beat-allowed, value-taken}
-use Rattle.process_sm_walk.specs.Chart.{processed}
+use Rattle.process_sm_walk.specs.Chart.{processed, TemposNumbers, Chart}
 use Rattle.process_sm_walk.specs.Columns.{Columns, mostWritten}
 use Rattle.process_sm_walk.specs.Walking.{isNumber, walkNumber}
-use Rattle.process_sm_walk.specs.Inside.{Room, TemposNumbers, Chart}
+use Rattle.process_sm_walk.specs.inside.Rooms.{Room}
 use Rattle.process_sm_walk.proofs.Lengths.{Bounded, bounded}
 use Rattle.process_sm_laws.specs.Beats.{Beat}
 use Rattle.process_sm_laws.proofs.ChangesInOrder.{Beats}

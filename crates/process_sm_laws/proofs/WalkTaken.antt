@@ -14,7 +14,7 @@ use Rattle.limits.specs.declared.Kind.the-variants.{TidyTempo}
 use Rattle.limits.proofs.Every.{every-rest}
 use Rattle.process_sm_walk.specs.Columns.{Columns, mostWritten}
 use Rattle.process_sm_walk.specs.Walking.{isNumber, chartNumber, hasRoom, walkNumber}
-use Rattle.process_sm_walk.specs.Inside.{Room}
+use Rattle.process_sm_walk.specs.inside.Rooms.{Room}
 
 pub walk-taken : (tb tv sb sv : List Float) (into : Columns) → length tb ≡ length tv → length sb ≡ length sv → every isNumber tv ≡ true → Room (mostWritten (length tb) (length sb)) into
     → walkNumber tb tv sb sv into ≡ 0

@@ -18,7 +18,7 @@ use Rattle.process_sm_walk.specs.declared.Walked.{Walked}
 use Rattle.process_sm_walk.specs.Chart.{processed, offsetOf}
 use Rattle.process_sm_walk.specs.Columns.{Columns, mostWritten}
 use Rattle.process_sm_walk.specs.Walking.{WalkLaid}
-use Rattle.process_sm_walk.specs.Inside.{Room}
+use Rattle.process_sm_walk.specs.inside.Rooms.{Room}
 use Rattle.process_sm_walk.proofs.Lengths.{Bounded}
 use Rattle.process_sm_walk_raw.proofs.Fronts.{Front, front}
 

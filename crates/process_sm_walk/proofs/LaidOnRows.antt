@@ -8,7 +8,8 @@ use lib.ListN.{length, getD, set, length-set}
 use lib.Ieee.{Float, nan}
 use Rattle.rows.specs.Rows.{quantized32}
 use Rattle.order.specs.Entries.{first, second}
-use Rattle.process_sm_walk.specs.Inside.{laidFrom, quantizedEntry32, rowed}
+use Rattle.process_sm_walk.specs.inside.Written.{laidFrom}
+use Rattle.process_sm_walk.specs.inside.NoWarp.{quantizedEntry32, rowed}
 use Rattle.process_sm_walk.proofs.NextChange.{at, entries-from, entries-end}
 
 -- after the entries before i, with what the columns hold by then

@@ -10,15 +10,15 @@ use lib.Ieee.{Float, eq, le}
 use Rattle.process_sm_machine.specs.declared.Change.{Change}
 use Rattle.process_sm_machine.specs.declared.State.{State}
 use Rattle.order.specs.Entries.{entries}
-use Rattle.process_sm_walk.specs.Changes.{tempoOf, stopOf, mergedChanges, weave, changesLeft, advanced}
-use Rattle.process_sm_walk.specs.Chart.{Output, writtenBy, writtenAt, walkChanges, openingTempo, openingPlaces, processed}
-use Rattle.process_sm_walk.specs.Inside.{counted, noneCounted, WrittenWithin, TemposNumbers, Chart}
-use Rattle.process_sm_machine.specs.Machine.{openChart}
+use Rattle.process_sm_walk.specs.Changes.{tempoOf, stopOf, mergedChanges, weave, changesLeft}
+use Rattle.process_sm_walk.specs.inside.NextChange.{advanced}
+use Rattle.process_sm_walk.specs.Chart.{Output, writtenBy, writtenAt, walkChanges, openingTempo, openingPlaces, processed, TemposNumbers, Chart}
+use Rattle.process_sm_walk.specs.inside.Written.{counted, noneCounted}
+use Rattle.process_sm_walk.specs.inside.Rooms.{WrittenWithin}
+use Rattle.process_sm_machine.specs.Machine.{openChart, finish, met}
 use Rattle.process_sm_walk.specs.declared.Places.{Places}
 use Rattle.process_sm_walk.specs.declared.Counts.{Counts}
 use Rattle.picks.specs.Pick.{pick}
-use Rattle.process_sm_machine.specs.Machine.{finish}
-use Rattle.process_sm_machine.specs.Machine.{met}
 use Rattle.order.proofs.Columns.{length-entries}
 use Rattle.process_sm_walk.proofs.PlacedInColumns.{counted-more}
 use Rattle.process_sm_walk.proofs.NoMoreThanMet.{Number, within-step, within-finish}

@@ -13,7 +13,8 @@ use Rattle.process_sm_machine.specs.declared.Entry.{Entry}
 use Rattle.process_sm_machine.specs.declared.Change.{Change}
 use Rattle.process_sm_machine.specs.declared.Change.the-variants.{Tempo, Stop}
 use Rattle.order.specs.Entries.{entries}
-use Rattle.process_sm_walk.specs.Changes.{entryOf, pairOf, tempoOf, stopOf, mergedChanges, headOf, changesLeft, advanced}
+use Rattle.process_sm_walk.specs.Changes.{entryOf, pairOf, tempoOf, stopOf, mergedChanges, changesLeft}
+use Rattle.process_sm_walk.specs.inside.NextChange.{headOf, advanced}
 use Rattle.process_sm_walk.specs.declared.Next.the-variants.{Here, End}
 use Rattle.process_sm_walk.specs.declared.Places.{Places}
 

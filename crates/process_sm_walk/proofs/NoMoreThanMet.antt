@@ -9,9 +9,10 @@ use Rattle.ieee.specs.Constants.{plusZero32, sixty32}
 use Rattle.process_sm_machine.specs.declared.Entry.{Entry}
 use Rattle.process_sm_machine.specs.declared.Change.{Change}
 use Rattle.process_sm_machine.specs.declared.Change.the-variants.{Tempo, Stop}
-use Rattle.process_sm_walk.specs.Changes.{advanced}
+use Rattle.process_sm_walk.specs.inside.NextChange.{advanced}
 use Rattle.process_sm_walk.specs.Chart.{writtenList, writtenBy, writtenAt}
-use Rattle.process_sm_walk.specs.Inside.{counted, pendingIn, WrittenWithin}
+use Rattle.process_sm_walk.specs.inside.Written.{counted}
+use Rattle.process_sm_walk.specs.inside.Rooms.{pendingIn, WrittenWithin}
 use Rattle.process_sm_machine.specs.declared.Opened.{Opened}
 use Rattle.process_sm_machine.specs.declared.Warp.{Warp}
 use Rattle.process_sm_machine.specs.declared.Warp.the-variants.{Closed, Open}
@@ -23,8 +24,7 @@ use Rattle.process_sm_walk.specs.declared.Places.{Places}
 use Rattle.process_sm_walk.specs.declared.Counts.{Counts}
 use Rattle.picks.specs.Pick.{pick}
 use Rattle.process_sm_machine.proofs.Either.{either}
-use Rattle.process_sm_machine.specs.Machine.{fits, warpOver, tempoAfter, owedAt, keepWarp, closeByTime, passInWarp, passBy, pass, tempoOutside, tempoBy, meetTempo, stopOutside, closeByStop, beginAgain, stopInWarp, stopBy, meetStop, beatAt, meet, warpEndOf, finishWarp, finishBy, finish}
-use Rattle.process_sm_machine.specs.Machine.{timePassed, met}
+use Rattle.process_sm_machine.specs.Machine.{fits, warpOver, tempoAfter, owedAt, keepWarp, closeByTime, passInWarp, passBy, pass, tempoOutside, tempoBy, meetTempo, stopOutside, closeByStop, beginAgain, stopInWarp, stopBy, meetStop, beatAt, meet, warpEndOf, finishWarp, finishBy, finish, timePassed, met}
 use Rattle.process_sm_walk.proofs.PlacedInColumns.{counted-more}
 
 one-or-none : (b : Bool) (x : Entry) → length (writtenList (pick b Nothing (One x))) ≡ pick b 0 1

@@ -17,8 +17,8 @@ use Rattle.process_sm_machine.specs.declared.Warp.the-variants.{Closed}
 use Rattle.process_sm_machine.specs.Machine.{fits}
 use Rattle.process_sm_machine.proofs.EachArrow.{time-outside, tempo-written, stop-written, end-outside}
 use Rattle.process_sm_walk.specs.Changes.{tempoOf, stopOf, weave, mergedChanges, changesLeft}
-use Rattle.process_sm_walk.specs.Chart.{Output, walkChanges}
-use Rattle.process_sm_walk.specs.Inside.{isPause, quantizedEntry32, rowed, NoWarp, Chart}
+use Rattle.process_sm_walk.specs.Chart.{Output, walkChanges, Chart}
+use Rattle.process_sm_walk.specs.inside.NoWarp.{isPause, quantizedEntry32, rowed, NoWarp}
 use Rattle.process_sm_walk.specs.declared.Places.{Places}
 
 abbrev closedAt : Float → Float → State

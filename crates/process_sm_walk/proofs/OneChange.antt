@@ -10,11 +10,11 @@ use Rattle.process_sm_machine.specs.declared.Moved.{Moved}
 use Rattle.order.specs.Entries.{first, second}
 use Rattle.process_sm_walk.specs.Chart.{Output, joined, writtenBy, writtenAt}
 use Rattle.process_sm_walk.specs.Columns.{Columns}
-use Rattle.process_sm_walk.specs.Inside.{writtenInto, counted, Room}
+use Rattle.process_sm_walk.specs.inside.Written.{writtenInto, counted}
+use Rattle.process_sm_walk.specs.inside.Rooms.{Room}
 use Rattle.process_sm_walk.specs.declared.Counts.{Counts}
 use Rattle.process_sm_walk.specs.declared.Standing.{Standing}
-use Rattle.process_sm_machine.specs.Machine.{meet}
-use Rattle.process_sm_machine.specs.Machine.{timePassed, met}
+use Rattle.process_sm_machine.specs.Machine.{meet, timePassed, met}
 use Rattle.process_sm_walk.proofs.PlacedInColumns.{written-more, counted-more, placed-length}
 
 -- ---- lengths

@@ -18,10 +18,11 @@ use Rattle.order.specs.Entries.{entries, first, second}
 use Rattle.columns.specs.Laying.{given, columnLaid}
 use Rattle.columns.proofs.Rooms.{nothing-given}
 use Rattle.process_sm_walk.specs.declared.Finished.{Finished}
-use Rattle.process_sm_walk.specs.Chart.{processed, offsetOf}
+use Rattle.process_sm_walk.specs.Chart.{processed, offsetOf, TemposNumbers, Chart}
 use Rattle.process_sm_walk.specs.Columns.{Columns, mostWritten}
 use Rattle.process_sm_walk.specs.Walking.{isNumber, roomForCounts, hasRoom, chartNumber, walkNumber, WalkLaid}
-use Rattle.process_sm_walk.specs.Inside.{laidFrom, writtenInto, counted, noneCounted, Room, TemposNumbers, Chart}
+use Rattle.process_sm_walk.specs.inside.Written.{laidFrom, writtenInto, counted, noneCounted}
+use Rattle.process_sm_walk.specs.inside.Rooms.{Room}
 use Rattle.process_sm_walk.proofs.PlacedInColumns.{placed-laid}
 use Rattle.process_sm_walk.proofs.Lengths.{bounded}
 

@@ -9,7 +9,7 @@ use Rattle.order.specs.Order.{laid}
 use Rattle.order.specs.Entries.{first, second}
 use Rattle.process_sm_walk.specs.Chart.{Output, joined}
 use Rattle.process_sm_walk.specs.Columns.{Columns}
-use Rattle.process_sm_walk.specs.Inside.{laidFrom, writtenInto, counted}
+use Rattle.process_sm_walk.specs.inside.Written.{laidFrom, writtenInto, counted}
 use Rattle.process_sm_walk.specs.declared.Counts.{Counts}
 
 placed-more : (xs ys : List Float) (at : ℕ) (column : List Float) → laidFrom at (xs ++ ys) column ≡ laidFrom (at + length xs) ys (laidFrom at xs column)

@@ -10,18 +10,19 @@ use lib.Ieee.{Float, eq}
 use Rattle.process_sm_machine.specs.declared.Change.{Change}
 use Rattle.process_sm_machine.specs.declared.Change.the-variants.{Tempo, Stop}
 use Rattle.order.specs.Entries.{entries}
-use Rattle.process_sm_walk.specs.Changes.{pairOf, headOf, changesLeft, advanced}
-use Rattle.process_sm_walk.specs.Chart.{Output, joined, writtenBy, writtenAt, walkChanges}
+use Rattle.process_sm_walk.specs.Changes.{pairOf, changesLeft}
+use Rattle.process_sm_walk.specs.inside.NextChange.{headOf, advanced}
+use Rattle.process_sm_walk.specs.Chart.{Output, joined, writtenBy, writtenAt, walkChanges, TemposNumbers, Chart}
 use Rattle.process_sm_walk.specs.Columns.{Columns, mostWritten}
-use Rattle.process_sm_walk.specs.Inside.{writtenInto, counted, Room, WrittenWithin, TemposNumbers, Chart, Reached}
+use Rattle.process_sm_walk.specs.inside.Written.{writtenInto, counted}
+use Rattle.process_sm_walk.specs.inside.Rooms.{Room, WrittenWithin, Reached}
 use Rattle.process_sm_walk.specs.declared.Next.the-variants.{Here, End}
 use Rattle.process_sm_machine.specs.declared.State.{State}
 use Rattle.process_sm_machine.specs.declared.Moved.{Moved}
 use Rattle.process_sm_walk.specs.declared.Places.{Places}
 use Rattle.process_sm_walk.specs.declared.Counts.{Counts}
 use Rattle.process_sm_walk.specs.declared.Standing.{Standing}
-use Rattle.process_sm_machine.specs.Machine.{finish}
-use Rattle.process_sm_machine.specs.Machine.{met}
+use Rattle.process_sm_machine.specs.Machine.{finish, met}
 use Rattle.order.proofs.Columns.{length-entries}
 use Rattle.process_sm_walk.proofs.NextChange.{left-on, left-end, InList, next-in-list, From, taken, restOfTempos}
 use Rattle.process_sm_walk.proofs.PlacedInColumns.{written-more, counted-more}

@@ -10,9 +10,11 @@ use Rattle.order.specs.Entries.{entries, first, second}
 use Rattle.order.proofs.Columns.{length-entries}
 use Rattle.process_sm_machine.specs.declared.State.{State}
 use Rattle.process_sm_walk.specs.Changes.{changesLeft}
-use Rattle.process_sm_walk.specs.Chart.{walkChanges}
+use Rattle.process_sm_walk.specs.Chart.{walkChanges, Chart}
 use Rattle.process_sm_walk.specs.Columns.{Columns, columns, mostWritten}
-use Rattle.process_sm_walk.specs.Inside.{laidFrom, writtenInto, counted, Room, WrittenWithin, Chart, Reached, NoWarp, quantizedEntry32, rowed}
+use Rattle.process_sm_walk.specs.inside.Written.{laidFrom, writtenInto, counted}
+use Rattle.process_sm_walk.specs.inside.Rooms.{Room, WrittenWithin, Reached}
+use Rattle.process_sm_walk.specs.inside.NoWarp.{NoWarp, quantizedEntry32, rowed}
 use Rattle.process_sm_walk.specs.declared.Counts.{Counts}
 use Rattle.process_sm_walk.specs.declared.Places.{Places}
 use Rattle.process_sm_walk.proofs.NoWarpOpens.{walk-by-lists}

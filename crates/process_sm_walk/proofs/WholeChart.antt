@@ -12,16 +12,16 @@ use Rattle.process_sm_machine.specs.declared.Written.{Written}
 use Rattle.process_sm_machine.specs.declared.Moved.{Moved}
 use Rattle.order.specs.Entries.{entries}
 use Rattle.process_sm_walk.specs.Changes.{changesLeft}
-use Rattle.process_sm_walk.specs.Chart.{Output, writtenList, writtenBy, walkChanges, firstTempo, temposBy0, stopsBefore, openingTempo, offsetOf, openingPlaces, processed}
+use Rattle.process_sm_walk.specs.Chart.{Output, writtenList, writtenBy, walkChanges, firstTempo, temposBy0, stopsBefore, openingTempo, offsetOf, openingPlaces, processed, TemposNumbers, Chart}
 use Rattle.process_sm_walk.specs.Columns.{Columns, mostWritten}
-use Rattle.process_sm_walk.specs.Inside.{writtenInto, counted, noneCounted, Room, WrittenWithin, TemposNumbers, Chart, Reached}
-use Rattle.process_sm_machine.specs.Machine.{openChart}
+use Rattle.process_sm_walk.specs.inside.Written.{writtenInto, counted, noneCounted}
+use Rattle.process_sm_walk.specs.inside.Rooms.{Room, WrittenWithin, Reached}
+use Rattle.process_sm_machine.specs.Machine.{openChart, fits}
 use Rattle.process_sm_walk.specs.declared.Places.{Places}
 use Rattle.process_sm_walk.specs.declared.Counts.{Counts}
 use Rattle.process_sm_walk.specs.declared.Opener.{Opener}
 use Rattle.process_sm_walk.specs.declared.Early.{Early}
 use Rattle.process_sm_walk.specs.declared.Finished.{Finished}
-use Rattle.process_sm_machine.specs.Machine.{fits}
 use Rattle.order.proofs.Columns.{length-entries}
 use Rattle.process_sm_walk.proofs.PlacedInColumns.{written-more, counted-more}
 use Rattle.process_sm_machine.proofs.Either.{either}

@@ -1,5 +1,4 @@
 -- Tempos and stops as one list of changes, by beat. Definitions only.
-use Prim.Native.Nat.{_+_}
 use mathlib.Core.List.{List, [], _∷_, map}
 use lib.ListN.{drop}
 use lib.Ieee.{Float, le}
@@ -7,8 +6,6 @@ use Rattle.picks.specs.Pick.{pick}
 use Rattle.process_sm_machine.specs.declared.Entry.{Entry}
 use Rattle.process_sm_machine.specs.declared.Change.{Change}
 use Rattle.process_sm_machine.specs.declared.Change.the-variants.{Tempo, Stop}
-use Rattle.process_sm_walk.specs.declared.Next.{Next}
-use Rattle.process_sm_walk.specs.declared.Next.the-variants.{Here, End}
 use Rattle.process_sm_walk.specs.declared.Places.{Places}
 
 -- a beat and a value as the machine takes them, and as lists have them
@@ -37,13 +34,3 @@ mergedChanges (tempo ∷ tempos) stops = weave tempo (mergedChanges tempos) stop
 
 abbrev pub changesLeft : List (Float × Float) → List (Float × Float) → Places → List Change
 changesLeft tempos stops places = mergedChanges (drop (places .tempo) tempos) (drop (places .stop) stops)
-
--- the places after a change
-abbrev pub advanced : Places → Change → Places
-advanced places (Tempo entry) = record { tempo = places .tempo + 1; stop = places .stop }
-advanced places (Stop entry) = record { tempo = places .tempo; stop = places .stop + 1 }
-
--- the change that comes next
-abbrev pub headOf : List Change → Next
-headOf [] = End
-headOf (change ∷ changes) = Here change

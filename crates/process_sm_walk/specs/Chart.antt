@@ -1,9 +1,13 @@
 -- SM processing of tempos and stops that are narrowed to f32 and in order: the opening, the walk over the changes, the end. Definitions only.
 use Prim.Native.Nat.{ℕ, suc, _+_, max}
+use mathlib.Core.Bool.{true}
 use mathlib.Core.List.{List, [], _∷_, _++_}
-use lib.Ieee.{Float, binary32, sub, lt, le}
+use mathlib.Core.Path.{_≡_}
+use lib.ListN.{length}
+use lib.Ieee.{Float, binary32, sub, eq, lt, le}
 use Rattle.ieee.specs.Constants.{plusZero32, sixty32}
 use Rattle.picks.specs.Pick.{pick}
+use Rattle.order.specs.Entries.{entries}
 use Rattle.process_sm_machine.specs.Machine.{openChart, timePassed, met, finish}
 use Rattle.process_sm_machine.specs.declared.Change.{Change}
 use Rattle.process_sm_machine.specs.declared.State.{State}
@@ -89,3 +93,14 @@ processed tempos stops =
 
 abbrev pub offsetOf : List (Float × Float) → Float
 offsetOf stops = takenOff plusZero32 stops
+
+-- no tempo is a NaN
+abbrev pub TemposNumbers : List (Float × Float) → Type 0
+TemposNumbers [] = Unit {0}
+TemposNumbers (entry ∷ list) = (eq (entry .1) (entry .1) ≡ true) × TemposNumbers list
+
+-- a chart's columns: those of each list of one length, and no tempo a NaN
+pub record Chart (tempoBeats tempoValues stopBeats stopValues : List Float) : Type 0 where
+  pub tempos : length tempoBeats ≡ length tempoValues
+  pub stops : length stopBeats ≡ length stopValues
+  pub numbers : TemposNumbers (entries tempoBeats tempoValues)

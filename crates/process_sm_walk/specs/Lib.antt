@@ -2,4 +2,4 @@ pub mod Changes
 pub mod Chart
 pub mod Columns
 pub mod Walking
-pub mod Inside
+pub mod inside

@@ -15,13 +15,16 @@ ghost use Rattle.ieee.specs.Constants.{plusZero32};
 ghost use Rattle.limits.specs.Numbers.{every};
 ghost use Rattle.order.specs.Entries.{entries, first, second};
 ghost use Rattle.process_sm_machine.specs.Machine.{fits, met};
-ghost use Rattle.process_sm_walk.specs.Changes.{headOf, changesLeft, advanced};
-ghost use Rattle.process_sm_walk.specs.Chart.{writtenList, writtenBy, writtenAt, walkChanges, stopsBefore, offsetOf, temposBy0, firstValue, openingTempo, processed};
+ghost use Rattle.process_sm_walk.specs.inside.NextChange.{headOf, advanced};
+ghost use Rattle.process_sm_walk.specs.Changes.{changesLeft};
+ghost use Rattle.process_sm_walk.specs.Chart.{writtenList, writtenBy, writtenAt, walkChanges, stopsBefore, offsetOf, temposBy0, firstValue, openingTempo, processed, Chart};
 ghost use Rattle.process_sm_walk.specs.Columns.{columns, mostWritten};
 ghost use lib.Dec.{eqb};
 ghost use Rattle.picks.specs.Pick.{pick};
 ghost use Rattle.process_sm_walk.specs.Walking.{isNumber, roomForCounts, chartNumber, walkNumber, WalkLaid};
-ghost use Rattle.process_sm_walk.specs.Inside.{laidFrom, writtenInto, counted, noneCounted, Room, WrittenWithin, Chart, Reached, isPause, NoWarp, rowed};
+ghost use Rattle.process_sm_walk.specs.inside.Written.{laidFrom, writtenInto, counted, noneCounted};
+ghost use Rattle.process_sm_walk.specs.inside.Rooms.{Room, WrittenWithin, Reached};
+ghost use Rattle.process_sm_walk.specs.inside.NoWarp.{isPause, NoWarp, rowed};
 
 // The change that comes next, if there is one.
 pub enum Next {

@@ -12,7 +12,7 @@ use Rattle.process_raw.proofs.BothTaken.{both-taken}
 use Rattle.process_sm_changes.specs.SmChanges.{smChanges}
 use Rattle.process_sm_walk.specs.Columns.{Columns, mostWritten}
 use Rattle.process_sm_walk.specs.Walking.{chartNumber, walkNumber}
-use Rattle.process_sm_walk.specs.Inside.{Room}
+use Rattle.process_sm_walk.specs.inside.Rooms.{Room}
 use Rattle.process_sm_laws.proofs.ChangesTaken.{same-columns, changes-numbers, walk-takes}
 use Rattle.process_sm_walk_raw.specs.RawWalk.{walkedNumber}
 

@@ -1,2 +1,2 @@
 pub mod RawWalk
-pub mod Inside
+pub mod inside

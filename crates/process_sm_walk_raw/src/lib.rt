@@ -5,7 +5,7 @@ ghost use Prim.Native.Nat.{_≤_};
 ghost use lib.ListN.{length};
 ghost use Rattle.process_sm_walk.specs.Columns.{columns};
 ghost use Rattle.process_sm_walk_raw.specs.RawWalk.{RawWalked};
-ghost use Rattle.process_sm_walk_raw.specs.Inside.{ChangeRooms};
+ghost use Rattle.process_sm_walk_raw.specs.inside.ChangeRooms.{ChangeRooms};
 
 // By way of columns for the changes of both lists.
 fn walk_in(

@@ -21,8 +21,8 @@ use Rattle.limits.proofs.Every.{every-rest, every-more}
 use Rattle.order.specs.Entries.{entries}
 use Rattle.columns.specs.Kept.{kept}
 use Rattle.process_ssc.specs.Ssc.{staysSsc, stayedSsc}
-use Rattle.process_ssc.specs.Tests.{beatStays, valueStays}
-use Rattle.process_raw.specs.RawLists.{TakenWhole}
+use Rattle.process_ssc.specs.inside.Tests.{beatStays, valueStays}
+use Rattle.process_raw.specs.inside.TakenWhole.{TakenWhole}
 
 pub no : {A : Type 0} → false ≡ true → A
 no h = let z : _≡_ {A = ℕ} 0 1 = cc in absurd (omega arith)

@@ -6,7 +6,7 @@ use lib.Ieee.Scale.{finite}
 use Rattle.ieee.specs.Constants.{plusZero}
 use Rattle.picks.specs.Pick.{pick}
 use Rattle.process_ssc.specs.Ssc.{staysSsc}
-use Rattle.process_ssc.specs.Tests.{staysByTests}
+use Rattle.process_ssc.specs.inside.Tests.{staysByTests}
 
 pub stays-by-tests : (beat value : Float) → staysByTests beat value ≡ staysSsc (beat, value)
 unfolding staysByTests staysSsc le lt eq

@@ -1,2 +1,2 @@
 pub mod Ssc
-pub mod Tests
+pub mod inside

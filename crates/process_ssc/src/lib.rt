@@ -15,8 +15,9 @@ ghost use Rattle.order.specs.Order.{laid};
 ghost use Rattle.order.specs.Entries.{first, second};
 ghost use Rattle.columns.specs.Each.{laidEach};
 ghost use Rattle.columns.specs.Laying.{LaidPair};
-ghost use Rattle.process_raw.specs.RawLists.{rawNumber, rawNumbers, Known};
-ghost use Rattle.process_ssc.specs.Tests.{beatStays, valueStays};
+ghost use Rattle.process_raw.specs.RawLists.{rawNumber, rawNumbers};
+ghost use Rattle.process_raw.specs.inside.TakenWhole.{Known};
+ghost use Rattle.process_ssc.specs.inside.Tests.{beatStays, valueStays};
 ghost use Rattle.process_ssc.specs.Ssc.{staysSsc, stayedSsc, sscTempos, SscProcessed};
 
 // Whether an entry stays: finite, the beat not below 0, the value above it.

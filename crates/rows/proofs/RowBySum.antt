@@ -12,7 +12,8 @@ use lib.Ieee.Exact.{HasValue}
 use lib.Ieee.Scale.{grid}
 use mir.Syntax.{w32, w64}
 use mir.Val.{SFits, toZ, ofZ}
-use Rattle.ieee.specs.Rounding.{rint, leastFloat, mostFloat, InI32}
+use Rattle.ieee.specs.Rounding.{rint}
+use Rattle.ieee.specs.inside.FloatEnds.{leastFloat, mostFloat, InI32}
 use Rattle.ieee.proofs.SignedSizes.{Ordered}
 use Rattle.ieee.proofs.FloatOrder.{sizes-le}
 use Rattle.ieee.proofs.Magnitude.{sized}

@@ -10,7 +10,7 @@ use lib.ListN.{length, getD}
 use lib.Ieee.{Float, nan, inf, fin, lt, le, eq}
 use Rattle.picks.specs.Pick.{pick}
 use Rattle.stops_for_sm.specs.Merging.{Sources, Heads, lesser, leastBeat, meets, forward, beatHere, isOver}
-use Rattle.stops_for_sm.specs.InHand.{headAt, secondsAt}
+use Rattle.stops_for_sm.specs.inside.InHand.{headAt, secondsAt}
 use Rattle.stops_for_sm.specs.Plain.{AllFinite, Plain}
 use Rattle.stops_for_sm.proofs.TempoForward.{begun, over, later}
 

@@ -13,7 +13,7 @@ use Rattle.ieee.specs.Constants.{plusZero}
 use Rattle.order.specs.Order.{laid}
 use Rattle.order.proofs.LaidOverFront.{Laying}
 use Rattle.stops_for_sm.specs.Merging.{Sources, Heads, lesser, leastBeat, meets, turn, isOver, turnsLeft, sumWritten, mergedWithin, mergedStops}
-use Rattle.stops_for_sm.specs.InHand.{stopsAlone, atStop}
+use Rattle.stops_for_sm.specs.inside.InHand.{stopsAlone, atStop}
 use Rattle.stops_for_sm.specs.Plain.{AllFinite, Plain}
 
 -- ---- stops alone

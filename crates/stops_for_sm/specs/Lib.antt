@@ -1,4 +1,4 @@
 pub mod Merging
-pub mod InHand
 pub mod Plain
 pub mod Filling
+pub mod inside

@@ -12,7 +12,7 @@ ghost use Rattle.picks.specs.Pick.{pick};
 ghost use Rattle.limits.specs.Numbers.{rangeOf};
 ghost use Rattle.order.specs.Order.{laid};
 ghost use Rattle.stops_for_sm.specs.Merging.{sources, meets, plus, forward, tempoPlace, less, movedOn, mergedStops, atFirst};
-ghost use Rattle.stops_for_sm.specs.InHand.{headAt, secondsAt, stopsAlone, atStop};
+ghost use Rattle.stops_for_sm.specs.inside.InHand.{headAt, secondsAt, stopsAlone, atStop};
 ghost use Rattle.stops_for_sm.specs.Plain.{AllFinite, Plain};
 ghost use Rattle.stops_for_sm.specs.Filling.{beatsIn, valuesIn, isEven, flatNumber, flat, sourcesNumber, StopsFilled, chosen};
 

@@ -10,8 +10,7 @@ use borrow.Author.Tests.{ne-eqb, le-leb, le-ltb}
 use Rattle.picks.specs.Pick.{pick}
 use Rattle.limits.specs.Refusals.{lower}
 use Rattle.order.specs.Order.{run, neverFalls}
-use Rattle.tidy_kept.specs.Keeping.{rowOf, keep, placed, fallsWhile, keptOf, keepNumber}
-use Rattle.tidy_kept.specs.Placing.{placingNumber}
+use Rattle.tidy_kept.specs.Keeping.{rowOf, keep, placed, fallsWhile, keptOf, keepNumber, placingNumber}
 
 lower-first : (one other : ℕ) → (one ≡ 0 → ⊥) → one ≤ 6 → (other ≡ 0) ⊎ (other ≡ 6) → lower one other ≡ one
 unfolding lower

@@ -8,7 +8,8 @@ use lib.ListN.{length}
 use borrow.Author.Tests.{le-ltb}
 use Rattle.order.specs.Order.{neverFalls}
 use Rattle.tidy_kept.specs.Keeping.{rowOf}
-use Rattle.tidy_kept.specs.Changing.{changeOf, Changed}
+use Rattle.tidy_kept.specs.Changing.{changeOf}
+use Rattle.tidy_kept.specs.inside.Changed.{Changed}
 use Rattle.tidy_kept.proofs.PlacedByPlace.{Reaches, nearAt, againstAt, changeBy, onRowAt, reaches-few, placed-changed, change-fits}
 use Rattle.tidy_kept.proofs.OrderKept.{placed-falls}
 

@@ -12,7 +12,8 @@ use Rattle.order.specs.Order.{laid, neverFalls, mayPrecede}
 use Rattle.order.specs.Entries.{entries}
 use Rattle.order.proofs.Columns.{length-entries}
 use Rattle.tidy_kept.specs.Keeping.{rowOf}
-use Rattle.tidy_kept.specs.Changing.{coming, spliced, splicedIn, countBy}
+use Rattle.tidy_kept.specs.Changing.{coming, spliced, splicedIn}
+use Rattle.tidy_kept.specs.inside.Changed.{countBy}
 
 module _ {A : Type 0} where
   pub length-spliced : (low high : ℕ) (comes : Bool) (x : A) (l : List A) → low ≤ high → high ≤ length l → length (spliced low high comes x l) ≡ countBy (length l) low high comes

@@ -17,9 +17,10 @@ use Rattle.order.proofs.Compare.{below?}
 use Rattle.order.proofs.Columns.{length-entries, entries-getD}
 use Rattle.tidy_kept.specs.declared.Change.{Change}
 use Rattle.tidy_kept.specs.Keeping.{rowOf, placed, placedAfter, placedBetween, fallsWhile}
-use Rattle.tidy_kept.specs.Changing.{changeOf, spliced, splicedIn, countBy, Changed}
+use Rattle.tidy_kept.specs.Changing.{changeOf, spliced, splicedIn}
+use Rattle.tidy_kept.specs.inside.Changed.{countBy, Changed}
 use Rattle.tidy_kept.specs.Searching.{UpTo, placeAfter}
-use Rattle.tidy_kept.specs.Placing.{frontEntries, PlacedOne, PlacedAll}
+use Rattle.tidy_kept.specs.inside.Placing.{frontEntries, PlacedOne, PlacedAll}
 use Rattle.tidy_kept.proofs.PlacedByPlace.{nearAt, againstAt, changeBy, onRowAt}
 use Rattle.tidy_kept.proofs.ChangedRightly.{changed-rightly}
 use Rattle.tidy_kept.proofs.Searched.{found, reached}

@@ -1,15 +1,13 @@
 -- An entry placed by its place: which part of the kept list goes, and what comes there. Definitions only.
-use Prim.Native.Nat.{ℕ, _+_, _-_, _≤_, _<_}
-use mathlib.Core.Path.{_≡_}
-use mathlib.Core.Bool.{Bool, true, false, not}
+use Prim.Native.Nat.{ℕ, _+_, _-_}
+use mathlib.Core.Bool.{Bool, true, false}
 use mathlib.Core.List.{List, [], _∷_, _++_}
 use lib.Dec.{ltb, leb, eqb}
-use lib.ListN.{length, take, drop, getD}
+use lib.ListN.{length, take, drop}
 use Rattle.limits.specs.Table.{mostEntries}
 use Rattle.picks.specs.Pick.{pick}
-use Rattle.order.specs.Order.{laid, neverFalls}
+use Rattle.order.specs.Order.{laid}
 use Rattle.tidy_kept.specs.declared.Change.{Change}
-use Rattle.tidy_kept.specs.Keeping.{rowOf, placed}
 
 -- what comes, where something does
 abbrev pub coming : {A : Type 0} → Bool → A → List A
@@ -25,10 +23,6 @@ splicedIn n low high comes x column =
     pick (ltb n (length column))
     (pick (leb high n) (pick (leb low high) (laid (spliced low high comes x (take n column)) column) column) column)
     column
-
--- how many a list of n has then
-abbrev pub countBy : ℕ → ℕ → ℕ → Bool → ℕ
-countBy n low high comes = n - (high - low) + pick comes 1 0
 
 abbrev pub change : ℕ → ℕ → Bool → Bool → Bool → Change
 change low high comes moves falls = record { low = low; high = high; comes = comes; moves = moves; falls = falls }
@@ -46,11 +40,3 @@ changeOf at onRow nearNext nearPrevious nearLast =
     (pick nearPrevious (change (cut (at - 1) onRow) (at - 1 + 2) false false false) (change (cut (at - 1) onRow) (at - 1 + 2) true true (eqb at 0)))
     (pick nearPrevious (change (cut (at - 1) onRow) (at - 1 + 1) false false false)
     (pick onRow (pick nearLast (change at at false false false) (change (at - 1) at true false false)) (change at at true false false))))
-
--- a change that gives what placing an entry gives, and says whether the list falls then
-pub record Changed {B W : Type 0} (row : B → ℕ) (near : W → W → Bool) (e : B × W) (list : List (B × W)) (c : Change) : Type 0 where
-  pub low : c .low ≤ c .high
-  pub high : c .high ≤ length list
-  pub moving : c .moves ≡ true → 0 < c .high
-  pub places : placed row near e list ≡ spliced (c .low) (c .high) (c .comes) (e .0, pick (c .moves) (getD list (c .high - 1) e .1) (e .1)) list
-  pub falling : c .falls ≡ not (neverFalls (rowOf row near) (placed row near e list))

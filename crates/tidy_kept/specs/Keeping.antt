@@ -3,7 +3,8 @@ use Prim.Native.Nat.{ℕ}
 use mathlib.Core.Bool.{Bool, true, false}
 use mathlib.Core.List.{List, [], _∷_, reverse, reverseAux}
 use lib.Dec.{ltb, leb, eqb}
-use Rattle.limits.specs.Table.{keptFalls}
+use lib.ListN.{length}
+use Rattle.limits.specs.Table.{tooLong, keptFalls, mostEntries}
 use Rattle.picks.specs.Pick.{pick}
 use Rattle.order.specs.Order.{run, neverFalls}
 
@@ -91,3 +92,7 @@ module _ {B W : Type 0} (row : B → ℕ) (near : W → W → Bool) where
   -- 6 where that is so of entries in no order
   unfoldable pub keepNumber : List (B × W) → ℕ
   keepNumber entries = pick (neverFalls rowOf entries) 0 (pick (fallsWhile [] entries) keptFalls 0)
+
+  -- what placing alone refuses: more than 1,024 entries, then an entry placed in a kept list that falls
+  unfoldable pub placingNumber : List (B × W) → ℕ
+  placingNumber list = pick (ltb mostEntries (length list)) tooLong (pick (fallsWhile [] list) keptFalls 0)

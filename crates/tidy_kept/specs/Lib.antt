@@ -3,4 +3,4 @@ pub mod Keeping
 pub mod Passing
 pub mod Changing
 pub mod Searching
-pub mod Placing
+pub mod inside

@@ -11,14 +11,15 @@ use lib.Ieee.{Float, binary64, add, toBits}
 use mir.Syntax.{w32, w64}
 use mir.Val.{toZ}
 use mir.ValLaws.{toZ-pos, toZ-ofZ}
-use Rattle.ieee.specs.Rounding.{rint, InI32}
+use Rattle.ieee.specs.Rounding.{rint}
+use Rattle.ieee.specs.inside.FloatEnds.{InI32}
 use Rattle.ieee.proofs.Held.{held-within}
 use Rattle.ieee.proofs.RintBySum.{biasFloat, biasPattern, within-small, pattern-in64, difference-in64, difference-in32, difference32}
 use Rattle.rows.specs.Rows.{allowedBeat}
 use Rattle.rows.proofs.RowBySum.{product, product-within}
 use Rattle.order.specs.RowKey.{rowKey}
 use Rattle.order.proofs.Compare.{below?}
-use Rattle.tidy_rows.specs.Ways.{rowPattern}
+use Rattle.tidy_rows.specs.inside.Ways.{rowPattern}
 
 counted : (n : ℕ) → mag (subℕ n biasPattern) < 2147483648 → n ≡ 0x4337_FFFF_8000_0000 + rowKey (subℕ n biasPattern)
 unfolding rowKey

@@ -1,2 +1,2 @@
 pub mod RowTidying
-pub mod Ways
+pub mod inside

@@ -1,2 +1,2 @@
 pub mod RowEntries
-pub mod Sorting
+pub mod inside

@@ -13,7 +13,7 @@ use Rattle.tidy_kept.specs.Passing.{writes, entryPassed, stillWritten}
 use Rattle.tidy_kept.proofs.NearNothing.{near-nothing}
 use Rattle.tidy_kept.proofs.AllApart.{all-written, columns-apart}
 use Rattle.tidy_by_rows.specs.ByMarks.{rowRises}
-use Rattle.tidy_scrolls.specs.Ways.{noScrollHeld}
+use Rattle.tidy_scrolls.specs.inside.Ways.{noScrollHeld}
 
 pub every-kept : (beats values : List Float) → length beats ≡ length values → everyTwo rowRises beats ≡ true → everyTwo farFrom values ≡ true → stillWritten rowKeyAt nearTo noScrollHeld (entries beats values) ≡ entries beats values
 unfolding stillWritten writes entryPassed entries

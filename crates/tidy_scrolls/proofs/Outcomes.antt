@@ -5,16 +5,16 @@ use mathlib.Core.Bool.{Bool, true, false}
 use mathlib.Core.List.{List, [], map}
 use lib.Dec.{ltb, eqb}
 use borrow.Author.Tests.{le-ltb}
-use Rattle.limits.specs.Numbers.{allIn}
+use Rattle.limits.specs.Numbers.{allIn, rangeOf}
 use Rattle.tidy_scrolls.specs.declared.Placed.{Placed}
-use Rattle.tidy_kept.specs.Placing.{frontEntries, placingNumber, PlacedAll}
+use Rattle.tidy_kept.specs.inside.Placing.{frontEntries, PlacedAll}
+use Rattle.tidy_kept.specs.Keeping.{placingNumber, rowOf, placed, fallsWhile}
 use Rattle.tidy_kept.proofs.PlacedInColumns.{length-listed}
 use native.Mathlib.Omega.{arith}
 use lib.ListN.{length, length-map}
 use lib.Ieee.{Float, nan}
 use Rattle.picks.specs.Pick.{pick}
 use Rattle.limits.specs.declared.Kind.the-variants.{Beat, Value}
-use Rattle.limits.specs.Numbers.{rangeOf}
 use Rattle.limits.specs.Refusals.{listNumber}
 use Rattle.limits.proofs.ListTaken.{list-taken}
 use Rattle.order.specs.Order.{run, neverFalls}
@@ -23,16 +23,15 @@ use Rattle.order.proofs.Columns.{length-entries}
 use Rattle.columns.specs.Laying.{refusedBy}
 use Rattle.columns.proofs.Rooms.{refused-by-tests, refused-for-room, taken}
 use Rattle.tidy_rows.specs.RowTidying.{rowKeyAt, onItsRow}
-use Rattle.tidy_rows.specs.Ways.{Laid}
+use Rattle.tidy_rows.specs.inside.Ways.{Laid}
 use Rattle.tidy_kept.specs.Near.{nearTo}
-use Rattle.tidy_kept.specs.Keeping.{rowOf, placed, fallsWhile}
 use Rattle.tidy_kept.specs.Passing.{stillWritten}
 use Rattle.tidy_kept.proofs.Answered as answered
 use Rattle.tidy_kept.proofs.InOnePass.{in-one-pass, few-written}
 use Rattle.tidy_kept.proofs.ColumnsPlaced.{never-falls-entries}
 use Rattle.tidy_kept.proofs.NearNothing.{near-nothing}
 use Rattle.tidy_scrolls.specs.ScrollTidying.{tidyScrolls, scrollsNumber, ScrollsTidied}
-use Rattle.tidy_scrolls.specs.Ways.{noScrollHeld, writtenFrom}
+use Rattle.tidy_scrolls.specs.inside.Ways.{noScrollHeld, writtenFrom}
 
 list-few : (long longer even beats values : Bool) → pick {A = ℕ} long 1 (pick longer 1 (pick even (pick beats (pick values 0 4) 3) 2)) ≤ 6
 list-few true longer even beats values = omega arith

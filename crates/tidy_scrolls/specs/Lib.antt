@@ -1,2 +1,2 @@
 pub mod ScrollTidying
-pub mod Ways
+pub mod inside

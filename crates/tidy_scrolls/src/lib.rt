@@ -16,14 +16,14 @@ ghost use Rattle.limits.specs.Refusals.{listNumber};
 ghost use Rattle.order.specs.Order.{neverFalls};
 ghost use Rattle.order.specs.Entries.{entries};
 ghost use Rattle.tidy_rows.specs.RowTidying.{rowKeyAt, onRow, onItsRow};
-ghost use Rattle.tidy_rows.specs.Ways.{Laid};
+ghost use Rattle.tidy_rows.specs.inside.Ways.{Laid};
 ghost use Rattle.tidy_by_rows.specs.ByMarks.{rowRises};
 ghost use Rattle.tidy_kept.specs.Near.{nearTo};
 ghost use Rattle.tidy_kept.specs.Passing.{comes, entryPassed, stillWritten};
-ghost use Rattle.tidy_kept.specs.Changing.{Changed};
-ghost use Rattle.tidy_kept.specs.Placing.{frontEntries, PlacedOne, PlacedAll};
+ghost use Rattle.tidy_kept.specs.inside.Changed.{Changed};
+ghost use Rattle.tidy_kept.specs.inside.Placing.{frontEntries, PlacedOne, PlacedAll};
 ghost use Rattle.tidy_scrolls.specs.ScrollTidying.{ScrollsTidied};
-ghost use Rattle.tidy_scrolls.specs.Ways.{scrollWaiting, noScrollHeld, writtenFrom};
+ghost use Rattle.tidy_scrolls.specs.inside.Ways.{scrollWaiting, noScrollHeld, writtenFrom};
 
 // ---- entries in order: no working memory
 

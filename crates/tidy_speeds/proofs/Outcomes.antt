@@ -13,8 +13,7 @@ use Rattle.limits.specs.Numbers.{rangeOf, allIn, unitsIn}
 use Rattle.order.specs.Order.{run, neverFalls}
 use Rattle.columns.specs.Laying.{refusedBy}
 use Rattle.tidy_rows.specs.RowTidying.{rowKeyAt}
-use Rattle.tidy_kept.specs.Keeping.{rowOf, placed}
-use Rattle.tidy_kept.specs.Placing.{placingNumber}
+use Rattle.tidy_kept.specs.Keeping.{rowOf, placed, placingNumber}
 use Rattle.tidy_kept.proofs.Answered as answered
 use Rattle.tidy_kept.proofs.ColumnsPlaced.{never-falls-entries}
 use Rattle.tidy_speeds_entries.specs.Speed.{SpeedEntry, nearSpeed, speedValues, speedEntries, speedOnRow}

@@ -11,9 +11,10 @@ use Rattle.tidy_kept.specs.Near.{farFrom}
 use Rattle.tidy_by_rows.specs.ByMarks.{rowRises}
 use Rattle.tidy_by_rows.proofs.ByMarks.{rising-never-falls}
 use Rattle.tidy_speeds_entries.specs.Speed.{speedEntries, speedOnRow}
-use Rattle.tidy_speeds_entries.specs.LaidSpeeds.{leastOf, LaidRooms}
+use Rattle.tidy_speeds_entries.specs.LaidSpeeds.{leastOf}
+use Rattle.tidy_speeds_entries.specs.inside.LaidRooms.{LaidRooms}
 use Rattle.tidy_speeds_entries.proofs.SpeedColumns.{many-speeds}
-use Rattle.tidy_speeds_ordered.specs.Apart.{ColumnsApart}
+use Rattle.tidy_speeds_ordered.specs.inside.Apart.{ColumnsApart}
 use Rattle.tidy_speeds_ordered.specs.OrderedSpeeds.{keptSpeeds, OrderedTidied}
 use Rattle.tidy_speeds_ordered.proofs.ColumnsLaid.{apart-kept}
 use Rattle.tidy_speeds_ordered.proofs.KeptInOnePass.{ordered-laid}

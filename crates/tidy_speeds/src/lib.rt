@@ -9,8 +9,9 @@ ghost use lib.ListN.{length};
 ghost use Rattle.limits.specs.Neighbours.{everyTwo};
 ghost use Rattle.tidy_by_rows.specs.ByMarks.{rowRises};
 ghost use Rattle.tidy_speeds_entries.specs.Speed.{speedEntries, speedOnRow};
-ghost use Rattle.tidy_speeds_entries.specs.LaidSpeeds.{leastOf, LaidRooms};
-ghost use Rattle.tidy_speeds_ordered.specs.Apart.{ColumnsApart};
+ghost use Rattle.tidy_speeds_entries.specs.LaidSpeeds.{leastOf};
+ghost use Rattle.tidy_speeds_entries.specs.inside.LaidRooms.{LaidRooms};
+ghost use Rattle.tidy_speeds_ordered.specs.inside.Apart.{ColumnsApart};
 ghost use Rattle.tidy_speeds.specs.SpeedTidying.{valuesNumber, speedListNumber, SpeedsTidied};
 
 fn values_number(ratios: &[f64], delays: &[f64], units: &[u8]) -> u32

@@ -10,7 +10,8 @@ use Rattle.order.specs.Order.{laid}
 use Rattle.columns.specs.Laying.{roomNumber, refusedBy, given}
 use Rattle.columns.proofs.Rooms.{nothing-given}
 use Rattle.tidy_speeds_entries.specs.Speed.{SpeedEntry}
-use Rattle.tidy_speeds_entries.specs.LaidSpeeds.{leastOf, LaidSpeeds, LaidRooms}
+use Rattle.tidy_speeds_entries.specs.LaidSpeeds.{leastOf, LaidSpeeds}
+use Rattle.tidy_speeds_entries.specs.inside.LaidRooms.{LaidRooms}
 
 module _ (tests : ℕ) (result : List SpeedEntry) (beatsOld ratiosOld delaysOld : List Float) (unitsOld : List ℕ) where
   left-alone : (n : ℕ) → (n ≡ 0 → ⊥) → n ≡ roomNumber tests (length result) (leastOf (length beatsOld) (length ratiosOld) (length delaysOld) (length unitsOld)) → LaidSpeeds tests result (refusedBy n) beatsOld beatsOld ratiosOld ratiosOld delaysOld delaysOld unitsOld unitsOld

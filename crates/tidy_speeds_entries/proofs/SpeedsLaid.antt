@@ -8,7 +8,8 @@ use lib.Ieee.{Float}
 use Rattle.order.specs.Entries.{first}
 use Rattle.tidy_kept.proofs.FieldsLaid.{LayingField, field-none, field-same, field-room, field-more, field-count, field-all}
 use Rattle.tidy_speeds_entries.specs.Speed.{SpeedEntry, speedOnRow}
-use Rattle.tidy_speeds_entries.specs.LaidSpeeds.{ratioOf, delayOf, unitOf, leastOf, LaidRooms}
+use Rattle.tidy_speeds_entries.specs.LaidSpeeds.{ratioOf, delayOf, unitOf, leastOf}
+use Rattle.tidy_speeds_entries.specs.inside.LaidRooms.{LaidRooms}
 
 -- of the whole list `left` is still to come
 pub record LayingSpeeds (whole left : List SpeedEntry) (beatsOld beatsNew ratiosOld ratiosNew delaysOld delaysNew : List Float) (unitsOld unitsNew : List ℕ) (count : ℕ) : Type 0 where

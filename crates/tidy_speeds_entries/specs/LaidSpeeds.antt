@@ -1,10 +1,9 @@
 -- A list of speeds in four lent columns. Definitions only.
 use Prim.Native.Nat.{ℕ, min}
-use mathlib.Core.List.{List, map}
+use mathlib.Core.List.{List}
 use mathlib.Core.Path.{_≡_}
 use lib.ListN.{length}
 use lib.Ieee.{Float}
-use Rattle.order.specs.Order.{laid}
 use Rattle.order.specs.Entries.{first}
 use Rattle.columns.specs.declared.Outcome.{Outcome}
 use Rattle.columns.specs.Laying.{roomNumber, given, columnLaid}
@@ -32,10 +31,3 @@ pub record LaidSpeeds (tests : ℕ) (result : List SpeedEntry) (outcome : Outcom
   pub ratiosAre : ratiosNew ≡ columnLaid ratioOf (outcome .number) result ratiosOld
   pub delaysAre : delaysNew ≡ columnLaid delayOf (outcome .number) result delaysOld
   pub unitsAre : unitsNew ≡ columnLaid unitOf (outcome .number) result unitsOld
-
--- a list over the fronts of four rooms
-pub record LaidRooms (list : List SpeedEntry) (beatsOld beatsNew ratiosOld ratiosNew delaysOld delaysNew : List Float) (unitsOld unitsNew : List ℕ) : Type 0 where
-  pub beatsAre : beatsNew ≡ laid (map first list) beatsOld
-  pub ratiosAre : ratiosNew ≡ laid (map ratioOf list) ratiosOld
-  pub delaysAre : delaysNew ≡ laid (map delayOf list) delaysOld
-  pub unitsAre : unitsNew ≡ laid (map unitOf list) unitsOld

@@ -1,2 +1,3 @@
 pub mod Speed
 pub mod LaidSpeeds
+pub mod inside

@@ -17,7 +17,7 @@ use Rattle.tidy_kept.proofs.AllApart.{Apart}
 use Rattle.tidy_by_rows.specs.ByMarks.{rowRises}
 use Rattle.tidy_speeds_entries.specs.Speed.{nearSpeed, noSpeed, speedEntries, speedOnRow}
 use Rattle.tidy_speeds_entries.specs.LaidSpeeds.{ratioOf, delayOf, unitOf}
-use Rattle.tidy_speeds_ordered.specs.Apart.{ColumnsApart}
+use Rattle.tidy_speeds_ordered.specs.inside.Apart.{ColumnsApart}
 use Rattle.tidy_speeds_ordered.specs.OrderedSpeeds.{keptSpeeds}
 use Rattle.tidy_speeds_ordered.proofs.AllKept.{first-kept, none-kept}
 

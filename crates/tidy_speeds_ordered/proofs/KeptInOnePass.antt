@@ -12,7 +12,8 @@ use Rattle.tidy_rows.specs.RowTidying.{rowKeyAt}
 use Rattle.tidy_kept.specs.Keeping.{rowOf, keep}
 use Rattle.tidy_kept.proofs.InOnePass.{in-one-pass, few-written}
 use Rattle.tidy_speeds_entries.specs.Speed.{SpeedEntry, nearSpeed, noSpeed, speedOnRow}
-use Rattle.tidy_speeds_entries.specs.LaidSpeeds.{leastOf, LaidSpeeds, LaidRooms}
+use Rattle.tidy_speeds_entries.specs.LaidSpeeds.{leastOf, LaidSpeeds}
+use Rattle.tidy_speeds_entries.specs.inside.LaidRooms.{LaidRooms}
 use Rattle.tidy_speeds_entries.proofs.Rooms.{refused-for-room, taken}
 use Rattle.tidy_speeds_entries.proofs.NearNoSpeed.{near-no-speed}
 use Rattle.tidy_speeds_ordered.specs.OrderedSpeeds.{noSpeedHeld, keptSpeeds}

@@ -1,2 +1,2 @@
 pub mod OrderedSpeeds
-pub mod Apart
+pub mod inside

@@ -12,7 +12,8 @@ ghost use Rattle.picks.specs.Pick.{pick};
 ghost use Rattle.tidy_rows.specs.RowTidying.{rowKeyAt, onRow};
 ghost use Rattle.tidy_kept.specs.Passing.{comes, entryPassed};
 ghost use Rattle.tidy_speeds_entries.specs.Speed.{speedValueOf, nearSpeed, noSpeed, speedEntries, speedOnRow};
-ghost use Rattle.tidy_speeds_entries.specs.LaidSpeeds.{leastOf, LaidRooms};
+ghost use Rattle.tidy_speeds_entries.specs.LaidSpeeds.{leastOf};
+ghost use Rattle.tidy_speeds_entries.specs.inside.LaidRooms.{LaidRooms};
 ghost use Rattle.tidy_speeds_ordered.specs.OrderedSpeeds.{speedWaiting, noSpeedHeld, keptSpeeds, OrderedTidied};
 
 // The speed written last, and the entry that waits to be written, if one does.

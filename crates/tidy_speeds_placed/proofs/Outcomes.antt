@@ -11,11 +11,12 @@ use Rattle.picks.specs.Pick.{pick}
 use Rattle.order.specs.Order.{run}
 use Rattle.columns.specs.Laying.{refusedBy}
 use Rattle.tidy_rows.specs.RowTidying.{rowKeyAt}
-use Rattle.tidy_kept.specs.Keeping.{placed, fallsWhile}
-use Rattle.tidy_kept.specs.Placing.{frontEntries, placingNumber, PlacedAll}
+use Rattle.tidy_kept.specs.Keeping.{placed, fallsWhile, placingNumber}
+use Rattle.tidy_kept.specs.inside.Placing.{frontEntries, PlacedAll}
 use Rattle.tidy_kept.proofs.PlacedInColumns.{length-listed}
 use Rattle.tidy_speeds_entries.specs.Speed.{SpeedValue, SpeedEntry, nearSpeed, speedValues, speedOnRow}
-use Rattle.tidy_speeds_entries.specs.LaidSpeeds.{leastOf, LaidSpeeds, LaidRooms}
+use Rattle.tidy_speeds_entries.specs.LaidSpeeds.{leastOf, LaidSpeeds}
+use Rattle.tidy_speeds_entries.specs.inside.LaidRooms.{LaidRooms}
 use Rattle.tidy_speeds_entries.proofs.SpeedColumns.{many-values}
 use Rattle.tidy_speeds_entries.proofs.Rooms.{refused-by-tests, refused-for-room, taken}
 

@@ -1,1 +1,2 @@
 pub mod PlacedSpeeds
+pub mod inside

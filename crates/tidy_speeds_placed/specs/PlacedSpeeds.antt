@@ -1,22 +1,13 @@
 -- Speeds in no order, placed one by one. Definitions only.
-use Prim.Native.Nat.{ℕ, _+_, _≤_}
-use mathlib.Core.Bool.{false, not}
+use Prim.Native.Nat.{ℕ}
 use mathlib.Core.List.{List, [], map}
-use mathlib.Core.Path.{_≡_}
-use lib.ListN.{length, take}
 use lib.Ieee.{Float}
 use Rattle.order.specs.Order.{run}
 use Rattle.tidy_rows.specs.RowTidying.{rowKeyAt}
-use Rattle.tidy_kept.specs.Keeping.{placed}
-use Rattle.tidy_kept.specs.Placing.{frontEntries, placingNumber, PlacedOne, PlacedAll}
+use Rattle.tidy_kept.specs.Keeping.{placed, placingNumber}
 use Rattle.columns.specs.declared.Outcome.{Outcome}
-use Rattle.tidy_speeds_entries.specs.Speed.{SpeedValue, SpeedEntry, nearSpeed, speedValues, speedEntries, speedOnRow}
+use Rattle.tidy_speeds_entries.specs.Speed.{nearSpeed, speedEntries, speedOnRow}
 use Rattle.tidy_speeds_entries.specs.LaidSpeeds.{LaidSpeeds}
-use Rattle.tidy_speeds_placed.specs.declared.Placed.{Placed}
-
--- the first n entries of four columns
-abbrev pub listedSpeeds : ℕ → List Float → List Float → List Float → List ℕ → List SpeedEntry
-listedSpeeds n beats ratios delays units = frontEntries n beats (speedValues ratios delays units)
 
 -- the one outcome: what is kept, each on its row. Columns that differ in length are read as far as the shortest goes
 abbrev pub PlacedTidied : (beats ratios delays : List Float) (units : List ℕ) → Outcome → (beatsOld beatsNew ratiosOld ratiosNew delaysOld delaysNew : List Float) (unitsOld unitsNew : List ℕ) → Type 0

@@ -12,11 +12,13 @@ ghost use lib.Ieee.{nan};
 ghost use Rattle.picks.specs.Pick.{pick};
 ghost use Rattle.order.specs.Order.{neverFalls};
 ghost use Rattle.tidy_rows.specs.RowTidying.{rowKeyAt, onRow};
-ghost use Rattle.tidy_kept.specs.Changing.{countBy, Changed};
-ghost use Rattle.tidy_kept.specs.Placing.{PlacedOne, PlacedAll};
+ghost use Rattle.tidy_kept.specs.inside.Changed.{countBy, Changed};
+ghost use Rattle.tidy_kept.specs.inside.Placing.{PlacedOne, PlacedAll};
 ghost use Rattle.tidy_speeds_entries.specs.Speed.{speedValueOf, nearSpeed, noSpeed, speedValues, speedEntries, speedOnRow};
-ghost use Rattle.tidy_speeds_entries.specs.LaidSpeeds.{leastOf, LaidRooms};
-ghost use Rattle.tidy_speeds_placed.specs.PlacedSpeeds.{listedSpeeds, PlacedTidied};
+ghost use Rattle.tidy_speeds_entries.specs.LaidSpeeds.{leastOf};
+ghost use Rattle.tidy_speeds_entries.specs.inside.LaidRooms.{LaidRooms};
+ghost use Rattle.tidy_speeds_placed.specs.inside.ListedSpeeds.{listedSpeeds};
+ghost use Rattle.tidy_speeds_placed.specs.PlacedSpeeds.{PlacedTidied};
 
 fn speed_at(ratios: &[f64], delays: &[f64], units: &[u8], i: usize) -> Speed
     requires { ⌜ (i < length (now ratios)) × (i < length (now delays)) × (i < length (now units)) ⌝ }

@@ -11,7 +11,7 @@ use Rattle.picks.specs.Pick.{pick}
 use Rattle.order.specs.Order.{laid}
 use Rattle.order.specs.Entries.{first, second}
 use Rattle.tidy_tempos.specs.TempoTidying.{fromZero}
-use Rattle.tidy_tempos.specs.Keeping.{lastOfBeat, keptAfter}
+use Rattle.tidy_tempos.specs.inside.Keeping.{lastOfBeat, keptAfter}
 
 pub from-zero-length : (list : List (Float × Float)) → length (fromZero list) ≡ length list
 unfolding fromZero

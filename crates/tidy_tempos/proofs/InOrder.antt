@@ -17,7 +17,7 @@ use Rattle.order.proofs.Compare.{below?}
 use Rattle.order.proofs.OrderedList.{Each}
 use Rattle.order.proofs.FloatKeys.{floats-below}
 use Rattle.picks.specs.Pick.{pick}
-use Rattle.tidy_tempos.specs.Keeping.{inOrder}
+use Rattle.tidy_tempos.specs.inside.Keeping.{inOrder}
 
 module _ (beats : List Float) (i : ℕ) where
   one : i < length beats → drop i beats ≡ getD beats i nan ∷ drop (i + 1) beats

@@ -1,2 +1,2 @@
 pub mod TempoTidying
-pub mod Keeping
+pub mod inside

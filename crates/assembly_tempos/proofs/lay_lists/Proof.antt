@@ -6,7 +6,7 @@ use lib.ListN.{length}
 use Rattle.limits.specs.Refusals.{lower}
 use Rattle.process_raw.specs.RawLists.{roomFor}
 use Rattle.assembly_tempos.specs.AssembledTempos.{assembledTempos, assembledStops, assembledWarps, fitNumber, threeRooms}
-use Rattle.assembly_tempos.specs.Inside.{listsOf}
+use Rattle.assembly_tempos.specs.inside.ProcessedColumns.{listsOf}
 use Rattle.assembly_tempos.proofs.Ends.{too-many, later-refused, all-laid}
 use Rattle.assembly_tempos.proofs.OnRows.{on-row-held}
 use Rattle.assembly_tempos.proofs.ProcessedColumns.{warps-count, tempos-laid, stops-laid, warps-laid, all-fit}

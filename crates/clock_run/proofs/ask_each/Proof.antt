@@ -12,7 +12,7 @@ use Rattle.rows.specs.Rows.{row}
 use Rattle.chart.specs.Timing.{timing}
 use Rattle.clock_walk.proofs.BackFromBits.{back}
 use Rattle.clock_walk.proofs.RowOrder.{no}
-use Rattle.clock_run.specs.Ahead.{isBefore, pastTempo}
+use Rattle.clock_run.specs.inside.Ahead.{isBefore, pastTempo}
 use Rattle.clock_run.specs.declared.Past.{Past}
 use Rattle.clock_run.proofs.BeatByBeat.{Running, begun, turned, quiet-turn, ended}
 use Rattle.clock_run.proofs.QuietRows.{Sees, quietly, quiet-answer, past-few, passing, past-answer}

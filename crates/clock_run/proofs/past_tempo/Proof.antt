@@ -4,7 +4,7 @@ use mathlib.Core.Path.{_≡_, sym, _∙_}
 use borrow.Author.Tests.{lt-ltb, le-ltb}
 use Rattle.clock_walk.specs.Soon.{rowAfter}
 use Rattle.clock_walk.proofs.BackFromBits.{back}
-use Rattle.clock_run.specs.Ahead.{lesserRow, isBefore, pastTempo}
+use Rattle.clock_run.specs.inside.Ahead.{lesserRow, isBefore, pastTempo}
 use borrow.Author.Needs.{needs}
 use Rattle.clock_run.proofs.past_tempo.Statement.{statement}
 use Rattle.clock_run.proofs.past_tempo.Tie as tie

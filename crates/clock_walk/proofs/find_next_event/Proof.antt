@@ -1,6 +1,6 @@
 -- `clock_walk::find_next_event` is `nextOf`. Assumes nothing.
 use mathlib.Core.Path.{sym}
-use Rattle.clock_walk.specs.Heads.{nextOf}
+use Rattle.clock_walk.specs.inside.Heads.{nextOf}
 use Rattle.clock_walk.proofs.BackFromBits.{back}
 use borrow.Author.Needs.{needs}
 use Rattle.clock_walk.proofs.find_next_event.Statement.{statement}

@@ -7,7 +7,8 @@ use Rattle.chart.specs.declared.State.{State}
 use Rattle.clock_walk.specs.declared.Next.{Next}
 use Rattle.clock_walk.specs.declared.Event.{Event}
 use Rattle.clock_walk.specs.declared.Event.the-variants.{WarpEnd, Tempo, Delay, Stop, Warp}
-use Rattle.clock_walk.specs.Passing.{CanMove, timeTo, arrived, eventPassed as Passing·passed}
+use Rattle.clock_walk.specs.inside.CanMove.{CanMove}
+use Rattle.clock_walk.specs.Passing.{timeTo, arrived, eventPassed as Passing·passed}
 use Rattle.clock_walk.proofs.BackFromBits.{back}
 use borrow.Author.Needs.{needs}
 use Rattle.clock_walk.proofs.pass_event.Statement.{statement}

@@ -10,7 +10,7 @@ use native.Mathlib.Omega.{arith}
 use Rattle.chart.specs.Timing.{Timing, timing}
 use Rattle.clock_walk.specs.Events.{next}
 use Rattle.clock_walk.specs.Walk.{isEvent, eventsLeft, walkOn, walk}
-use Rattle.clock_walk.specs.Heads.{headsOf, nextOf}
+use Rattle.clock_walk.specs.inside.Heads.{headsOf, nextOf}
 use Rattle.clock_walk.specs.declared.Next.{Next}
 use Rattle.clock_walk.specs.declared.Heads.{Heads}
 use lib.Ieee.{Float}

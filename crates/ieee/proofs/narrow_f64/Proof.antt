@@ -6,7 +6,8 @@ use lib.Ieee.{Float, binary32, isNan, fits, ne, div, ofBits}
 use lib.Ieee.Compare.{differs-from-itself}
 use lib.Ieee.Fits.{and-i}
 use Rattle.ieee.specs.Nearest.{signOf}
-use Rattle.ieee.specs.Narrowing.{narrow, withSign}
+use Rattle.ieee.specs.Narrowing.{narrow}
+use Rattle.ieee.specs.inside.Spacing.{withSign}
 use Rattle.ieee.proofs.Narrow.{narrow-fits, narrow-number, narrow-by-size}
 use Rattle.ieee.proofs.Signs.{sign-is, sign-number}
 use Rattle.ieee.proofs.Values.{number-of-eq}

@@ -7,7 +7,7 @@ use lib.Ieee.{binary64, fits, toBits}
 use lib.Ieee.Bits.{toBits-lt}
 use borrow.Author.Needs.{needs}
 use Rattle.ieee.specs.Nearest.{signOf}
-use Rattle.ieee.specs.Narrowing.{withSign}
+use Rattle.ieee.specs.inside.Spacing.{withSign}
 use Rattle.ieee.proofs.Signs.{sign-number, signed-bits, number-bits}
 use Rattle.ieee.proofs.signed_as.Statement.{statement}
 use Rattle.ieee.proofs.signed_as.Tie as tie

@@ -5,7 +5,7 @@ use mathlib.Core.Bool.{false}
 use lib.Dec.{T}
 use lib.Ieee.{binary64, fits, toBits}
 use borrow.Author.Needs.{needs}
-use Rattle.ieee.specs.Narrowing.{withSign}
+use Rattle.ieee.specs.inside.Spacing.{withSign}
 use Rattle.ieee.proofs.Signs.{sign-number, size-bits, number-bits}
 use Rattle.ieee.proofs.size.Statement.{statement}
 use Rattle.ieee.proofs.size.Tie as tie

@@ -4,7 +4,7 @@ use mathlib.Core.Logic.{inl, inr}
 use mathlib.Core.Bool.{true, false}
 use lib.Dec.{T}
 use lib.Ieee.{Float, ofBits, neg, lt}
-use Rattle.ieee.specs.Rounding.{leastFloat}
+use Rattle.ieee.specs.inside.FloatEnds.{leastFloat}
 use Rattle.ieee.proofs.HoldFirst.{Holds, inside, at-most, at-least}
 use Rattle.ieee.proofs.within_i32.Statement.{statement}
 use Rattle.ieee.proofs.within_i32.Tie as tie

@@ -1,6 +1,6 @@
 -- `lookup::count_at` counts the entries at or before a row, by halves. Assumes nothing.
 use Rattle.lookup.proofs.FoundEntries.{bounds-whole, bounds-met}
-use Rattle.lookup.specs.Finding.{Between}
+use Rattle.lookup.specs.inside.Finding.{Between}
 use lib.ListN.{length}
 use Prim.Native.Nat.{_-_, _≤_}
 use native.Mathlib.Omega.{arith}

@@ -1,5 +1,5 @@
 -- `lookup::fake_end` is the end of the last fake of those counted. Assumes nothing.
-use Rattle.lookup.specs.Finding.{fakeEnd}
+use Rattle.lookup.specs.inside.Finding.{fakeEnd}
 use lib.Ieee.{div, ofBits}
 use Rattle.picks.proofs.Rules.{flags}
 use borrow.Author.Needs.{needs}

@@ -8,7 +8,7 @@ use lib.IntN.{ℤ, pos}
 use lib.ListN.{length, getD}
 use Rattle.columns.proofs.LaidEach.{LayingEach, begun, turned, ended}
 use Rattle.lookup.specs.Lookups.{byte, isJudgable}
-use Rattle.lookup.specs.Finding.{AllStand}
+use Rattle.lookup.specs.inside.Finding.{AllStand}
 use borrow.Author.Needs.{needs}
 use Rattle.lookup.proofs.judge_rows.Statement.{statement}
 use Rattle.lookup.proofs.judge_rows.Tie as tie

@@ -2,7 +2,7 @@
 use native.Mathlib.Omega.{arith}
 use Prim.Native.Nat.{_-_, _≤_}
 use lib.ListN.{length}
-use Rattle.lookup.specs.Finding.{Stands}
+use Rattle.lookup.specs.inside.Finding.{Stands}
 use Rattle.lookup_tests.proofs.RowsRise.{rises}
 use Rattle.lookup.proofs.HeldPlaces.{stands-next, same-place, last-place}
 use borrow.Author.Needs.{needs}

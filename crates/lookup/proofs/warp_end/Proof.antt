@@ -1,5 +1,5 @@
 -- `lookup::warp_end` is the end of the last warp of those counted. Assumes nothing.
-use Rattle.lookup.specs.Finding.{warpEnd}
+use Rattle.lookup.specs.inside.Finding.{warpEnd}
 use lib.Ieee.{div, ofBits}
 use Rattle.picks.proofs.Rules.{flags}
 use borrow.Author.Needs.{needs}

@@ -1,5 +1,5 @@
 -- `process_sm::process_bpms_and_stops_sm` goes by whether every room holds the most that the lists come to. Assumes nothing.
-use Rattle.process_sm.specs.Inside.{ResultRooms}
+use Rattle.process_sm.specs.inside.Rooms.{ResultRooms}
 use borrow.Author.Needs.{needs}
 use Rattle.process_sm.proofs.process_bpms_and_stops_sm.Statement.{statement}
 use Rattle.process_sm.proofs.process_bpms_and_stops_sm.Tie as tie

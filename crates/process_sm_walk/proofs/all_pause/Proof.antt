@@ -3,7 +3,7 @@ use mathlib.Core.Bool.{Bool, false}
 use mathlib.Core.Path.{refl, ap, _∙_}
 use native.Mathlib.Omega.{arith}
 use lib.ListN.{length}
-use Rattle.process_sm_walk.specs.Inside.{isPause}
+use Rattle.process_sm_walk.specs.inside.NoWarp.{isPause}
 use Rattle.picks.specs.Pick.{pick}
 use Rattle.process_sm_walk.proofs.EveryFrom.{SoFar, so-far-turn, so-far-end}
 use borrow.Author.Needs.{needs}

@@ -1,6 +1,6 @@
 use mathlib.Core.Path.{refl}
 use native.Mathlib.Omega.{arith}
-use Rattle.process_sm_walk.specs.Inside.{laidFrom}
+use Rattle.process_sm_walk.specs.inside.Written.{laidFrom}
 use borrow.Author.Needs.{needs}
 use Rattle.process_sm_walk.proofs.put.Statement.{statement}
 use Rattle.process_sm_walk.proofs.put.Tie as tie

@@ -2,7 +2,7 @@ use Rattle.order.specs.Entries.{entries}
 use Rattle.process_sm_walk.specs.Changes.{changesLeft}
 use Rattle.process_sm_walk.specs.Chart.{walkChanges, writtenBy}
 use Rattle.process_sm_walk.specs.Columns.{columns, mostWritten}
-use Rattle.process_sm_walk.specs.Inside.{noneCounted}
+use Rattle.process_sm_walk.specs.inside.Written.{noneCounted}
 use lib.ListN.{length}
 use Rattle.process_sm_walk.proofs.OneChange.{same-written, same-then, room-same}
 use Rattle.process_sm_walk.proofs.WholeChart.{room-opening, reached-here, within-here, whole}

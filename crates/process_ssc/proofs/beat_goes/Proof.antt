@@ -1,6 +1,6 @@
 -- `process_ssc::beat_goes` is 1 for a beat that goes. Assumes nothing.
 use lib.Ieee.{ofBits}
-use Rattle.process_ssc.specs.Tests.{beatStays}
+use Rattle.process_ssc.specs.inside.Tests.{beatStays}
 use Rattle.process_ssc.proofs.beat_goes.Statement.{statement}
 use Rattle.process_ssc.proofs.beat_goes.Tie as tie
 

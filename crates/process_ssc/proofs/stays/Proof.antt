@@ -3,7 +3,7 @@ use mathlib.Core.Path.{_≡_, sym, _∙_}
 use lib.Ieee.{div, ofBits}
 use borrow.Author.Needs.{needs}
 use Rattle.picks.proofs.Rules.{flags}
-use Rattle.process_ssc.specs.Tests.{staysByTests}
+use Rattle.process_ssc.specs.inside.Tests.{staysByTests}
 use Rattle.process_ssc.proofs.StayTests.{stays-by-tests}
 use Rattle.process_ssc.proofs.stays.Statement.{statement}
 use Rattle.process_ssc.proofs.stays.Tie as tie

@@ -1,6 +1,6 @@
 -- `process_ssc::value_goes` is 1 for a value that goes. Assumes nothing.
 use lib.Ieee.{ofBits}
-use Rattle.process_ssc.specs.Tests.{valueStays}
+use Rattle.process_ssc.specs.inside.Tests.{valueStays}
 use Rattle.process_ssc.proofs.value_goes.Statement.{statement}
 use Rattle.process_ssc.proofs.value_goes.Tie as tie
 

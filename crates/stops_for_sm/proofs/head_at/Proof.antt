@@ -1,6 +1,6 @@
 -- `stops_for_sm::head_at` is `headAt`. Assumes nothing.
 use Rattle.picks.proofs.Rules.{flags}
-use Rattle.stops_for_sm.specs.InHand.{headAt}
+use Rattle.stops_for_sm.specs.inside.InHand.{headAt}
 use lib.Ieee.{div, ofBits}
 use borrow.Author.Needs.{needs}
 use Rattle.stops_for_sm.proofs.head_at.Statement.{statement}

@@ -10,7 +10,7 @@ use Rattle.ieee.specs.Constants.{plusZero}
 use Rattle.order.proofs.LaidOverFront.{Laying, laying-count, laying-all}
 use Rattle.stops_for_sm.specs.Merging.{Turned, turn, mergedStops}
 use Rattle.stops_for_sm.specs.Filling.{flat}
-use Rattle.stops_for_sm.specs.InHand.{stopsAlone, atStop}
+use Rattle.stops_for_sm.specs.inside.InHand.{stopsAlone, atStop}
 use Rattle.stops_for_sm.specs.Plain.{Plain}
 use Rattle.stops_for_sm.proofs.EveryTurnMeets.{merged-end}
 use Rattle.stops_for_sm.proofs.TurnByTurn.{sum-room, laid-turn}

@@ -6,7 +6,7 @@ use Rattle.stops_for_sm.proofs.StopsLeft.{stops-left, count-behind, lai
 use Rattle.stops_for_sm.specs.Filling.{flat}
 use Rattle.order.proofs.LaidOverFront.{Laying, laying-none, laid-length}
 use Rattle.order.specs.Order.{laid}
-use Rattle.stops_for_sm.specs.InHand.{stopsAlone, atStop}
+use Rattle.stops_for_sm.specs.inside.InHand.{stopsAlone, atStop}
 use mathlib.Core.List.{List, _++_}
 use lib.Dec.{ltb}
 use lib.ListN.{length, take}

@@ -1,6 +1,6 @@
 -- `tidy_scrolls::count_kept` counts what the pass would write. Assumes nothing.
 use Rattle.tidy_scrolls.proofs.Turns.{turn-writes, turn-waits, ends-waiting, ends}
-use Rattle.tidy_scrolls.specs.Ways.{scrollWaiting, noScrollHeld, writtenFrom}
+use Rattle.tidy_scrolls.specs.inside.Ways.{scrollWaiting, noScrollHeld, writtenFrom}
 use Rattle.tidy_kept.specs.Passing.{stillWritten}
 use Rattle.tidy_kept.specs.Near.{nearTo}
 use Rattle.tidy_rows.specs.RowTidying.{rowKeyAt, onItsRow}

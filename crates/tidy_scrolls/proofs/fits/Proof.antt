@@ -1,6 +1,6 @@
 -- `tidy_scrolls::fits` counts only where it has to. Assumes nothing.
 use Rattle.tidy_scrolls.proofs.Outcomes.{few-kept}
-use Rattle.tidy_scrolls.specs.Ways.{noScrollHeld}
+use Rattle.tidy_scrolls.specs.inside.Ways.{noScrollHeld}
 use Rattle.tidy_kept.specs.Passing.{stillWritten}
 use Rattle.tidy_kept.specs.Near.{nearTo}
 use Rattle.tidy_rows.specs.RowTidying.{rowKeyAt}

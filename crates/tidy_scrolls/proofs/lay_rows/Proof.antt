@@ -4,7 +4,7 @@ use mathlib.Core.Path.{refl}
 use native.Mathlib.Omega.{arith}
 use lib.ListN.{drop, getD}
 use lib.Ieee.{Float, nan}
-use Rattle.tidy_kept.specs.Placing.{frontEntries}
+use Rattle.tidy_kept.specs.inside.Placing.{frontEntries}
 use Rattle.tidy_kept.proofs.PlacedInColumns.{listed-here, listed-end}
 use Rattle.tidy_scrolls.proofs.Turns.{LayingRows, rows-none, rows-more, rows-all}
 use borrow.Author.Needs.{needs}

@@ -1,5 +1,5 @@
 -- `tidy_scrolls::pass` meets its contract. Assumes nothing.
-use Rattle.tidy_scrolls.specs.Ways.{scrollWaiting}
+use Rattle.tidy_scrolls.specs.inside.Ways.{scrollWaiting}
 use Rattle.tidy_kept.proofs.PassTurns.{passed-later, passed-away, passed-by, passed-over, passed-alone}
 use Rattle.tidy_kept.specs.Near.{nearTo}
 use Rattle.tidy_rows.specs.RowTidying.{rowKeyAt}

@@ -3,7 +3,7 @@ use Rattle.tidy_rows.specs.RowTidying.{rowKeyAt}
 use Rattle.tidy_kept.specs.Near.{nearTo}
 use Rattle.tidy_kept.proofs.PlacedInColumns.{placed-first, high-fits, placed-later}
 use lib.Ieee.{nan}
-use Rattle.tidy_kept.specs.Changing.{countBy}
+use Rattle.tidy_kept.specs.inside.Changed.{countBy}
 use native.Mathlib.Omega.{arith}
 use mathlib.Core.Path.{_≡_, refl, sym, _∙_}
 use Prim.Native.Nat.{_+_, _-_}

@@ -1,6 +1,6 @@
 -- `tidy_scrolls::tidy_ordered` refuses for want of room, or lays. Assumes nothing.
 use Rattle.tidy_scrolls.proofs.Outcomes.{even-columns, ordered-refused, ordered-laid}
-use Rattle.tidy_scrolls.specs.Ways.{noScrollHeld}
+use Rattle.tidy_scrolls.specs.inside.Ways.{noScrollHeld}
 use Rattle.tidy_kept.specs.Passing.{stillWritten}
 use Rattle.tidy_kept.specs.Near.{nearTo}
 use Rattle.tidy_rows.specs.RowTidying.{rowKeyAt}

@@ -15,7 +15,7 @@ use Rattle.tidy_rows.proofs.BothWays.{each-beat, each-value}
 use Rattle.tidy_kept.specs.Near.{nearTo}
 use Rattle.tidy_kept.specs.Passing.{stillWritten}
 use Rattle.tidy_by_rows.proofs.ByMarks.{marked-over-front, rising-never-falls}
-use Rattle.tidy_scrolls.specs.Ways.{noScrollHeld}
+use Rattle.tidy_scrolls.specs.inside.Ways.{noScrollHeld}
 use Rattle.tidy_scrolls.proofs.AllKept.{every-kept}
 use Rattle.tidy_scrolls.proofs.Outcomes.{even-columns, ordered-laid}
 use borrow.Author.Needs.{needs}

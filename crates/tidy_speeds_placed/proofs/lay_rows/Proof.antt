@@ -9,7 +9,7 @@ use Rattle.tidy_speeds_entries.specs.Speed.{SpeedValue, speedValueOf, noSpeed, 
 use Rattle.tidy_speeds_entries.proofs.SpeedColumns.{many-values}
 use Rattle.tidy_kept.proofs.PlacedInColumns.{length-listed, listed-here, listed-end}
 use Rattle.tidy_speeds_entries.proofs.SpeedsLaid.{LayingSpeeds, speeds-none, speeds-room, speeds-more, speeds-all}
-use Rattle.tidy_speeds_placed.specs.PlacedSpeeds.{listedSpeeds}
+use Rattle.tidy_speeds_placed.specs.inside.ListedSpeeds.{listedSpeeds}
 use borrow.Author.Needs.{needs}
 use Rattle.tidy_speeds_placed.proofs.lay_rows.Statement.{statement}
 use Rattle.tidy_speeds_placed.proofs.lay_rows.Tie as tie

@@ -1,4 +1,4 @@
--- What the functions inside ask of each other. Definitions only.
+-- Processed columns, as the steps of assembly take them: what they are, and room for them. Definitions only.
 use Prim.Native.Nat.{ℕ, _≤_}
 use mathlib.Core.Bool.{Bool, true, not, _&&_}
 use mathlib.Core.List.{List, map}

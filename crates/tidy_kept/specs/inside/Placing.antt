@@ -3,10 +3,7 @@ use Prim.Native.Nat.{ℕ, _+_, _≤_}
 use mathlib.Core.Bool.{Bool, false, not}
 use mathlib.Core.List.{List, []}
 use mathlib.Core.Path.{_≡_}
-use lib.Dec.{ltb}
 use lib.ListN.{length, take}
-use Rattle.limits.specs.Table.{tooLong, keptFalls, mostEntries}
-use Rattle.picks.specs.Pick.{pick}
 use Rattle.order.specs.Order.{run, neverFalls}
 use Rattle.order.specs.Entries.{entries}
 use Rattle.tidy_kept.specs.Keeping.{rowOf, placed, fallsWhile}
@@ -17,10 +14,6 @@ module _ {B W : Type 0} where
   frontEntries n beats values = entries (take n beats) (take n values)
 
   module _ (row : B → ℕ) (near : W → W → Bool) where
-    -- what placing alone refuses: more than 1,024 entries, then an entry placed in a kept list that falls
-    unfoldable pub placingNumber : List (B × W) → ℕ
-    placingNumber list = pick (ltb mostEntries (length list)) tooLong (pick (fallsWhile row near [] list) keptFalls 0)
-
     -- an entry placed among the first n of two columns: then they hold `count`, and say whether these fall
     pub record PlacedOne (e : B × W) (n : ℕ) (beats : List B) (values : List W) (count : ℕ) (falls : Bool) (beatsNew : List B) (valuesNew : List W) : Type 0 where
       pub few : count ≤ n + 1

@@ -1,4 +1,4 @@
--- What the functions inside ask of each other. Definitions only.
+-- Work columns and results with room for the most that lists come to. Definitions only.
 use Prim.Native.Nat.{ℕ, _+_, _≤_, max, min}
 use mathlib.Core.List.{List}
 use mathlib.Core.Path.{_≡_}

@@ -1,4 +1,4 @@
--- What the functions inside ask of each other. Definitions only.
+-- Room for changes. Definitions only.
 use Prim.Native.Nat.{_≤_, min}
 use mathlib.Core.List.{List}
 use mathlib.Core.Path.{_≡_}

@@ -38,14 +38,6 @@ pub record Between (key : ℕ) (beats : List Float) (low high : ℕ) : Type 0 wh
   pub passed : Passed key beats low
   pub past : Past key beats high
 
--- what a test says of the last of the first n entries
-abbrev pub ofLast : (Float → Float → Bool) → Bool → List Float → List Float → ℕ → Bool
-ofLast test none beats values n = pick (eqb n 0) none (test (getD beats (n - 1) nan) (getD values (n - 1) nan))
-
--- an entry above 0 on a row
-abbrev pub pausesOn : ℕ → Float → Float → Bool
-pausesOn key beat value = pick (eqb (keyOf beat) key) (lt plusZero value) false
-
 -- ---- where a row stands in a list
 
 -- the row of the last of the first n entries, and of the entry after them; the lowest and the highest key where there is none

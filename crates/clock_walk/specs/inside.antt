@@ -1,0 +1,2 @@
+pub mod CanMove
+pub mod Heads

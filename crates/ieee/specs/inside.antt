@@ -1,0 +1,2 @@
+pub mod FloatEnds
+pub mod Spacing

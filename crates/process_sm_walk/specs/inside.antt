@@ -1,0 +1,4 @@
+pub mod NextChange
+pub mod NoWarp
+pub mod Rooms
+pub mod Written
