@@ -12,14 +12,14 @@ fn write_input(page: &mut [u8]) -> usize
     ensures { λ r. ⌜ Counts r (now (page .exit)) ⌝ }
 {
     let mut counts = [0u64; 9];
-    let mut bpm_beats = [0.0; 256];
-    let mut bpm_values = [0.0; 256];
+    let mut tempo_beats = [0.0; 256];
+    let mut tempo_values = [0.0; 256];
     let mut stop_beats = [0.0; 256];
     let mut stop_values = [0.0; 256];
     let mut delay_beats = [0.0; 256];
     let mut delay_values = [0.0; 256];
     let mut warp_beats = [0.0; 256];
-    let mut warp_values = [0.0; 256];
+    let mut warp_lengths = [0.0; 256];
     let mut speed_beats = [0.0; 256];
     let mut speed_ratios = [0.0; 256];
     let mut speed_delays = [0.0; 256];
@@ -27,17 +27,17 @@ fn write_input(page: &mut [u8]) -> usize
     let mut scroll_beats = [0.0; 256];
     let mut scroll_values = [0.0; 256];
     let mut fake_beats = [0.0; 256];
-    let mut fake_values = [0.0; 256];
+    let mut fake_lengths = [0.0; 256];
     let reading: Reading = report_stdin::read_all(
         &mut counts,
-        &mut bpm_beats,
-        &mut bpm_values,
+        &mut tempo_beats,
+        &mut tempo_values,
         &mut stop_beats,
         &mut stop_values,
         &mut delay_beats,
         &mut delay_values,
         &mut warp_beats,
-        &mut warp_values,
+        &mut warp_lengths,
         &mut speed_beats,
         &mut speed_ratios,
         &mut speed_delays,
@@ -45,20 +45,20 @@ fn write_input(page: &mut [u8]) -> usize
         &mut scroll_beats,
         &mut scroll_values,
         &mut fake_beats,
-        &mut fake_values,
+        &mut fake_lengths,
     );
     report_whole::write_report(
         page,
         reading,
         &counts,
-        &bpm_beats,
-        &bpm_values,
+        &tempo_beats,
+        &tempo_values,
         &stop_beats,
         &stop_values,
         &delay_beats,
         &delay_values,
         &warp_beats,
-        &warp_values,
+        &warp_lengths,
         &speed_beats,
         &speed_ratios,
         &speed_delays,
@@ -66,7 +66,7 @@ fn write_input(page: &mut [u8]) -> usize
         &scroll_beats,
         &scroll_values,
         &fake_beats,
-        &fake_values,
+        &fake_lengths,
     )
 }
 
