@@ -118,7 +118,7 @@ fn tidy_rising(
             };
         }
     }
-    tidy_speeds_ordered::tidy_ordered(
+    tidy_speeds_ordered::tidy_ordered_untested(
         beats,
         ratios,
         delays,
@@ -161,7 +161,7 @@ pub fn tidy_speed_segments(
         );
     }
     if tidy_by_rows::in_order(beats) {
-        return tidy_speeds_ordered::tidy_ordered(
+        return tidy_speeds_ordered::tidy_ordered_untested(
             beats,
             ratios,
             delays,
@@ -172,7 +172,7 @@ pub fn tidy_speed_segments(
             out_units,
         );
     }
-    tidy_speeds_placed::tidy_placed(
+    tidy_speeds_placed::tidy_placed_untested(
         beats,
         ratios,
         delays,

@@ -351,8 +351,8 @@ fn tidy_in(
 }
 
 // The kept entries of a list whatever its order, placed one by one, each on its row: 1 above 1,024 entries, 6 where one is placed in a kept list that falls, 7 without room.
-// Columns are read as far as the shortest goes.
-pub fn tidy_placed(
+// Columns are read as far as the shortest goes, and no number is tested.
+pub fn tidy_placed_untested(
     beats: &[f64],
     ratios: &[f64],
     delays: &[f64],
