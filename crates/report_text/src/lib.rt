@@ -38,12 +38,12 @@ fn put_number(page: &mut [u8], at: usize, x: f32, end: u8) -> usize
     put_byte(page, at, end)
 }
 
-// A number in decimalText, which ends its line.
+// A number in decimal digits, which ends its line.
 fn put_decimal(page: &mut [u8], at: usize, n: u64) -> usize
     ensures { λ r. ⌜ Wrote (decimalText n ++ (10 ∷ [])) at r (now (page .entry)) (now (page .exit)) ⌝ }
 {
     let mut digits = [0u8; 20];
-    let count = io::decimalText(n, &mut digits);
+    let count = io::decimal(n, &mut digits);
     let at = put_bytes(page, at, &digits[..count]);
     put_byte(page, at, b'\n')
 }
