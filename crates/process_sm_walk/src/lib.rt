@@ -635,7 +635,7 @@ fn walk_number(
     ensures { λ r. ⌜ r ≡ pick (eqb (chartNumber (now («tempo_beats» .entry)) (now («tempo_values» .entry)) (now («stop_beats» .entry)) (now («stop_values» .entry))) 0) (pick (roomForCounts (mostWritten (length (now («tempo_beats» .entry))) (length (now («stop_beats» .entry)))) «tempo_room» «stop_room» «warp_room») 0 7) (chartNumber (now («tempo_beats» .entry)) (now («tempo_values» .entry)) (now («stop_beats» .entry)) (now («stop_values» .entry))) ⌝ }
 {
     let number = chart_number(tempo_beats, tempo_values, stop_beats, stop_values);
-    if number == 0 {
+    if number == limits::TAKEN {
         let mostWritten = most_of(tempo_beats.len(), stop_beats.len());
         if room_for(mostWritten, tempo_room, stop_room, warp_room) {
             return limits::TAKEN;
@@ -686,7 +686,7 @@ pub fn walk_changes(
         stop_room,
         warp_room,
     );
-    if number != 0 {
+    if number != limits::TAKEN {
         return refused(number);
     }
     let done = walk_chart(

@@ -6,28 +6,31 @@ use report_form::Reading;
 ghost use Rattle.io.specs.Counts.{Counts};
 ghost use Rattle.report.specs.Input.{ReportOfSome};
 
+// The bytes of the page, on which every report has room.
+const PAGE: usize = 65536;
+
 // Reads all of standard input and writes its report on the page.
 fn write_input(page: &mut [u8]) -> usize
     ensures { λ r. ⌜ ReportOfSome r (now (page .entry)) (now (page .exit)) ⌝ }
     ensures { λ r. ⌜ Counts r (now (page .exit)) ⌝ }
 {
-    let mut counts = [0u64; 9];
-    let mut tempo_beats = [0.0; 256];
-    let mut tempo_values = [0.0; 256];
-    let mut stop_beats = [0.0; 256];
-    let mut stop_values = [0.0; 256];
-    let mut delay_beats = [0.0; 256];
-    let mut delay_values = [0.0; 256];
-    let mut warp_beats = [0.0; 256];
-    let mut warp_lengths = [0.0; 256];
-    let mut speed_beats = [0.0; 256];
-    let mut speed_ratios = [0.0; 256];
-    let mut speed_delays = [0.0; 256];
-    let mut speed_units = [0u8; 256];
-    let mut scroll_beats = [0.0; 256];
-    let mut scroll_values = [0.0; 256];
-    let mut fake_beats = [0.0; 256];
-    let mut fake_lengths = [0.0; 256];
+    let mut counts = [0u64; report_form::COUNTS];
+    let mut tempo_beats = [0.0; report_form::MOST_REPORTED];
+    let mut tempo_values = [0.0; report_form::MOST_REPORTED];
+    let mut stop_beats = [0.0; report_form::MOST_REPORTED];
+    let mut stop_values = [0.0; report_form::MOST_REPORTED];
+    let mut delay_beats = [0.0; report_form::MOST_REPORTED];
+    let mut delay_values = [0.0; report_form::MOST_REPORTED];
+    let mut warp_beats = [0.0; report_form::MOST_REPORTED];
+    let mut warp_lengths = [0.0; report_form::MOST_REPORTED];
+    let mut speed_beats = [0.0; report_form::MOST_REPORTED];
+    let mut speed_ratios = [0.0; report_form::MOST_REPORTED];
+    let mut speed_delays = [0.0; report_form::MOST_REPORTED];
+    let mut speed_units = [0u8; report_form::MOST_REPORTED];
+    let mut scroll_beats = [0.0; report_form::MOST_REPORTED];
+    let mut scroll_values = [0.0; report_form::MOST_REPORTED];
+    let mut fake_beats = [0.0; report_form::MOST_REPORTED];
+    let mut fake_lengths = [0.0; report_form::MOST_REPORTED];
     let reading: Reading = report_stdin::read_all(
         &mut counts,
         &mut tempo_beats,
@@ -71,7 +74,7 @@ fn write_input(page: &mut [u8]) -> usize
 }
 
 fn main() {
-    let mut page = [0u8; 65536];
+    let mut page = [0u8; PAGE];
     let length = write_input(&mut page);
     io::write_all(STDOUT_FILENO, &page[..length]);
 }

@@ -8,6 +8,9 @@ ghost use Rattle.report_form.specs.Form.{start, stepOf, whole};
 ghost use Rattle.report_stdin.specs.Fed.{Fed};
 ghost use Rattle.report_stdin.specs.Answers.{moreComes, afterAnswer};
 
+// The bytes that are read at once.
+const PIECE: usize = 4096;
+
 // How far the input is read after a piece, and whether another may come.
 struct Piece {
     more: bool,
@@ -65,7 +68,7 @@ fn read_piece(
 ) -> Piece
     ensures { λ r. ⌜ Fed reading (r .reading) (now («counts» .entry)) (now («counts» .exit)) (now («tempo_beats» .entry)) (now («tempo_beats» .exit)) (now («tempo_values» .entry)) (now («tempo_values» .exit)) (now («stop_beats» .entry)) (now («stop_beats» .exit)) (now («stop_values» .entry)) (now («stop_values» .exit)) (now («delay_beats» .entry)) (now («delay_beats» .exit)) (now («delay_values» .entry)) (now («delay_values» .exit)) (now («warp_beats» .entry)) (now («warp_beats» .exit)) (now («warp_lengths» .entry)) (now («warp_lengths» .exit)) (now («speed_beats» .entry)) (now («speed_beats» .exit)) (now («speed_ratios» .entry)) (now («speed_ratios» .exit)) (now («speed_delays» .entry)) (now («speed_delays» .exit)) (now («speed_units» .entry)) (now («speed_units» .exit)) (now («scroll_beats» .entry)) (now («scroll_beats» .exit)) (now («scroll_values» .entry)) (now («scroll_values» .exit)) (now («fake_beats» .entry)) (now («fake_beats» .exit)) (now («fake_lengths» .entry)) (now («fake_lengths» .exit)) ⌝ }
 {
-    let mut piece = [0u8; 4096];
+    let mut piece = [0u8; PIECE];
     let got = libc::read(STDIN_FILENO, &mut piece);
     let count = io::count(got, &piece);
     let next = report_feed::feed(

@@ -145,7 +145,7 @@ pub fn tidy_speed_segments(
     ensures { λ r. ⌜ SpeedsTidied (now (beats .entry)) (now (ratios .entry)) (now (delays .entry)) (now (units .entry)) r (now («out_beats» .entry)) (now («out_beats» .exit)) (now («out_ratios» .entry)) (now («out_ratios» .exit)) (now («out_delays» .entry)) (now («out_delays» .exit)) (now («out_units» .entry)) (now («out_units» .exit)) ⌝ }
 {
     let number = speed_list_number(beats, ratios, delays, units);
-    if number != 0 {
+    if number != limits::TAKEN {
         return columns::refused(number);
     }
     if tidy_by_rows::rise(beats) {

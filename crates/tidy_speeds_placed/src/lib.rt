@@ -365,13 +365,13 @@ pub fn tidy_placed_untested(
     ensures { λ r. ⌜ PlacedTidied (now (beats .entry)) (now (ratios .entry)) (now (delays .entry)) (now (units .entry)) r (now («out_beats» .entry)) (now («out_beats» .exit)) (now («out_ratios» .entry)) (now («out_ratios» .exit)) (now («out_delays» .entry)) (now («out_delays» .exit)) (now («out_units» .entry)) (now («out_units» .exit)) ⌝ }
 {
     let n = tidy_speeds_entries::least_of(beats.len(), ratios.len(), delays.len(), units.len());
-    if n > 1024 {
+    if n > limits::MOST_ENTRIES {
         return columns::refused(limits::TOO_LONG);
     }
-    let mut kept_beats = [0.0; 1024];
-    let mut kept_ratios = [0.0; 1024];
-    let mut kept_delays = [0.0; 1024];
-    let mut kept_units = [0; 1024];
+    let mut kept_beats = [0.0; limits::MOST_ENTRIES];
+    let mut kept_ratios = [0.0; limits::MOST_ENTRIES];
+    let mut kept_delays = [0.0; limits::MOST_ENTRIES];
+    let mut kept_units = [0; limits::MOST_ENTRIES];
     tidy_in(
         beats,
         ratios,
