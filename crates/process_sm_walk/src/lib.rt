@@ -159,6 +159,7 @@ fn write(
 
 // ---- a change
 
+// The state, and how many entries of each list are written.
 pub struct Standing {
     pub state: State,
     pub counts: Counts,
@@ -484,6 +485,7 @@ fn early_stops(beats: &[f32], values: &[f32]) -> Early
 
 // ---- the whole
 
+// The seconds that beat 0 is moved by, and how many entries of each list were written.
 pub struct Finished {
     pub offset: f32,
     pub counts: Counts,

@@ -393,6 +393,8 @@ fn tidy_placed(
 
 // ---- the call
 
+// Scrolls on their rows, without those that are near the one before, over the fronts of both rooms, and how many there are. Refused with 1, 2, 3 or 4 for the list,
+// with 6 where rows fall and one is to be placed in a kept list that falls, and with 7 where they do not fit.
 pub fn tidy_scroll_segments(
     beats: &[f64],
     values: &[f64],

@@ -132,6 +132,8 @@ fn tidy_rising(
 
 // ---- the call
 
+// Speeds on their rows, without those that are near the one before, over the fronts of the four rooms, and how many there are. Refused with 1, 2, 3 or 4 for the list,
+// with 6 where rows fall and one is to be placed in a kept list that falls, and with 7 where they do not fit.
 pub fn tidy_speed_segments(
     beats: &[f64],
     ratios: &[f64],
