@@ -162,6 +162,7 @@ fn write(
 
 // ---- a change
 
+// The state, and how many entries of each list are written.
 pub struct Standing {
     pub state: State,
     pub counts: Counts,
@@ -487,6 +488,7 @@ fn early_stops(beats: &[f32], values: &[f32]) -> Early
 
 // ---- the whole
 
+// The seconds that beat 0 is moved by, and how many entries of each list were written.
 pub struct Finished {
     pub offset: f32,
     pub counts: Counts,
@@ -638,7 +640,7 @@ fn walk_number(
     ensures { λ r. ⌜ r ≡ pick (eqb (chartNumber (now («tempo_beats» .entry)) (now («tempo_values» .entry)) (now («stop_beats» .entry)) (now («stop_values» .entry))) 0) (pick (roomForCounts (mostWritten (length (now («tempo_beats» .entry))) (length (now («stop_beats» .entry)))) «tempo_room» «stop_room» «warp_room») 0 7) (chartNumber (now («tempo_beats» .entry)) (now («tempo_values» .entry)) (now («stop_beats» .entry)) (now («stop_values» .entry))) ⌝ }
 {
     let number = chart_number(tempo_beats, tempo_values, stop_beats, stop_values);
-    if number == 0 {
+    if number == limits::TAKEN {
         let most = most_of(tempo_beats.len(), stop_beats.len());
         if room_for(most, tempo_room, stop_room, warp_room) {
             return limits::TAKEN;
@@ -689,7 +691,7 @@ pub fn walk_changes(
         stop_room,
         warp_room,
     );
-    if number != 0 {
+    if number != limits::TAKEN {
         return refused(number);
     }
     let done = walk_chart(

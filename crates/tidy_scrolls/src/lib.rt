@@ -379,8 +379,8 @@ fn tidy_placed(
     requires { ⌜ neverFalls rowKeyAt (now beats) ≡ false ⌝ }
     ensures { λ r. ⌜ ScrollsTidied (now (beats .entry)) (now (values .entry)) r (now («out_beats» .entry)) (now («out_beats» .exit)) (now («out_values» .entry)) (now («out_values» .exit)) ⌝ }
 {
-    let mut kept_beats = [0.0; 1024];
-    let mut kept_values = [0.0; 1024];
+    let mut kept_beats = [0.0; limits::MOST_ENTRIES];
+    let mut kept_values = [0.0; limits::MOST_ENTRIES];
     tidy_placed_in(
         beats,
         values,
@@ -393,6 +393,8 @@ fn tidy_placed(
 
 // ---- the call
 
+// Scrolls on their rows, without those that are near the one before, over the fronts of both rooms, and how many there are. Refused with 1, 2, 3 or 4 for the list,
+// with 6 where rows fall and one is to be placed in a kept list that falls, and with 7 where they do not fit.
 pub fn tidy_scroll_segments(
     beats: &[f64],
     values: &[f64],
@@ -402,7 +404,7 @@ pub fn tidy_scroll_segments(
     ensures { λ r. ⌜ ScrollsTidied (now (beats .entry)) (now (values .entry)) r (now («out_beats» .entry)) (now («out_beats» .exit)) (now («out_values» .entry)) (now («out_values» .exit)) ⌝ }
 {
     let number = limits::list_number(Kind::Beat, Kind::Value, beats, values);
-    if number != 0 {
+    if number != limits::TAKEN {
         return columns::refused(number);
     }
     if tidy_by_rows::rise(beats) {

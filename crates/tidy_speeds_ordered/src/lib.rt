@@ -288,8 +288,8 @@ fn fits(beats: &[f64], ratios: &[f64], delays: &[f64], units: &[u8], n: usize, r
     count_kept(beats, ratios, delays, units, n) <= room
 }
 
-// The kept entries of a list in order, each on its row; 7 where they have no room. Columns are read as far as the shortest goes.
-pub fn tidy_ordered(
+// The kept entries of a list in order, each on its row; 7 where they have no room. Columns are read as far as the shortest goes, and nothing else is tested.
+pub fn tidy_ordered_untested(
     beats: &[f64],
     ratios: &[f64],
     delays: &[f64],
