@@ -23,7 +23,8 @@ use Rattle.process_raw.proofs.BothTaken.{both-taken}
 use Rattle.process_sm_laws.proofs.ChangesTaken.{same-columns}
 use Rattle.chart.specs.declared.TimingFormat.{TimingFormat}
 use Rattle.process.specs.ByFormat.{Lists, ListsLaid, processedLists}
-use Rattle.process.proofs.ListsTaken.{ListsTaken, lists-taken}
+use Rattle.process.specs.ListsTaken.{ListsTaken}
+use Rattle.process.proofs.ListsTaken.{lists-taken}
 use Rattle.process.proofs.TidiedOnGrid.{tempos-on-rows}
 use Rattle.process.proofs.ValuesF32.{values-f32}
 use Rattle.assembly_warps.specs.MergedWarps.{warpsNumber, threeNumber, mergedLists}

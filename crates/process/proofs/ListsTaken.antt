@@ -37,20 +37,11 @@ use Rattle.process_sm_lent.specs.Sm.{smWritten}
 use Rattle.process_sm.proofs.FewTidied.{entries-few, few-tidied}
 use Rattle.chart.specs.declared.TimingFormat.{TimingFormat}
 use Rattle.chart.specs.declared.TimingFormat.the-variants.{Sm, Ssc}
+use Rattle.process.specs.ListsTaken.{ListsTaken}
 use Rattle.process.specs.ByFormat.{Lists, tempoBeatsOf, tempoValuesOf, listsBy, processedLists}
 use Rattle.process.proofs.NoneGiven.{given-number, given-length}
 use Rattle.process.proofs.ChangesF32.{changes-f32, all-f32}
 use Rattle.process.proofs.StopsOnRows.{sm-on-rows, ssc-on-rows}
-
--- what is true of processed lists
-pub record ListsTaken (tempoMost stopMost : ℕ) (lists : Lists) : Type 0 where
-  pub fewTempos : length (lists .tempos) ≤ max tempoMost 1
-  pub fewStops : length (lists .stops) ≤ stopMost
-  pub fewWarps : length (lists .warps) ≤ tempoMost + stopMost
-  pub stops : listNumber (rangeOf Beat) (rangeOf Value) (map first (lists .stops)) (map second (lists .stops)) ≡ 0
-  pub onRows : map quantized (map first (lists .stops)) ≡ map first (lists .stops)
-  pub warpBeats : allIn (rangeOf Beat) (map first (lists .warps)) ≡ true
-  pub warpLengths : allIn (rangeOf Value) (map second (lists .warps)) ≡ true
 
 -- ---- by format
 

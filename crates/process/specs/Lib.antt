@@ -1,1 +1,2 @@
 pub mod ByFormat
+pub mod ListsTaken

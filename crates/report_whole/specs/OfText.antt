@@ -4,6 +4,7 @@ use mathlib.Core.Path.{_≡_}
 use mathlib.Core.Bool.{Bool}
 use mathlib.Core.List.{List, map}
 use lib.Ieee.{Float, ofBits, binary64}
+use Rattle.limits.specs.Table.{tooLong, badText}
 use Rattle.picks.specs.Pick.{pick}
 use Rattle.report_form.specs.Text.{Entry}
 use Rattle.report_form.specs.Orderly.{TextOf, numbersOf, tooMany}
@@ -18,7 +19,7 @@ floatsOf list part entries = map (ofBits binary64) (numbersOf list part entries)
 -- refused with 1 where a list has more than 256 entries, else the answer to the entries' lists
 unfoldable pub entriesReport : Bool → List Entry → List ℕ
 entriesReport ssc entries =
-    pick (tooMany entries) (answerLine 1)
+    pick (tooMany entries) (answerLine tooLong)
     (takenText (formatRead ssc)
     (floatsOf 2 1 entries) (floatsOf 2 2 entries)
     (floatsOf 3 1 entries) (floatsOf 3 2 entries)
@@ -31,4 +32,4 @@ entriesReport ssc entries =
 -- THE REPORT OF ANY BYTES: of the text of entries in order, the report of those entries; of anything else, the refusal with 10
 pub data Told (bytes : List ℕ) : Type 0 where
   of-text : (t : TextOf bytes) → reportOf bytes ≡ entriesReport (t .ssc) (t .entries) → Told bytes
-  of-no-text : (TextOf bytes → ⊥) → reportOf bytes ≡ answerLine 10 → Told bytes
+  of-no-text : (TextOf bytes → ⊥) → reportOf bytes ≡ answerLine badText → Told bytes
