@@ -4,6 +4,7 @@ use Prim.Native.Nat.{ℕ, _+_, _-_, _*_, _%_}
 use mathlib.Core.Bool.{Bool, true, false}
 use mathlib.Core.List.{List, [], _∷_}
 use lib.Dec.{ltb, leb, eqb}
+use Rattle.limits.specs.Table.{tooLong, badText}
 use Rattle.picks.specs.Pick.{pick}
 use Rattle.ieee_patterns.specs.Hex.{hexValue}
 use Rattle.report_form.specs.declared.Reading.{Reading}
@@ -151,4 +152,4 @@ over (count ∷ counts) = pick (ltb 256 count) true (over counts)
 
 -- the input's own number: 10 goes before every other, then 1
 unfoldable pub answerOf : Reading → List ℕ → ℕ
-answerOf reading counts = pick (whole reading) (pick (over counts) 1 0) 10
+answerOf reading counts = pick (whole reading) (pick (over counts) tooLong 0) badText
