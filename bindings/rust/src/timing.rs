@@ -427,7 +427,7 @@ mod tests {
         assert_eq!(fakes(vec![(4.0, f32::INFINITY)]), Err(Refusal::BadValue));
         assert!(fakes(vec![(4.0, 1.0), (8.0, 1.0)]).is_ok());
         // two rows for the clock, one for the lookups
-        let warps = vec![(41_666.738_281_25, 1.0), (41_666.75, 1.0)];
+        let warps = vec![(41_666.74, 1.0), (41_666.75, 1.0)];
         assert_eq!(made(Lists { warps, ..Lists::default() }), Err(Refusal::NotRising));
     }
 
