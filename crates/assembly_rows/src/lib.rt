@@ -83,7 +83,7 @@ fn quantize_few(from: &[f64], to: &mut [f64])
     ensures { λ _. ⌜ now (to .exit) ≡ laidEach quantized (now (from .entry)) (now (to .entry)) ⌝ }
 {
     let n = from.len();
-    let mut narrowed = [0.0f32; 64];
+    let mut narrowed = [0.0f32; limits::FEW];
     quantize_by(from, &mut narrowed[..n], to);
 }
 
@@ -92,7 +92,7 @@ fn quantize_many(from: &[f64], to: &mut [f64])
     ensures { λ _. ⌜ now (to .exit) ≡ laidEach quantized (now (from .entry)) (now (to .entry)) ⌝ }
 {
     let n = from.len();
-    let mut narrowed = [0.0f32; 1024];
+    let mut narrowed = [0.0f32; limits::MOST_ENTRIES];
     quantize_by(from, &mut narrowed[..n], to);
 }
 
@@ -100,7 +100,7 @@ fn quantize_many(from: &[f64], to: &mut [f64])
 pub fn quantize_column(from: &[f64], to: &mut [f64])
     ensures { λ _. ⌜ now (to .exit) ≡ laidEach quantized (now (from .entry)) (now (to .entry)) ⌝ }
 {
-    if from.len() <= 64 {
+    if from.len() <= limits::FEW {
         quantize_few(from, to);
         return;
     }
@@ -273,10 +273,10 @@ fn assemble_few(
     ensures { λ r. ⌜ RowsAssembled whole (now (beats .entry)) (now (values .entry)) r (now («out_beats» .entry)) (now («out_beats» .exit)) (now («out_values» .entry)) (now («out_values» .exit)) ⌝ }
 {
     let n = beats.len();
-    let mut work_beats = [0.0; 64];
-    let mut work_values = [0.0; 64];
-    let mut tidy_beats = [0.0; 64];
-    let mut tidy_values = [0.0; 64];
+    let mut work_beats = [0.0; limits::FEW];
+    let mut work_values = [0.0; limits::FEW];
+    let mut tidy_beats = [0.0; limits::FEW];
+    let mut tidy_values = [0.0; limits::FEW];
     assemble_in(
         beats,
         values,
@@ -302,10 +302,10 @@ fn assemble_many(
     ensures { λ r. ⌜ RowsAssembled whole (now (beats .entry)) (now (values .entry)) r (now («out_beats» .entry)) (now («out_beats» .exit)) (now («out_values» .entry)) (now («out_values» .exit)) ⌝ }
 {
     let n = beats.len();
-    let mut work_beats = [0.0; 1024];
-    let mut work_values = [0.0; 1024];
-    let mut tidy_beats = [0.0; 1024];
-    let mut tidy_values = [0.0; 1024];
+    let mut work_beats = [0.0; limits::MOST_ENTRIES];
+    let mut work_values = [0.0; limits::MOST_ENTRIES];
+    let mut tidy_beats = [0.0; limits::MOST_ENTRIES];
+    let mut tidy_values = [0.0; limits::MOST_ENTRIES];
     assemble_in(
         beats,
         values,
@@ -329,7 +329,7 @@ fn assemble_any(
     requires { ⌜ (length (now values) ≡ length (now beats)) × (length (now beats) ≤ 1024) ⌝ }
     ensures { λ r. ⌜ RowsAssembled whole (now (beats .entry)) (now (values .entry)) r (now («out_beats» .entry)) (now («out_beats» .exit)) (now («out_values» .entry)) (now («out_values» .exit)) ⌝ }
 {
-    if beats.len() <= 64 {
+    if beats.len() <= limits::FEW {
         return assemble_few(beats, values, whole, out_beats, out_values);
     }
     assemble_many(beats, values, whole, out_beats, out_values)
@@ -391,7 +391,7 @@ fn assemble_even_few(
     ensures { λ r. ⌜ RowsUntested whole (now (beats .entry)) (now (values .entry)) r (now («out_beats» .entry)) (now («out_beats» .exit)) (now («out_values» .entry)) (now («out_values» .exit)) ⌝ }
 {
     let n = beats.len();
-    let mut quantised = [0.0f32; 64];
+    let mut quantised = [0.0f32; limits::FEW];
     assemble_even(
         beats,
         values,
@@ -413,7 +413,7 @@ fn assemble_even_many(
     ensures { λ r. ⌜ RowsUntested whole (now (beats .entry)) (now (values .entry)) r (now («out_beats» .entry)) (now («out_beats» .exit)) (now («out_values» .entry)) (now («out_values» .exit)) ⌝ }
 {
     let n = beats.len();
-    let mut quantised = [0.0f32; 1024];
+    let mut quantised = [0.0f32; limits::MOST_ENTRIES];
     assemble_even(
         beats,
         values,
@@ -440,7 +440,7 @@ pub fn assemble_untested(
     if beats.len() != values.len() {
         return columns::refused(limits::list_number(Kind::Beat, Kind::Value, beats, values));
     }
-    if beats.len() <= 64 {
+    if beats.len() <= limits::FEW {
         return assemble_even_few(beats, values, whole, out_beats, out_values);
     }
     if beats.len() <= limits::MOST_ENTRIES {
@@ -477,8 +477,8 @@ fn fits_below(beats: &[f64], values: &[f64], whole: bool, room: usize) -> bool
     requires { ⌜ (room < length (now beats)) × (length (now beats) ≤ 1024) ⌝ }
     ensures { λ r. ⌜ r ≡ rowsFit whole (now (beats .entry)) (now (values .entry)) room ⌝ }
 {
-    let mut beat_room = [0.0f32; 1024];
-    let mut value_room = [0.0f32; 1024];
+    let mut beat_room = [0.0f32; limits::MOST_ENTRIES];
+    let mut value_room = [0.0f32; limits::MOST_ENTRIES];
     let outcome = assemble_rows(
         beats,
         values,

@@ -41,9 +41,9 @@ fn assemble_few(
     ensures { λ r. ⌜ ScrollsAssembled (now (beats .entry)) (now (values .entry)) r (now («out_beats» .entry)) (now («out_beats» .exit)) (now («out_values» .entry)) (now («out_values» .exit)) ⌝ }
 {
     let n = beats.len();
-    let mut work_beats = [0.0; 64];
-    let mut tidy_beats = [0.0; 64];
-    let mut tidy_values = [0.0; 64];
+    let mut work_beats = [0.0; limits::FEW];
+    let mut tidy_beats = [0.0; limits::FEW];
+    let mut tidy_values = [0.0; limits::FEW];
     assemble_in(
         beats,
         values,
@@ -66,9 +66,9 @@ fn assemble_many(
     ensures { λ r. ⌜ ScrollsAssembled (now (beats .entry)) (now (values .entry)) r (now («out_beats» .entry)) (now («out_beats» .exit)) (now («out_values» .entry)) (now («out_values» .exit)) ⌝ }
 {
     let n = beats.len();
-    let mut work_beats = [0.0; 1024];
-    let mut tidy_beats = [0.0; 1024];
-    let mut tidy_values = [0.0; 1024];
+    let mut work_beats = [0.0; limits::MOST_ENTRIES];
+    let mut tidy_beats = [0.0; limits::MOST_ENTRIES];
+    let mut tidy_values = [0.0; limits::MOST_ENTRIES];
     assemble_in(
         beats,
         values,
@@ -89,7 +89,7 @@ fn assemble_any(
     requires { ⌜ length (now beats) ≤ 1024 ⌝ }
     ensures { λ r. ⌜ ScrollsAssembled (now (beats .entry)) (now (values .entry)) r (now («out_beats» .entry)) (now («out_beats» .exit)) (now («out_values» .entry)) (now («out_values» .exit)) ⌝ }
 {
-    if beats.len() <= 64 {
+    if beats.len() <= limits::FEW {
         return assemble_few(beats, values, out_beats, out_values);
     }
     assemble_many(beats, values, out_beats, out_values)
@@ -134,7 +134,7 @@ fn assemble_by_few(
     ensures { λ r. ⌜ ScrollsUntested (now (beats .entry)) (now (values .entry)) r (now («out_beats» .entry)) (now («out_beats» .exit)) (now («out_values» .entry)) (now («out_values» .exit)) ⌝ }
 {
     let n = beats.len();
-    let mut quantised = [0.0f32; 64];
+    let mut quantised = [0.0f32; limits::FEW];
     assemble_by(beats, values, &mut quantised[..n], out_beats, out_values)
 }
 
@@ -148,7 +148,7 @@ fn assemble_by_many(
     ensures { λ r. ⌜ ScrollsUntested (now (beats .entry)) (now (values .entry)) r (now («out_beats» .entry)) (now («out_beats» .exit)) (now («out_values» .entry)) (now («out_values» .exit)) ⌝ }
 {
     let n = beats.len();
-    let mut quantised = [0.0f32; 1024];
+    let mut quantised = [0.0f32; limits::MOST_ENTRIES];
     assemble_by(beats, values, &mut quantised[..n], out_beats, out_values)
 }
 
@@ -183,7 +183,7 @@ pub fn assemble_untested(
     if beats.len() != values.len() {
         return assemble_scrolls(beats, values, out_beats, out_values);
     }
-    if beats.len() <= 64 {
+    if beats.len() <= limits::FEW {
         return assemble_by_few(beats, values, out_beats, out_values);
     }
     if beats.len() <= limits::MOST_ENTRIES {
@@ -199,8 +199,8 @@ fn number_in(beats: &[f64], values: &[f64], room: usize) -> u32
         return limits::TOO_LONG;
     }
     let n = columns::room_of(room, limits::MOST_ENTRIES);
-    let mut beat_room = [0.0f32; 1024];
-    let mut value_room = [0.0f32; 1024];
+    let mut beat_room = [0.0f32; limits::MOST_ENTRIES];
+    let mut value_room = [0.0f32; limits::MOST_ENTRIES];
     let outcome = assemble_scrolls(beats, values, &mut beat_room[..n], &mut value_room[..n]);
     outcome.number
 }

@@ -105,11 +105,11 @@ fn assemble_few(
     ensures { λ r. ⌜ SpeedsAssembled (now (beats .entry)) (now (ratios .entry)) (now (delays .entry)) (now (units .entry)) r (now («out_beats» .entry)) (now («out_beats» .exit)) (now («out_ratios» .entry)) (now («out_ratios» .exit)) (now («out_delays» .entry)) (now («out_delays» .exit)) (now («out_units» .entry)) (now («out_units» .exit)) ⌝ }
 {
     let n = beats.len();
-    let mut work_beats = [0.0; 64];
-    let mut tidy_beats = [0.0; 64];
-    let mut tidy_ratios = [0.0; 64];
-    let mut tidy_delays = [0.0; 64];
-    let mut tidy_units = [0u8; 64];
+    let mut work_beats = [0.0; limits::FEW];
+    let mut tidy_beats = [0.0; limits::FEW];
+    let mut tidy_ratios = [0.0; limits::FEW];
+    let mut tidy_delays = [0.0; limits::FEW];
+    let mut tidy_units = [0u8; limits::FEW];
     assemble_in(
         beats,
         ratios,
@@ -142,11 +142,11 @@ fn assemble_many(
     ensures { λ r. ⌜ SpeedsAssembled (now (beats .entry)) (now (ratios .entry)) (now (delays .entry)) (now (units .entry)) r (now («out_beats» .entry)) (now («out_beats» .exit)) (now («out_ratios» .entry)) (now («out_ratios» .exit)) (now («out_delays» .entry)) (now («out_delays» .exit)) (now («out_units» .entry)) (now («out_units» .exit)) ⌝ }
 {
     let n = beats.len();
-    let mut work_beats = [0.0; 1024];
-    let mut tidy_beats = [0.0; 1024];
-    let mut tidy_ratios = [0.0; 1024];
-    let mut tidy_delays = [0.0; 1024];
-    let mut tidy_units = [0u8; 1024];
+    let mut work_beats = [0.0; limits::MOST_ENTRIES];
+    let mut tidy_beats = [0.0; limits::MOST_ENTRIES];
+    let mut tidy_ratios = [0.0; limits::MOST_ENTRIES];
+    let mut tidy_delays = [0.0; limits::MOST_ENTRIES];
+    let mut tidy_units = [0u8; limits::MOST_ENTRIES];
     assemble_in(
         beats,
         ratios,
@@ -177,7 +177,7 @@ fn assemble_any(
     requires { ⌜ length (now beats) ≤ 1024 ⌝ }
     ensures { λ r. ⌜ SpeedsAssembled (now (beats .entry)) (now (ratios .entry)) (now (delays .entry)) (now (units .entry)) r (now («out_beats» .entry)) (now («out_beats» .exit)) (now («out_ratios» .entry)) (now («out_ratios» .exit)) (now («out_delays» .entry)) (now («out_delays» .exit)) (now («out_units» .entry)) (now («out_units» .exit)) ⌝ }
 {
-    if beats.len() <= 64 {
+    if beats.len() <= limits::FEW {
         return assemble_few(
             beats,
             ratios,
@@ -303,7 +303,7 @@ fn assemble_by_few(
     ensures { λ r. ⌜ SpeedsUntested (now (beats .entry)) (now (ratios .entry)) (now (delays .entry)) (now (units .entry)) r (now («out_beats» .entry)) (now («out_beats» .exit)) (now («out_ratios» .entry)) (now («out_ratios» .exit)) (now («out_delays» .entry)) (now («out_delays» .exit)) (now («out_units» .entry)) (now («out_units» .exit)) ⌝ }
 {
     let n = beats.len();
-    let mut quantised = [0.0f32; 64];
+    let mut quantised = [0.0f32; limits::FEW];
     assemble_by(
         beats,
         ratios,
@@ -332,7 +332,7 @@ fn assemble_by_many(
     ensures { λ r. ⌜ SpeedsUntested (now (beats .entry)) (now (ratios .entry)) (now (delays .entry)) (now (units .entry)) r (now («out_beats» .entry)) (now («out_beats» .exit)) (now («out_ratios» .entry)) (now («out_ratios» .exit)) (now («out_delays» .entry)) (now («out_delays» .exit)) (now («out_units» .entry)) (now («out_units» .exit)) ⌝ }
 {
     let n = beats.len();
-    let mut quantised = [0.0f32; 1024];
+    let mut quantised = [0.0f32; limits::MOST_ENTRIES];
     assemble_by(
         beats,
         ratios,
@@ -403,7 +403,7 @@ pub fn assemble_untested(
             out_units,
         );
     }
-    if beats.len() <= 64 {
+    if beats.len() <= limits::FEW {
         return assemble_by_few(
             beats,
             ratios,
@@ -446,10 +446,10 @@ fn number_in(beats: &[f64], ratios: &[f64], delays: &[f64], units: &[u8], room: 
         return limits::TOO_LONG;
     }
     let n = columns::room_of(room, limits::MOST_ENTRIES);
-    let mut beat_room = [0.0f32; 1024];
-    let mut ratio_room = [0.0f32; 1024];
-    let mut delay_room = [0.0f32; 1024];
-    let mut unit_room = [0u8; 1024];
+    let mut beat_room = [0.0f32; limits::MOST_ENTRIES];
+    let mut ratio_room = [0.0f32; limits::MOST_ENTRIES];
+    let mut delay_room = [0.0f32; limits::MOST_ENTRIES];
+    let mut unit_room = [0u8; limits::MOST_ENTRIES];
     let outcome = assemble_speeds(
         beats,
         ratios,

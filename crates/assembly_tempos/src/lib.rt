@@ -272,6 +272,11 @@ fn assemble_in(
     )
 }
 
+// Every tempo and every stop may make a warp, beside the warps that are given.
+const FEW_WARPS: usize = 3 * limits::FEW;
+
+const MOST_WARPS: usize = 3 * limits::MOST_ENTRIES;
+
 // Columns for as many entries as a chart has.
 fn assemble_few(
     format: TimingFormat,
@@ -294,12 +299,12 @@ fn assemble_few(
     requires { ⌜ (length (now «tempo_beats») ≤ 64) × (length (now «stop_beats») ≤ 64) × (length (now «warp_beats») ≤ 64) ⌝ }
     ensures { λ r. ⌜ ThreeLaid (lower (threeNumber (now («tempo_beats» .entry)) (now («tempo_values» .entry)) (now («stop_beats» .entry)) (now («stop_values» .entry)) (now («warp_beats» .entry)) (now («warp_lengths» .entry))) other) later «most_warps» (mergedLists format (now («tempo_beats» .entry)) (now («tempo_values» .entry)) (now («stop_beats» .entry)) (now («stop_values» .entry)) (now («warp_beats» .entry)) (now («warp_lengths» .entry))) r (now («out_tempo_beats» .entry)) (now («out_tempo_beats» .exit)) (now («out_tempo_values» .entry)) (now («out_tempo_values» .exit)) (now («out_stop_beats» .entry)) (now («out_stop_beats» .exit)) (now («out_stop_values» .entry)) (now («out_stop_values» .exit)) (now («out_warp_beats» .entry)) (now («out_warp_beats» .exit)) (now («out_warp_lengths» .entry)) (now («out_warp_lengths» .exit)) ⌝ }
 {
-    let mut work_tempo_beats = [0.0; 64];
-    let mut work_tempo_values = [0.0; 64];
-    let mut work_stop_beats = [0.0; 64];
-    let mut work_stop_values = [0.0; 64];
-    let mut work_warp_beats = [0.0; 192];
-    let mut work_warp_lengths = [0.0; 192];
+    let mut work_tempo_beats = [0.0; limits::FEW];
+    let mut work_tempo_values = [0.0; limits::FEW];
+    let mut work_stop_beats = [0.0; limits::FEW];
+    let mut work_stop_values = [0.0; limits::FEW];
+    let mut work_warp_beats = [0.0; FEW_WARPS];
+    let mut work_warp_lengths = [0.0; FEW_WARPS];
     assemble_in(
         format,
         most_warps,
@@ -347,12 +352,12 @@ fn assemble_many(
 ) -> AssembledTempos
     ensures { λ r. ⌜ ThreeLaid (lower (threeNumber (now («tempo_beats» .entry)) (now («tempo_values» .entry)) (now («stop_beats» .entry)) (now («stop_values» .entry)) (now («warp_beats» .entry)) (now («warp_lengths» .entry))) other) later «most_warps» (mergedLists format (now («tempo_beats» .entry)) (now («tempo_values» .entry)) (now («stop_beats» .entry)) (now («stop_values» .entry)) (now («warp_beats» .entry)) (now («warp_lengths» .entry))) r (now («out_tempo_beats» .entry)) (now («out_tempo_beats» .exit)) (now («out_tempo_values» .entry)) (now («out_tempo_values» .exit)) (now («out_stop_beats» .entry)) (now («out_stop_beats» .exit)) (now («out_stop_values» .entry)) (now («out_stop_values» .exit)) (now («out_warp_beats» .entry)) (now («out_warp_beats» .exit)) (now («out_warp_lengths» .entry)) (now («out_warp_lengths» .exit)) ⌝ }
 {
-    let mut work_tempo_beats = [0.0; 1024];
-    let mut work_tempo_values = [0.0; 1024];
-    let mut work_stop_beats = [0.0; 1024];
-    let mut work_stop_values = [0.0; 1024];
-    let mut work_warp_beats = [0.0; 3072];
-    let mut work_warp_lengths = [0.0; 3072];
+    let mut work_tempo_beats = [0.0; limits::MOST_ENTRIES];
+    let mut work_tempo_values = [0.0; limits::MOST_ENTRIES];
+    let mut work_stop_beats = [0.0; limits::MOST_ENTRIES];
+    let mut work_stop_values = [0.0; limits::MOST_ENTRIES];
+    let mut work_warp_beats = [0.0; MOST_WARPS];
+    let mut work_warp_lengths = [0.0; MOST_WARPS];
     assemble_in(
         format,
         most_warps,
@@ -403,9 +408,9 @@ pub fn assemble_tempos(
 ) -> AssembledTempos
     ensures { λ r. ⌜ ThreeLaid (lower (threeNumber (now («tempo_beats» .entry)) (now («tempo_values» .entry)) (now («stop_beats» .entry)) (now («stop_values» .entry)) (now («warp_beats» .entry)) (now («warp_lengths» .entry))) other) later «most_warps» (mergedLists format (now («tempo_beats» .entry)) (now («tempo_values» .entry)) (now («stop_beats» .entry)) (now («stop_values» .entry)) (now («warp_beats» .entry)) (now («warp_lengths» .entry))) r (now («out_tempo_beats» .entry)) (now («out_tempo_beats» .exit)) (now («out_tempo_values» .entry)) (now («out_tempo_values» .exit)) (now («out_stop_beats» .entry)) (now («out_stop_beats» .exit)) (now («out_stop_values» .entry)) (now («out_stop_values» .exit)) (now («out_warp_beats» .entry)) (now («out_warp_beats» .exit)) (now («out_warp_lengths» .entry)) (now («out_warp_lengths» .exit)) ⌝ }
 {
-    if tempo_beats.len() <= 64 {
-        if stop_beats.len() <= 64 {
-            if warp_beats.len() <= 64 {
+    if tempo_beats.len() <= limits::FEW {
+        if stop_beats.len() <= limits::FEW {
+            if warp_beats.len() <= limits::FEW {
                 return assemble_few(
                     format,
                     most_warps,

@@ -85,7 +85,7 @@ fn answered(cursor: Cursor, passed: usize, time: f64, global: f64) -> Answer
     ensures { λ r. ⌜ r ≡ answered global (cursor .asked) (record { state = cursor .state; passed = passed; time = time }) ⌝ }
 {
     Answer {
-        number: 0,
+        number: limits::TAKEN,
         time: time - global,
         count: passed + 1,
         cursor: cursor,
@@ -160,10 +160,10 @@ impl Cursor {
         ensures { λ r. ⌜ r ≡ made offset global ⌝ }
     {
         let number = clock_tests::offsets_number(offset, global);
-        if number == 0 {
+        if number == limits::TAKEN {
             let cursor = fresh_cursor(offset, global);
             return Made {
-                number: 0,
+                number: limits::TAKEN,
                 cursor: cursor,
             };
         }
@@ -317,7 +317,7 @@ impl Cursor {
         ensures { λ r. ⌜ r ≡ asking (timing (now («tempo_beats» .entry)) (now («tempo_values» .entry)) (now («stop_beats» .entry)) (now («stop_values» .entry)) (now («delay_beats» .entry)) (now («delay_values» .entry)) (now («warp_beats» .entry)) (now («warp_lengths» .entry))) self offset global beat ⌝ }
     {
         let number = clock_tests::beat_number(beat);
-        if number == 0 {
+        if number == limits::TAKEN {
             let row = rows::beat_to_note_row(beat);
             let begin = self.begin(row, offset, global);
             let walked = walk_filled(
@@ -381,7 +381,7 @@ impl Cursor {
         ensures { λ r. ⌜ r ≡ playerQuestion (timing (now («tempo_beats» .entry)) (now («tempo_values» .entry)) (now («stop_beats» .entry)) (now («stop_values» .entry)) (now («delay_beats» .entry)) (now («delay_values» .entry)) (now («warp_beats» .entry)) (now («warp_lengths» .entry))) self offset global beat ⌝ }
     {
         let asked = clock_tests::beat_number(beat);
-        if asked != 0 {
+        if asked != limits::TAKEN {
             return refused(asked, self);
         }
         let row = row_of_taken(beat);
@@ -404,7 +404,7 @@ impl Cursor {
             return answered(self, soon.passed, time, global);
         }
         let lent = self.refusal(tempo_beats, stop_beats, delay_beats, warp_beats);
-        if lent != 0 {
+        if lent != limits::TAKEN {
             return refused(lent, self);
         }
         let walked = self.walked(
@@ -459,7 +459,7 @@ impl Cursor {
         let lent = self.refusal(tempo_beats, stop_beats, delay_beats, warp_beats);
         let player = limits::lower_of(asked, lent);
         let number = limits::lower_of(timing, player);
-        if number != 0 {
+        if number != limits::TAKEN {
             return refused(number, self);
         }
         let row = rows::beat_to_note_row(beat);

@@ -122,7 +122,7 @@ fn look_ahead(
 fn is_before(known: bool, until: i32, last: i32, beat: f64, row: i32) -> bool
     ensures { λ r. ⌜ r ≡ isBefore known until last beat row ⌝ }
 {
-    if clock_tests::beat_number(beat) == 0 {
+    if clock_tests::beat_number(beat) == limits::TAKEN {
         if known {
             if row < last {
                 return false;
@@ -343,7 +343,7 @@ pub fn run(
     let lent = cursor.refusal(tempo_beats, stop_beats, delay_beats, warp_beats);
     let later = limits::lower_of(room, lent);
     let number = limits::lower_of(timing, later);
-    if number == 0 {
+    if number == limits::TAKEN {
         let last = ask_each(
             cursor,
             tempo_beats,

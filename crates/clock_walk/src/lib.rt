@@ -30,6 +30,7 @@ pub enum Event {
     NotFound,
 }
 
+// The next event, and the row it is on.
 pub struct Next {
     pub row: i32,
     pub kind: Event,
@@ -47,6 +48,7 @@ pub fn row_at(beats: &[f32], place: usize) -> i32
     2147483647
 }
 
+// The row where the warp ends, and the greatest i32 where none is open.
 pub fn end_row(warping: bool, end: f64) -> i32
     ensures { λ r. ⌜ r ≡ endRow warping end ⌝ }
 {
@@ -574,6 +576,7 @@ pub struct Soon {
     pub whole: bool,
 }
 
+// A walk to an asked row of which `is_only_tempos` said yes, as far as its first tempo; where it would go on, it is not begun.
 pub fn walk_soon(
     state: State,
     asked: i32,

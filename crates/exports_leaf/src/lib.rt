@@ -15,6 +15,7 @@ pub extern "C" fn marrighentu_version() -> u32
     100
 }
 
+// The whole number nearest to x, a tie to the even one, held at the ends of an i32; 0 for what is not finite.
 #[no_mangle]
 pub extern "C" fn marrighentu_lrint_f64(x: f64) -> i32
     ensures { λ r. ⌜ r ≡ hold (rint x) ⌝ }
@@ -22,6 +23,7 @@ pub extern "C" fn marrighentu_lrint_f64(x: f64) -> i32
     ieee::lrint_f64(x)
 }
 
+// The same of an f32.
 #[no_mangle]
 pub extern "C" fn marrighentu_lrint_f32(x: f32) -> i32
     ensures { λ r. ⌜ r ≡ hold (rint x) ⌝ }
@@ -29,6 +31,7 @@ pub extern "C" fn marrighentu_lrint_f32(x: f32) -> i32
     ieee::lrint_f32(x)
 }
 
+// The nearest f32, a tie to the even one.
 #[no_mangle]
 pub extern "C" fn marrighentu_narrow_f64(x: f64) -> f32
     ensures { λ r. ⌜ r ≡ narrow x ⌝ }
@@ -36,6 +39,7 @@ pub extern "C" fn marrighentu_narrow_f64(x: f64) -> f32
     ieee::narrow_f64(x)
 }
 
+// The beat of a row.
 #[no_mangle]
 pub extern "C" fn marrighentu_note_row_to_beat(row: i32) -> f64
     ensures { λ r. ⌜ r ≡ beatOf binary64 row ⌝ }
@@ -43,6 +47,7 @@ pub extern "C" fn marrighentu_note_row_to_beat(row: i32) -> f64
     rows::note_row_to_beat(row)
 }
 
+// The beat of a row, as an f32.
 #[no_mangle]
 pub extern "C" fn marrighentu_note_row_to_beat_f32(row: i32) -> f32
     ensures { λ r. ⌜ r ≡ beatOf binary32 row ⌝ }
@@ -50,6 +55,7 @@ pub extern "C" fn marrighentu_note_row_to_beat_f32(row: i32) -> f32
     rows::note_row_to_beat_f32(row)
 }
 
+// The row of a beat, a tie to the even one, held at the ends of an i32.
 #[no_mangle]
 pub extern "C" fn marrighentu_beat_to_note_row(beat: f64) -> i32
     ensures { λ r. ⌜ r ≡ row binary64 beat ⌝ }
@@ -57,6 +63,7 @@ pub extern "C" fn marrighentu_beat_to_note_row(beat: f64) -> i32
     rows::beat_to_note_row(beat)
 }
 
+// The row of an f32 beat, the product rounded to f32.
 #[no_mangle]
 pub extern "C" fn marrighentu_beat_to_note_row_f32(beat: f32) -> i32
     ensures { λ r. ⌜ r ≡ row binary32 beat ⌝ }
@@ -64,6 +71,7 @@ pub extern "C" fn marrighentu_beat_to_note_row_f32(beat: f32) -> i32
     rows::beat_to_note_row_f32(beat)
 }
 
+// A beat moved to its row, through f32 both ways.
 #[no_mangle]
 pub extern "C" fn marrighentu_quantize_beat(beat: f64) -> f64
     ensures { λ r. ⌜ r ≡ quantized beat ⌝ }
@@ -71,6 +79,7 @@ pub extern "C" fn marrighentu_quantize_beat(beat: f64) -> f64
     rows::quantize_beat(beat)
 }
 
+// An f32 beat moved to its row.
 #[no_mangle]
 pub extern "C" fn marrighentu_quantize_beat_f32(beat: f32) -> f32
     ensures { λ r. ⌜ r ≡ quantized32 beat ⌝ }
@@ -86,6 +95,7 @@ fn lesser(a: usize, b: usize) -> usize
 
 // Each loop below writes the call's answer for entry i of its first list into entry i of its second, for every i that both have, and nothing else.
 
+// The nearest whole number of each f64.
 #[no_mangle]
 pub extern "C" fn marrighentu_each_lrint_f64(from: &[f64], to: &mut [i32])
     ensures { λ _. ⌜ now (to .exit) ≡ laidEach (λ (x : Float). hold (rint x)) (now (from .entry)) (now (to .entry)) ⌝ }
@@ -98,6 +108,7 @@ pub extern "C" fn marrighentu_each_lrint_f64(from: &[f64], to: &mut [i32])
     }
 }
 
+// The nearest whole number of each f32.
 #[no_mangle]
 pub extern "C" fn marrighentu_each_lrint_f32(from: &[f32], to: &mut [i32])
     ensures { λ _. ⌜ now (to .exit) ≡ laidEach (λ (x : Float). hold (rint x)) (now (from .entry)) (now (to .entry)) ⌝ }
@@ -110,6 +121,7 @@ pub extern "C" fn marrighentu_each_lrint_f32(from: &[f32], to: &mut [i32])
     }
 }
 
+// The nearest f32 of each f64.
 #[no_mangle]
 pub extern "C" fn marrighentu_each_narrow_f64(from: &[f64], to: &mut [f32])
     ensures { λ _. ⌜ now (to .exit) ≡ laidEach narrow (now (from .entry)) (now (to .entry)) ⌝ }
@@ -122,6 +134,7 @@ pub extern "C" fn marrighentu_each_narrow_f64(from: &[f64], to: &mut [f32])
     }
 }
 
+// The beat of each row.
 #[no_mangle]
 pub extern "C" fn marrighentu_each_note_row_to_beat(rows: &[i32], beats: &mut [f64])
     ensures { λ _. ⌜ now (beats .exit) ≡ laidEach (beatOf binary64) (now (rows .entry)) (now (beats .entry)) ⌝ }
@@ -134,6 +147,7 @@ pub extern "C" fn marrighentu_each_note_row_to_beat(rows: &[i32], beats: &mut [f
     }
 }
 
+// The f32 beat of each row.
 #[no_mangle]
 pub extern "C" fn marrighentu_each_note_row_to_beat_f32(rows: &[i32], beats: &mut [f32])
     ensures { λ _. ⌜ now (beats .exit) ≡ laidEach (beatOf binary32) (now (rows .entry)) (now (beats .entry)) ⌝ }
@@ -146,6 +160,7 @@ pub extern "C" fn marrighentu_each_note_row_to_beat_f32(rows: &[i32], beats: &mu
     }
 }
 
+// The row of each beat.
 #[no_mangle]
 pub extern "C" fn marrighentu_each_beat_to_note_row(beats: &[f64], rows: &mut [i32])
     ensures { λ _. ⌜ now (rows .exit) ≡ laidEach (row binary64) (now (beats .entry)) (now (rows .entry)) ⌝ }
@@ -158,6 +173,7 @@ pub extern "C" fn marrighentu_each_beat_to_note_row(beats: &[f64], rows: &mut [i
     }
 }
 
+// The row of each f32 beat.
 #[no_mangle]
 pub extern "C" fn marrighentu_each_beat_to_note_row_f32(beats: &[f32], rows: &mut [i32])
     ensures { λ _. ⌜ now (rows .exit) ≡ laidEach (row binary32) (now (beats .entry)) (now (rows .entry)) ⌝ }
@@ -170,6 +186,7 @@ pub extern "C" fn marrighentu_each_beat_to_note_row_f32(beats: &[f32], rows: &mu
     }
 }
 
+// Each beat moved to its row.
 #[no_mangle]
 pub extern "C" fn marrighentu_each_quantize_beat(beats: &[f64], quantised: &mut [f64])
     ensures { λ _. ⌜ now (quantised .exit) ≡ laidEach quantized (now (beats .entry)) (now (quantised .entry)) ⌝ }
@@ -182,6 +199,7 @@ pub extern "C" fn marrighentu_each_quantize_beat(beats: &[f64], quantised: &mut 
     }
 }
 
+// Each f32 beat moved to its row.
 #[no_mangle]
 pub extern "C" fn marrighentu_each_quantize_beat_f32(beats: &[f32], quantised: &mut [f32])
     ensures { λ _. ⌜ now (quantised .exit) ≡ laidEach quantized32 (now (beats .entry)) (now (quantised .entry)) ⌝ }

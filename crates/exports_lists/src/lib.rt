@@ -30,6 +30,7 @@ ghost use Rattle.clock_run.specs.Run.{RunLaid};
 ghost use Rattle.tidy_scrolls.specs.ScrollTidying.{ScrollsTidied};
 ghost use Rattle.tidy_speeds.specs.SpeedTidying.{SpeedsTidied};
 
+// Row tidying: each beat on its row, rows that rise strictly, each with the value that came last.
 #[no_mangle]
 pub extern "C" fn marrighentu_tidy_row_segments(
     beats: &[f64],
@@ -42,6 +43,7 @@ pub extern "C" fn marrighentu_tidy_row_segments(
     tidy_rows::tidy_row_segments(beats, values, out_beats, out_values)
 }
 
+// Tempo tidying: by beat, of equal beats the last, the first at beat 0, each only where it changes; 60 where there is none.
 #[no_mangle]
 pub extern "C" fn marrighentu_tidy_bpms(
     beats: &[f64],
@@ -56,6 +58,7 @@ pub extern "C" fn marrighentu_tidy_bpms(
 
 // ---- the row store and the lookups
 
+// The row store: the rows of positive stops, positive delays, warps and fakes, a part behind another.
 #[no_mangle]
 pub extern "C" fn marrighentu_build_segment_row_storage(
     stop_beats: &[f32],
@@ -83,6 +86,7 @@ pub extern "C" fn marrighentu_build_segment_row_storage(
     )
 }
 
+// Whether a row is warped.
 #[no_mangle]
 pub extern "C" fn marrighentu_is_warp_at_row(
     stop_beats: &[f32],
@@ -106,6 +110,7 @@ pub extern "C" fn marrighentu_is_warp_at_row(
     )
 }
 
+// Whether the row of a beat is warped.
 #[no_mangle]
 pub extern "C" fn marrighentu_is_warp_at_beat(
     stop_beats: &[f32],
@@ -129,6 +134,7 @@ pub extern "C" fn marrighentu_is_warp_at_beat(
     )
 }
 
+// Whether a row is fake.
 #[no_mangle]
 pub extern "C" fn marrighentu_is_fake_at_row(
     fake_beats: &[f32],
@@ -140,6 +146,7 @@ pub extern "C" fn marrighentu_is_fake_at_row(
     lookup::is_fake_at_row(fake_beats, fake_lengths, row)
 }
 
+// Whether the row of a beat is fake.
 #[no_mangle]
 pub extern "C" fn marrighentu_is_fake_at_beat(
     fake_beats: &[f32],
@@ -151,6 +158,7 @@ pub extern "C" fn marrighentu_is_fake_at_beat(
     lookup::is_fake_at_beat(fake_beats, fake_lengths, beat)
 }
 
+// Whether a note on a row is judged: the row is neither warped nor fake.
 #[no_mangle]
 pub extern "C" fn marrighentu_is_judgable_at_row(
     stop_beats: &[f32],
@@ -178,6 +186,7 @@ pub extern "C" fn marrighentu_is_judgable_at_row(
     )
 }
 
+// Whether a note on the row of a beat is judged.
 #[no_mangle]
 pub extern "C" fn marrighentu_is_judgable_at_beat(
     stop_beats: &[f32],
@@ -205,6 +214,7 @@ pub extern "C" fn marrighentu_is_judgable_at_beat(
     )
 }
 
+// 1 for each row on which a note is judged and 0 for each other, after one test of the lists.
 #[no_mangle]
 pub extern "C" fn marrighentu_judgable_rows(
     stop_beats: &[f32],
@@ -236,6 +246,7 @@ pub extern "C" fn marrighentu_judgable_rows(
 
 // ---- the lookups for lists that were tested once
 
+// The number that the four lists are refused by, 0 where the calls below may be asked.
 #[no_mangle]
 pub extern "C" fn marrighentu_check_lookups(
     stop_beats: &[f32],
@@ -265,6 +276,7 @@ pub extern "C" fn marrighentu_check_lookups(
     )
 }
 
+// Whether a row is warped, by lists that were tested.
 #[no_mangle]
 pub extern "C" fn marrighentu_is_warp_at_row_checked(
     stop_beats: &[f32],
@@ -291,6 +303,7 @@ pub extern "C" fn marrighentu_is_warp_at_row_checked(
     )
 }
 
+// Whether the row of a beat is warped, by lists that were tested.
 #[no_mangle]
 pub extern "C" fn marrighentu_is_warp_at_beat_checked(
     stop_beats: &[f32],
@@ -317,6 +330,7 @@ pub extern "C" fn marrighentu_is_warp_at_beat_checked(
     )
 }
 
+// Whether a row is fake, by lists that were tested.
 #[no_mangle]
 pub extern "C" fn marrighentu_is_fake_at_row_checked(
     fake_beats: &[f32],
@@ -328,6 +342,7 @@ pub extern "C" fn marrighentu_is_fake_at_row_checked(
     lookup_checked::is_fake_at_row_checked(fake_beats, fake_lengths, row)
 }
 
+// Whether the row of a beat is fake, by lists that were tested.
 #[no_mangle]
 pub extern "C" fn marrighentu_is_fake_at_beat_checked(
     fake_beats: &[f32],
@@ -339,6 +354,7 @@ pub extern "C" fn marrighentu_is_fake_at_beat_checked(
     lookup_checked::is_fake_at_beat_checked(fake_beats, fake_lengths, beat)
 }
 
+// Whether a note on a row is judged, by lists that were tested.
 #[no_mangle]
 pub extern "C" fn marrighentu_is_judgable_at_row_checked(
     stop_beats: &[f32],
@@ -370,6 +386,7 @@ pub extern "C" fn marrighentu_is_judgable_at_row_checked(
     )
 }
 
+// Whether a note on the row of a beat is judged, by lists that were tested.
 #[no_mangle]
 pub extern "C" fn marrighentu_is_judgable_at_beat_checked(
     stop_beats: &[f32],
@@ -401,6 +418,7 @@ pub extern "C" fn marrighentu_is_judgable_at_beat_checked(
     )
 }
 
+// SSC's tempos and stops: those that are positive, the tempos tidied.
 #[no_mangle]
 pub extern "C" fn marrighentu_process_bpms_and_stops_ssc(
     tempo_beats: &[f64],
@@ -426,6 +444,7 @@ pub extern "C" fn marrighentu_process_bpms_and_stops_ssc(
     )
 }
 
+// SM's tempos and stops, and the warps that are made of what runs backward.
 #[no_mangle]
 pub extern "C" fn marrighentu_process_bpms_and_stops_sm(
     tempo_beats: &[f64],
@@ -455,6 +474,7 @@ pub extern "C" fn marrighentu_process_bpms_and_stops_sm(
     )
 }
 
+// The stops of an SM chart that plays delays and warps, over the front of the work list.
 #[no_mangle]
 pub extern "C" fn marrighentu_convert_warps_and_delays_to_sm_stops(
     tempo_beats: &[f32],
@@ -480,6 +500,7 @@ pub extern "C" fn marrighentu_convert_warps_and_delays_to_sm_stops(
     )
 }
 
+// A cursor that was not asked yet.
 #[no_mangle]
 pub extern "C" fn marrighentu_cursor_new(offset: f64, global: f64) -> Made
     ensures { λ r. ⌜ r ≡ made offset global ⌝ }
@@ -487,6 +508,7 @@ pub extern "C" fn marrighentu_cursor_new(offset: f64, global: f64) -> Made
     Cursor::new(offset, global)
 }
 
+// The number that a timing is refused by, 0 where the player may ask.
 #[no_mangle]
 pub extern "C" fn marrighentu_check_timing(
     tempo_beats: &[f32],
@@ -516,6 +538,7 @@ pub extern "C" fn marrighentu_check_timing(
     )
 }
 
+// At what time is this beat? All is tested, and the cursor comes back moved on.
 #[no_mangle]
 pub extern "C" fn marrighentu_time_for_beat(
     cursor: Cursor,
@@ -548,6 +571,7 @@ pub extern "C" fn marrighentu_time_for_beat(
     )
 }
 
+// The player's question, of a timing that was tested: beat and cursor are tested.
 #[no_mangle]
 pub extern "C" fn marrighentu_time_for_beat_checked(
     cursor: Cursor,
@@ -580,6 +604,7 @@ pub extern "C" fn marrighentu_time_for_beat_checked(
     )
 }
 
+// The time of a beat from a fresh cursor.
 #[no_mangle]
 pub extern "C" fn marrighentu_get_time_for_beat(
     tempo_beats: &[f32],
@@ -611,6 +636,7 @@ pub extern "C" fn marrighentu_get_time_for_beat(
     )
 }
 
+// For each beat its number, its time and its count; timing and cursor are tested once.
 #[no_mangle]
 pub extern "C" fn marrighentu_run(
     cursor: Cursor,
@@ -650,6 +676,7 @@ pub extern "C" fn marrighentu_run(
     )
 }
 
+// Scroll tidying: scrolls on their rows, without those that are near the one before.
 #[no_mangle]
 pub extern "C" fn marrighentu_tidy_scroll_segments(
     beats: &[f64],
@@ -662,6 +689,7 @@ pub extern "C" fn marrighentu_tidy_scroll_segments(
     tidy_scrolls::tidy_scroll_segments(beats, values, out_beats, out_values)
 }
 
+// Speed tidying: speeds on their rows, without those that are near the one before.
 #[no_mangle]
 pub extern "C" fn marrighentu_tidy_speed_segments(
     beats: &[f64],

@@ -43,6 +43,7 @@ pub fn lrint_f64(x: f64) -> i32
     }
 }
 
+// The same of an f32.
 pub fn lrint_f32(x: f32) -> i32
     ensures { λ r. ⌜ r ≡ hold (rint x) ⌝ }
 {

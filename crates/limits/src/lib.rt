@@ -11,6 +11,7 @@ ghost use Rattle.limits.specs.Refusals.{lower, listNumber};
 
 // ---- what a refusal answers
 
+// Nothing is refused.
 pub const TAKEN: u32 = 0;
 // A list has more than 1,024 entries.
 pub const TOO_LONG: u32 = 1;
@@ -36,14 +37,17 @@ pub const BAD_TEXT: u32 = 10;
 // The most entries that a list may have.
 pub const MOST_ENTRIES: usize = 1024;
 
+// As many entries as the lists of most charts have. Work columns are of this length where it is enough, since a longer one takes its time to be filled.
+pub const FEW: usize = 64;
+
 // The lower of two numbers, where 0 is no refusal.
 pub fn lower_of(one: u32, other: u32) -> u32
     ensures { λ r. ⌜ r ≡ lower one other ⌝ }
 {
-    if one == 0 {
+    if one == TAKEN {
         return other;
     }
-    if other == 0 {
+    if other == TAKEN {
         return one;
     }
     if one <= other {

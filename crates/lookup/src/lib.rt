@@ -458,7 +458,8 @@ pub fn asked_row(beat: f64) -> i32
     rows::beat_to_note_row_f32(ieee::narrow_f64(beat))
 }
 
-// Refused with the lowest of 1 to 5 that a list answers, and with 3 for a row or beat beyond the limit.
+// Whether a row is warped: the last warp at or before it reaches beyond it, and no positive stop or delay is on it. As each question below it is
+// refused with the lowest of 1 to 5 that a list answers, and with 3 for a row or beat beyond the limit.
 pub fn is_warp_at_row(
     stop_beats: &[f32],
     stop_values: &[f32],
@@ -482,6 +483,7 @@ pub fn is_warp_at_row(
     )
 }
 
+// Whether the row of a beat is warped.
 pub fn is_warp_at_beat(
     stop_beats: &[f32],
     stop_values: &[f32],
@@ -505,12 +507,14 @@ pub fn is_warp_at_beat(
     )
 }
 
+// Whether a row is fake: the last fake at or before it reaches beyond it.
 pub fn is_fake_at_row(fake_beats: &[f32], fake_lengths: &[f32], row: i32) -> Looked
     ensures { λ r. ⌜ r ≡ looked (fakeNumber (now («fake_beats» .entry)) (now («fake_lengths» .entry)) (rowIn row)) (isFake (now («fake_beats» .entry)) (now («fake_lengths» .entry)) row) ⌝ }
 {
     look_up_fake(fake_beats, fake_lengths, limits::row_taken(row), row)
 }
 
+// Whether the row of a beat is fake.
 pub fn is_fake_at_beat(fake_beats: &[f32], fake_lengths: &[f32], beat: f64) -> Looked
     ensures { λ r. ⌜ r ≡ looked (fakeNumber (now («fake_beats» .entry)) (now («fake_lengths» .entry)) (inRange (rangeOf Kind.Beat) beat)) (isFake (now («fake_beats» .entry)) (now («fake_lengths» .entry)) (askedRow beat)) ⌝ }
 {
@@ -522,6 +526,7 @@ pub fn is_fake_at_beat(fake_beats: &[f32], fake_lengths: &[f32], beat: f64) -> L
     )
 }
 
+// Whether a note on a row is judged: the row is neither warped nor fake.
 pub fn is_judgable_at_row(
     stop_beats: &[f32],
     stop_values: &[f32],
@@ -549,6 +554,7 @@ pub fn is_judgable_at_row(
     )
 }
 
+// Whether a note on the row of a beat is judged.
 pub fn is_judgable_at_beat(
     stop_beats: &[f32],
     stop_values: &[f32],

@@ -187,6 +187,8 @@ fn answered(yes: bool) -> Looked
 
 // Each takes any lists and refuses only what is asked, a row or beat beyond the limit, with 3: the lists are those that `check_lookups` took.
 // Over any others it still ends, and answers what the search by halves comes to. Each asks the lists by itself and not by its twin, so that the searches are inlined.
+
+// Whether a row is warped.
 pub fn is_warp_at_row_checked(
     stop_beats: &[f32],
     stop_values: &[f32],
@@ -222,6 +224,7 @@ pub fn is_warp_at_row_checked(
     }
 }
 
+// Whether the row of a beat is warped.
 pub fn is_warp_at_beat_checked(
     stop_beats: &[f32],
     stop_values: &[f32],
@@ -258,6 +261,7 @@ pub fn is_warp_at_beat_checked(
     }
 }
 
+// Whether a row is fake.
 pub fn is_fake_at_row_checked(fake_beats: &[f32], fake_lengths: &[f32], row: i32) -> Looked
     ensures { λ r. ⌜ r ≡ looked (askedNumber (rowIn row)) (atRow (fakeBy (now («fake_beats» .entry)) (now («fake_lengths» .entry))) row) ⌝ }
 {
@@ -272,6 +276,7 @@ pub fn is_fake_at_row_checked(fake_beats: &[f32], fake_lengths: &[f32], row: i32
     }
 }
 
+// Whether the row of a beat is fake.
 pub fn is_fake_at_beat_checked(fake_beats: &[f32], fake_lengths: &[f32], beat: f64) -> Looked
     ensures { λ r. ⌜ r ≡ looked (askedNumber (inRange (rangeOf Kind.Beat) beat)) (atRow (fakeBy (now («fake_beats» .entry)) (now («fake_lengths» .entry))) (askedRow beat)) ⌝ }
 {
@@ -287,6 +292,7 @@ pub fn is_fake_at_beat_checked(fake_beats: &[f32], fake_lengths: &[f32], beat: f
     }
 }
 
+// Whether a note on a row is judged.
 pub fn is_judgable_at_row_checked(
     stop_beats: &[f32],
     stop_values: &[f32],
@@ -320,6 +326,7 @@ pub fn is_judgable_at_row_checked(
     }
 }
 
+// Whether a note on the row of a beat is judged.
 pub fn is_judgable_at_beat_checked(
     stop_beats: &[f32],
     stop_values: &[f32],

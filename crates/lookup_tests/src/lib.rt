@@ -89,7 +89,7 @@ pub fn warp_number(
     )
 }
 
-// The same of a question about fakes, and of one about both.
+// The same of a question about fakes.
 pub fn fake_number(fake_beats: &[f32], fake_lengths: &[f32], allowed: bool) -> u32
     ensures { λ r. ⌜ r ≡ fakeNumber (now («fake_beats» .entry)) (now («fake_lengths» .entry)) allowed ⌝ }
 {
@@ -99,6 +99,7 @@ pub fn fake_number(fake_beats: &[f32], fake_lengths: &[f32], allowed: bool) -> u
     )
 }
 
+// The same of a question about notes, which goes by warps and fakes.
 pub fn judgable_number(
     stop_beats: &[f32],
     stop_values: &[f32],

@@ -63,7 +63,7 @@ fn process_into(
         out_warp_beats,
         out_warp_lengths,
     );
-    if walked.number != 0 {
+    if walked.number != limits::TAKEN {
         return process_raw::refused(walked.number);
     }
     let count = walked.tempos;
@@ -99,8 +99,8 @@ fn into_few(
     requires { ⌜ ResultRooms (now «tempo_beats») (now «stop_beats») (now «out_tempo_beats») (now «out_tempo_values») (now «out_stop_beats») (now «out_stop_values») (now «out_warp_beats») (now «out_warp_lengths») ⌝ }
     ensures { λ r. ⌜ SmProcessed (now («tempo_beats» .entry)) (now («tempo_values» .entry)) (now («stop_beats» .entry)) (now («stop_values» .entry)) r (now («out_tempo_beats» .entry)) (now («out_tempo_beats» .exit)) (now («out_tempo_values» .entry)) (now («out_tempo_values» .exit)) (now («out_stop_beats» .entry)) (now («out_stop_beats» .exit)) (now («out_stop_values» .entry)) (now («out_stop_values» .exit)) (now («out_warp_beats» .entry)) (now («out_warp_beats» .exit)) (now («out_warp_lengths» .entry)) (now («out_warp_lengths» .exit)) ⌝ }
 {
-    let mut walked_beats = [0.0; 64];
-    let mut walked_values = [0.0; 64];
+    let mut walked_beats = [0.0; limits::FEW];
+    let mut walked_values = [0.0; limits::FEW];
     process_into(
         tempo_beats,
         tempo_values,
@@ -133,8 +133,8 @@ fn into_many(
     requires { ⌜ ResultRooms (now «tempo_beats») (now «stop_beats») (now «out_tempo_beats») (now «out_tempo_values») (now «out_stop_beats») (now «out_stop_values») (now «out_warp_beats») (now «out_warp_lengths») ⌝ }
     ensures { λ r. ⌜ SmProcessed (now («tempo_beats» .entry)) (now («tempo_values» .entry)) (now («stop_beats» .entry)) (now («stop_values» .entry)) r (now («out_tempo_beats» .entry)) (now («out_tempo_beats» .exit)) (now («out_tempo_values» .entry)) (now («out_tempo_values» .exit)) (now («out_stop_beats» .entry)) (now («out_stop_beats» .exit)) (now («out_stop_values» .entry)) (now («out_stop_values» .exit)) (now («out_warp_beats» .entry)) (now («out_warp_beats» .exit)) (now («out_warp_lengths» .entry)) (now («out_warp_lengths» .exit)) ⌝ }
 {
-    let mut walked_beats = [0.0; 1024];
-    let mut walked_values = [0.0; 1024];
+    let mut walked_beats = [0.0; limits::MOST_ENTRIES];
+    let mut walked_values = [0.0; limits::MOST_ENTRIES];
     process_into(
         tempo_beats,
         tempo_values,
@@ -166,7 +166,7 @@ fn into_rooms(
     requires { ⌜ ResultRooms (now «tempo_beats») (now «stop_beats») (now «out_tempo_beats») (now «out_tempo_values») (now «out_stop_beats») (now «out_stop_values») (now «out_warp_beats») (now «out_warp_lengths») ⌝ }
     ensures { λ r. ⌜ SmProcessed (now («tempo_beats» .entry)) (now («tempo_values» .entry)) (now («stop_beats» .entry)) (now («stop_values» .entry)) r (now («out_tempo_beats» .entry)) (now («out_tempo_beats» .exit)) (now («out_tempo_values» .entry)) (now («out_tempo_values» .exit)) (now («out_stop_beats» .entry)) (now («out_stop_beats» .exit)) (now («out_stop_values» .entry)) (now («out_stop_values» .exit)) (now («out_warp_beats» .entry)) (now («out_warp_beats» .exit)) (now («out_warp_lengths» .entry)) (now («out_warp_lengths» .exit)) ⌝ }
 {
-    if tempo_beats.len() <= 64 {
+    if tempo_beats.len() <= limits::FEW {
         return into_few(
             tempo_beats,
             tempo_values,
@@ -196,6 +196,11 @@ fn into_rooms(
 
 // ---- where a room may be too short: all three lists by way of work columns
 
+// Every tempo and every stop may make a warp.
+const FEW_MADE: usize = 2 * limits::FEW;
+
+const MOST_MADE: usize = 2 * limits::MOST_ENTRIES;
+
 // Columns for as many tempos and stops as a chart has.
 fn process_few(
     tempo_beats: &[f64],
@@ -212,12 +217,12 @@ fn process_few(
     requires { ⌜ (length (now «tempo_beats») ≤ 64) × (length (now «stop_beats») ≤ 64) ⌝ }
     ensures { λ r. ⌜ SmProcessed (now («tempo_beats» .entry)) (now («tempo_values» .entry)) (now («stop_beats» .entry)) (now («stop_values» .entry)) r (now («out_tempo_beats» .entry)) (now («out_tempo_beats» .exit)) (now («out_tempo_values» .entry)) (now («out_tempo_values» .exit)) (now («out_stop_beats» .entry)) (now («out_stop_beats» .exit)) (now («out_stop_values» .entry)) (now («out_stop_values» .exit)) (now («out_warp_beats» .entry)) (now («out_warp_beats» .exit)) (now («out_warp_lengths» .entry)) (now («out_warp_lengths» .exit)) ⌝ }
 {
-    let mut walked_tempo_beats = [0.0; 64];
-    let mut walked_tempo_values = [0.0; 64];
-    let mut walked_stop_beats = [0.0; 64];
-    let mut walked_stop_values = [0.0; 64];
-    let mut walked_warp_beats = [0.0; 128];
-    let mut walked_warp_lengths = [0.0; 128];
+    let mut walked_tempo_beats = [0.0; limits::FEW];
+    let mut walked_tempo_values = [0.0; limits::FEW];
+    let mut walked_stop_beats = [0.0; limits::FEW];
+    let mut walked_stop_values = [0.0; limits::FEW];
+    let mut walked_warp_beats = [0.0; FEW_MADE];
+    let mut walked_warp_lengths = [0.0; FEW_MADE];
     process_sm_lent::process_lent(
         tempo_beats,
         tempo_values,
@@ -252,8 +257,8 @@ fn process_by_columns(
 ) -> Processed
     ensures { λ r. ⌜ SmProcessed (now («tempo_beats» .entry)) (now («tempo_values» .entry)) (now («stop_beats» .entry)) (now («stop_values» .entry)) r (now («out_tempo_beats» .entry)) (now («out_tempo_beats» .exit)) (now («out_tempo_values» .entry)) (now («out_tempo_values» .exit)) (now («out_stop_beats» .entry)) (now («out_stop_beats» .exit)) (now («out_stop_values» .entry)) (now («out_stop_values» .exit)) (now («out_warp_beats» .entry)) (now («out_warp_beats» .exit)) (now («out_warp_lengths» .entry)) (now («out_warp_lengths» .exit)) ⌝ }
 {
-    if tempo_beats.len() <= 64 {
-        if stop_beats.len() <= 64 {
+    if tempo_beats.len() <= limits::FEW {
+        if stop_beats.len() <= limits::FEW {
             return process_few(
                 tempo_beats,
                 tempo_values,
@@ -269,12 +274,12 @@ fn process_by_columns(
         }
     }
     // as many as are taken
-    let mut walked_tempo_beats = [0.0; 1024];
-    let mut walked_tempo_values = [0.0; 1024];
-    let mut walked_stop_beats = [0.0; 1024];
-    let mut walked_stop_values = [0.0; 1024];
-    let mut walked_warp_beats = [0.0; 2048];
-    let mut walked_warp_lengths = [0.0; 2048];
+    let mut walked_tempo_beats = [0.0; limits::MOST_ENTRIES];
+    let mut walked_tempo_values = [0.0; limits::MOST_ENTRIES];
+    let mut walked_stop_beats = [0.0; limits::MOST_ENTRIES];
+    let mut walked_stop_values = [0.0; limits::MOST_ENTRIES];
+    let mut walked_warp_beats = [0.0; MOST_MADE];
+    let mut walked_warp_lengths = [0.0; MOST_MADE];
     process_sm_lent::process_lent(
         tempo_beats,
         tempo_values,

@@ -58,7 +58,7 @@ fn lay_results(
         out_tempo_beats,
         out_tempo_values,
     );
-    if tempos.number != 0 {
+    if tempos.number != limits::TAKEN {
         return process_raw::refused(limits::NO_ROOM);
     }
     copy(stop_beats, out_stop_beats);
@@ -110,7 +110,7 @@ pub fn process_lent(
         walked_warp_beats,
         walked_warp_lengths,
     );
-    if walked.number != 0 {
+    if walked.number != limits::TAKEN {
         return process_raw::refused(walked.number);
     }
     let tempos = walked.tempos;

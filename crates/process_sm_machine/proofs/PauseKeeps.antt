@@ -2,6 +2,7 @@
 use mathlib.Core.Bool.{Bool, true, false, _&&_}
 use mathlib.Core.Path.{_≡_, refl}
 use lib.Ieee.{Float, binary32, add, lt}
+use Rattle.ieee.specs.Constants.{plusZero32}
 use Rattle.process_sm_machine.specs.declared.Opened.{Opened}
 use Rattle.process_sm_machine.specs.declared.Warp.the-variants.{Open}
 use Rattle.process_sm_machine.specs.declared.State.{State}

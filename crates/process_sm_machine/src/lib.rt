@@ -21,6 +21,7 @@ pub struct Opened {
     pub owed: f32,
 }
 
+// No warp is open, or one is.
 pub enum Warp {
     Closed,
     Open(Opened),
@@ -344,6 +345,7 @@ fn meet_stop(state: State, length: f32) -> Moved
 
 // ---- a change
 
+// The beat of a change, a tempo or a stop.
 pub fn beat_at(change: Change) -> f32
     ensures { λ r. ⌜ r ≡ beatAt change ⌝ }
 {

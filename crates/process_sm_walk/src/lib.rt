@@ -1,4 +1,4 @@
-// The walkChanges of SM timing over tempos and stops that are in order by beat.
+// The walk of SM timing over tempos and stops that are in order by beat.
 use process_sm_machine::Change;
 use process_sm_machine::Entry;
 use process_sm_machine::Moved;
@@ -39,14 +39,14 @@ pub struct Places {
     pub stop: usize,
 }
 
-// How many entries of each list are writtenInto.
+// How many entries of each list are written.
 pub struct Counts {
     pub tempos: usize,
     pub stops: usize,
     pub warps: usize,
 }
 
-// The refusal number, 0 where the call is taken; how many entries of each list were writtenInto; what beat 0 is moved by.
+// The refusal number, 0 where the call is taken; how many entries of each list were written; what beat 0 is moved by.
 pub struct Walked {
     pub number: u32,
     pub tempos: usize,
@@ -163,6 +163,7 @@ fn write(
 
 // ---- a change
 
+// The state, and how many entries of each list are written.
 pub struct Standing {
     pub state: State,
     pub counts: Counts,
@@ -213,7 +214,7 @@ fn take_change(
     }
 }
 
-// ---- the walkChanges over the changes, from a place and a state on
+// ---- the walk over the changes, from a place and a state on
 
 fn run(
     tempo_beats: &[f32],
@@ -329,23 +330,23 @@ fn no_warp(tempo_values: &[f32], stop_values: &[f32], first: Places, state: Stat
     }
 }
 
-// The entries from a place on, their beats on their rows, behind those that are writtenInto.
+// The entries from a place on, their beats on their rows, behind those that are written.
 fn lay_on_rows(
     beats: &[f32],
     values: &[f32],
     from: usize,
     out_beats: &mut [f64],
     out_values: &mut [f64],
-    writtenInto: usize,
+    written: usize,
 ) -> usize
     requires { ⌜ length (now beats) ≡ length (now values) ⌝ }
-    requires { ⌜ (writtenInto + length (rowed (now beats) (now values) from) ≤ length (now «out_beats»)) × (writtenInto + length (rowed (now beats) (now values) from) ≤ length (now «out_values»)) ⌝ }
-    ensures { λ r. ⌜ r ≡ writtenInto + length (rowed (now (beats .entry)) (now (values .entry)) from) ⌝ }
-    ensures { λ _. ⌜ now («out_beats» .exit) ≡ laidFrom writtenInto (map first (rowed (now (beats .entry)) (now (values .entry)) from)) (now («out_beats» .entry)) ⌝ }
-    ensures { λ _. ⌜ now («out_values» .exit) ≡ laidFrom writtenInto (map second (rowed (now (beats .entry)) (now (values .entry)) from)) (now («out_values» .entry)) ⌝ }
+    requires { ⌜ (written + length (rowed (now beats) (now values) from) ≤ length (now «out_beats»)) × (written + length (rowed (now beats) (now values) from) ≤ length (now «out_values»)) ⌝ }
+    ensures { λ r. ⌜ r ≡ written + length (rowed (now (beats .entry)) (now (values .entry)) from) ⌝ }
+    ensures { λ _. ⌜ now («out_beats» .exit) ≡ laidFrom written (map first (rowed (now (beats .entry)) (now (values .entry)) from)) (now («out_beats» .entry)) ⌝ }
+    ensures { λ _. ⌜ now («out_values» .exit) ≡ laidFrom written (map second (rowed (now (beats .entry)) (now (values .entry)) from)) (now («out_values» .entry)) ⌝ }
 {
     let mut i = from;
-    let mut count = writtenInto;
+    let mut count = written;
     while i < beats.len() {
         out_beats[count] = std::num::f32_to_f64_with_nan(rows::quantize_beat_f32(beats[i]));
         out_values[count] = std::num::f32_to_f64_with_nan(values[i]);
@@ -355,7 +356,7 @@ fn lay_on_rows(
     count
 }
 
-// The walkChanges from a place and a state on, change by change only where a warp may open.
+// The walk from a place and a state on, change by change only where a warp may open.
 fn walk_on(
     tempo_beats: &[f32],
     tempo_values: &[f32],
@@ -488,6 +489,7 @@ fn early_stops(beats: &[f32], values: &[f32]) -> Early
 
 // ---- the whole
 
+// The seconds that beat 0 is moved by, and how many entries of each list were written.
 pub struct Finished {
     pub offset: f32,
     pub counts: Counts,
@@ -639,9 +641,9 @@ fn walk_number(
     ensures { λ r. ⌜ r ≡ pick (eqb (chartNumber (now («tempo_beats» .entry)) (now («tempo_values» .entry)) (now («stop_beats» .entry)) (now («stop_values» .entry))) 0) (pick (roomForCounts (mostWritten (length (now («tempo_beats» .entry))) (length (now («stop_beats» .entry)))) «tempo_room» «stop_room» «warp_room») 0 7) (chartNumber (now («tempo_beats» .entry)) (now («tempo_values» .entry)) (now («stop_beats» .entry)) (now («stop_values» .entry))) ⌝ }
 {
     let number = chart_number(tempo_beats, tempo_values, stop_beats, stop_values);
-    if number == 0 {
-        let mostWritten = most_of(tempo_beats.len(), stop_beats.len());
-        if room_for(mostWritten, tempo_room, stop_room, warp_room) {
+    if number == limits::TAKEN {
+        let most = most_of(tempo_beats.len(), stop_beats.len());
+        if room_for(most, tempo_room, stop_room, warp_room) {
             return limits::TAKEN;
         }
         return limits::NO_ROOM;
@@ -690,7 +692,7 @@ pub fn walk_changes(
         stop_room,
         warp_room,
     );
-    if number != 0 {
+    if number != limits::TAKEN {
         return refused(number);
     }
     let done = walk_chart(

@@ -40,7 +40,7 @@ fn walk_in(
         change_stop_values,
     );
     let number = limits::lower_of(tempos.number, stops.number);
-    if number != 0 {
+    if number != limits::TAKEN {
         return Walked {
             number: number,
             tempos: 0,
@@ -81,10 +81,10 @@ fn walk_few(
     requires { ⌜ (length (now «tempo_beats») ≤ 64) × (length (now «stop_beats») ≤ 64) ⌝ }
     ensures { λ r. ⌜ RawWalked (now («tempo_beats» .entry)) (now («tempo_values» .entry)) (now («stop_beats» .entry)) (now («stop_values» .entry)) r (columns (now («walked_tempo_beats» .entry)) (now («walked_tempo_values» .entry)) (now («walked_stop_beats» .entry)) (now («walked_stop_values» .entry)) (now («walked_warp_beats» .entry)) (now («walked_warp_lengths» .entry))) (columns (now («walked_tempo_beats» .exit)) (now («walked_tempo_values» .exit)) (now («walked_stop_beats» .exit)) (now («walked_stop_values» .exit)) (now («walked_warp_beats» .exit)) (now («walked_warp_lengths» .exit))) ⌝ }
 {
-    let mut change_tempo_beats = [0.0f32; 64];
-    let mut change_tempo_values = [0.0f32; 64];
-    let mut change_stop_beats = [0.0f32; 64];
-    let mut change_stop_values = [0.0f32; 64];
+    let mut change_tempo_beats = [0.0f32; limits::FEW];
+    let mut change_tempo_values = [0.0f32; limits::FEW];
+    let mut change_stop_beats = [0.0f32; limits::FEW];
+    let mut change_stop_values = [0.0f32; limits::FEW];
     walk_in(
         tempo_beats,
         tempo_values,
@@ -119,8 +119,8 @@ pub fn walk_raw(
 ) -> Walked
     ensures { λ r. ⌜ RawWalked (now («tempo_beats» .entry)) (now («tempo_values» .entry)) (now («stop_beats» .entry)) (now («stop_values» .entry)) r (columns (now («walked_tempo_beats» .entry)) (now («walked_tempo_values» .entry)) (now («walked_stop_beats» .entry)) (now («walked_stop_values» .entry)) (now («walked_warp_beats» .entry)) (now («walked_warp_lengths» .entry))) (columns (now («walked_tempo_beats» .exit)) (now («walked_tempo_values» .exit)) (now («walked_stop_beats» .exit)) (now («walked_stop_values» .exit)) (now («walked_warp_beats» .exit)) (now («walked_warp_lengths» .exit))) ⌝ }
 {
-    if tempo_beats.len() <= 64 {
-        if stop_beats.len() <= 64 {
+    if tempo_beats.len() <= limits::FEW {
+        if stop_beats.len() <= limits::FEW {
             return walk_few(
                 tempo_beats,
                 tempo_values,
@@ -135,10 +135,10 @@ pub fn walk_raw(
             );
         }
     }
-    let mut change_tempo_beats = [0.0f32; 1024];
-    let mut change_tempo_values = [0.0f32; 1024];
-    let mut change_stop_beats = [0.0f32; 1024];
-    let mut change_stop_values = [0.0f32; 1024];
+    let mut change_tempo_beats = [0.0f32; limits::MOST_ENTRIES];
+    let mut change_tempo_values = [0.0f32; limits::MOST_ENTRIES];
+    let mut change_stop_beats = [0.0f32; limits::MOST_ENTRIES];
+    let mut change_stop_values = [0.0f32; limits::MOST_ENTRIES];
     walk_in(
         tempo_beats,
         tempo_values,

@@ -139,7 +139,7 @@ fn lay_few(beats: &[f64], values: &[f64], out_beats: &mut [f64], out_values: &mu
     ensures { λ _. ⌜ now («out_values» .exit) ≡ laid (now (values .entry)) (now («out_values» .entry)) ⌝ }
 {
     let n = beats.len();
-    let mut narrowed = [0.0f32; 64];
+    let mut narrowed = [0.0f32; limits::FEW];
     lay_by(beats, values, &mut narrowed[..n], out_beats, out_values);
 }
 
@@ -151,7 +151,7 @@ fn lay_many(beats: &[f64], values: &[f64], out_beats: &mut [f64], out_values: &m
     ensures { λ _. ⌜ now («out_values» .exit) ≡ laid (now (values .entry)) (now («out_values» .entry)) ⌝ }
 {
     let n = beats.len();
-    let mut narrowed = [0.0f32; 1024];
+    let mut narrowed = [0.0f32; limits::MOST_ENTRIES];
     lay_by(beats, values, &mut narrowed[..n], out_beats, out_values);
 }
 
@@ -176,7 +176,7 @@ fn lay_all(beats: &[f64], values: &[f64], out_beats: &mut [f64], out_values: &mu
     ensures { λ _. ⌜ now («out_beats» .exit) ≡ laid (map quantized (now (beats .entry))) (now («out_beats» .entry)) ⌝ }
     ensures { λ _. ⌜ now («out_values» .exit) ≡ laid (now (values .entry)) (now («out_values» .entry)) ⌝ }
 {
-    if beats.len() <= 64 {
+    if beats.len() <= limits::FEW {
         lay_few(beats, values, out_beats, out_values);
         return;
     }
@@ -310,8 +310,8 @@ fn tidy_few(
     requires { ⌜ Known stayedSsc whole (now beats) (now values) ⌝ }
     ensures { λ r. ⌜ LaidPair 0 (sscTempos (now (beats .entry)) (now (values .entry))) r (now («out_beats» .entry)) (now («out_beats» .exit)) (now («out_values» .entry)) (now («out_values» .exit)) ⌝ }
 {
-    let mut work_beats = [0.0; 64];
-    let mut work_values = [0.0; 64];
+    let mut work_beats = [0.0; limits::FEW];
+    let mut work_values = [0.0; limits::FEW];
     tidy_stayed(
         beats,
         values,
@@ -335,8 +335,8 @@ fn tidy_many(
     requires { ⌜ Known stayedSsc whole (now beats) (now values) ⌝ }
     ensures { λ r. ⌜ LaidPair 0 (sscTempos (now (beats .entry)) (now (values .entry))) r (now («out_beats» .entry)) (now («out_beats» .exit)) (now («out_values» .entry)) (now («out_values» .exit)) ⌝ }
 {
-    let mut work_beats = [0.0; 1024];
-    let mut work_values = [0.0; 1024];
+    let mut work_beats = [0.0; limits::MOST_ENTRIES];
+    let mut work_values = [0.0; limits::MOST_ENTRIES];
     tidy_stayed(
         beats,
         values,
@@ -359,7 +359,7 @@ fn lay_tempos(
     requires { ⌜ Known stayedSsc whole (now beats) (now values) ⌝ }
     ensures { λ r. ⌜ LaidPair 0 (sscTempos (now (beats .entry)) (now (values .entry))) r (now («out_beats» .entry)) (now («out_beats» .exit)) (now («out_values» .entry)) (now («out_values» .exit)) ⌝ }
 {
-    if beats.len() <= 64 {
+    if beats.len() <= limits::FEW {
         return tidy_few(beats, values, out_beats, out_values, whole);
     }
     tidy_many(beats, values, out_beats, out_values, whole)
@@ -410,7 +410,7 @@ fn process_known(
         tempos_whole,
         stops_whole,
     );
-    if number != 0 {
+    if number != limits::TAKEN {
         return process_raw::refused(number);
     }
     let stop_room = columns::room_of(out_stop_beats.len(), out_stop_values.len());
@@ -424,7 +424,7 @@ fn process_known(
         out_tempo_values,
         tempos_whole,
     );
-    if tempos.number != 0 {
+    if tempos.number != limits::TAKEN {
         return process_raw::refused(limits::NO_ROOM);
     }
     let stops = lay_stayed(

@@ -6,6 +6,9 @@ ghost use Prim.Native.Nat.{_≤_};
 
 const LINE: usize = 36;
 
+// More bytes than are stored.
+const ROOM: usize = 131072;
+
 struct Tally {
     replayed: u64,
     different: u64,
@@ -88,7 +91,7 @@ fn replay(text: &[u8]) -> Tally {
 }
 
 fn main() {
-    let mut room = [0u8; 131072];
+    let mut room = [0u8; ROOM];
     let read = io::read_full(STDIN_FILENO, &mut room);
     let tally = replay(&room[..read]);
     io::print_decimal(STDOUT_FILENO, tally.replayed);

@@ -17,6 +17,14 @@ const MOST: usize = 1100;
 
 const LINE: usize = 17;
 
+// The places of a room for results.
+const ROOM: usize = 300;
+
+// The bytes that are read at once, and the most words that are stored.
+const PIECE: usize = 4096 * LINE;
+
+const WORDS: usize = 61440;
+
 // Whether a case's call answered as stored, and where the next case begins.
 struct Replayed {
     same: bool,
@@ -301,8 +309,8 @@ fn replay_pair(words: &[u64], numbers: &[f64], at: usize) -> Replayed {
     let out_beats_at = behind(words, values_at);
     let out_values_at = behind(words, out_beats_at);
     let answer_at = behind(words, out_values_at);
-    let mut out_beats_room = [1.5; 300];
-    let mut out_values_room = [1.5; 300];
+    let mut out_beats_room = [1.5; ROOM];
+    let mut out_values_room = [1.5; ROOM];
     let outcome = tidy(
         word_at(words, at),
         f64_column(numbers, words, beats_at),
@@ -330,10 +338,10 @@ fn replay_speeds(words: &[u64], numbers: &[f64], bytes: &[u8], at: usize) -> Rep
     let out_delays_at = behind(words, out_ratios_at);
     let out_units_at = behind(words, out_delays_at);
     let answer_at = behind(words, out_units_at);
-    let mut out_beats_room = [1.5; 300];
-    let mut out_ratios_room = [1.5; 300];
-    let mut out_delays_room = [1.5; 300];
-    let mut out_units_room = [77u8; 300];
+    let mut out_beats_room = [1.5; ROOM];
+    let mut out_ratios_room = [1.5; ROOM];
+    let mut out_delays_room = [1.5; ROOM];
+    let mut out_units_room = [77u8; ROOM];
     let outcome = tidy_speeds::tidy_speed_segments(
         f64_column(numbers, words, beats_at),
         f64_column(numbers, words, ratios_at),
@@ -387,10 +395,10 @@ fn replay_ssc(words: &[u64], numbers: &[f64], at: usize) -> Replayed {
     let out_stop_beats_at = behind(words, out_tempo_values_at);
     let out_stop_values_at = behind(words, out_stop_beats_at);
     let answer_at = behind(words, out_stop_values_at);
-    let mut out_tempo_beats_room = [1.5; 300];
-    let mut out_tempo_values_room = [1.5; 300];
-    let mut out_stop_beats_room = [1.5; 300];
-    let mut out_stop_values_room = [1.5; 300];
+    let mut out_tempo_beats_room = [1.5; ROOM];
+    let mut out_tempo_values_room = [1.5; ROOM];
+    let mut out_stop_beats_room = [1.5; ROOM];
+    let mut out_stop_values_room = [1.5; ROOM];
     let processed = process_ssc::process_bpms_and_stops_ssc(
         f64_column(numbers, words, tempo_beats_at),
         f64_column(numbers, words, tempo_values_at),
@@ -437,12 +445,12 @@ fn replay_sm(words: &[u64], numbers: &[f64], at: usize) -> Replayed {
     let out_warp_beats_at = behind(words, out_stop_values_at);
     let out_warp_lengths_at = behind(words, out_warp_beats_at);
     let answer_at = behind(words, out_warp_lengths_at);
-    let mut out_tempo_beats_room = [1.5; 300];
-    let mut out_tempo_values_room = [1.5; 300];
-    let mut out_stop_beats_room = [1.5; 300];
-    let mut out_stop_values_room = [1.5; 300];
-    let mut out_warp_beats_room = [1.5; 300];
-    let mut out_warp_lengths_room = [1.5; 300];
+    let mut out_tempo_beats_room = [1.5; ROOM];
+    let mut out_tempo_values_room = [1.5; ROOM];
+    let mut out_stop_beats_room = [1.5; ROOM];
+    let mut out_stop_values_room = [1.5; ROOM];
+    let mut out_warp_beats_room = [1.5; ROOM];
+    let mut out_warp_lengths_room = [1.5; ROOM];
     let processed = process_sm::process_bpms_and_stops_sm(
         f64_column(numbers, words, tempo_beats_at),
         f64_column(numbers, words, tempo_values_at),
@@ -499,7 +507,7 @@ fn replay_sm_stops(words: &[u64], floats: &[f32], at: usize) -> Replayed {
     let warp_lengths_at = behind(words, warp_beats_at);
     let work_at = behind(words, warp_lengths_at);
     let answer_at = behind(words, work_at);
-    let mut work_room = [1.5f32; 300];
+    let mut work_room = [1.5f32; ROOM];
     let filled = stops_for_sm::convert_warps_and_delays_to_sm_stops(
         f32_column(floats, words, tempo_beats_at),
         f32_column(floats, words, tempo_values_at),
@@ -537,7 +545,7 @@ fn replay_row_store(words: &[u64], floats: &[f32], at: usize) -> Replayed {
     let fake_lengths_at = behind(words, fake_beats_at);
     let stored_at = behind(words, fake_lengths_at);
     let answer_at = behind(words, stored_at);
-    let mut stored_room = [77i32; 300];
+    let mut stored_room = [77i32; ROOM];
     let stored = lookup_row_store::build_segment_row_storage(
         f32_column(floats, words, stop_beats_at),
         f32_column(floats, words, stop_values_at),
@@ -758,7 +766,7 @@ fn replay_judgable_rows(words: &[u64], floats: &[f32], rows: &[i32], at: usize) 
     let asked_at = behind(words, fake_lengths_at);
     let out_at = behind(words, asked_at);
     let answer_at = behind(words, out_at);
-    let mut out_room = [77u8; 300];
+    let mut out_room = [77u8; ROOM];
     let outcome = lookup::judgable_rows(
         f32_column(floats, words, stop_beats_at),
         f32_column(floats, words, stop_values_at),
@@ -924,9 +932,9 @@ fn replay_run(words: &[u64], floats: &[f32], numbers: &[f64], at: usize) -> Repl
     let times_at = behind(words, numbers_at);
     let counts_at = behind(words, times_at);
     let answer_at = behind(words, counts_at);
-    let mut numbers_room = [77u32; 300];
-    let mut times_room = [1.5; 300];
-    let mut counts_room = [77usize; 300];
+    let mut numbers_room = [77u32; ROOM];
+    let mut times_room = [1.5; ROOM];
+    let mut counts_room = [77usize; ROOM];
     let offset = ieee_patterns::f64_of_bits(word_at(words, answer_at));
     let global = ieee_patterns::f64_of_bits(word_at(words, further(answer_at, 1)));
     let cursor = cursor_of_words(words, further(answer_at, 2));
@@ -1046,7 +1054,7 @@ fn read_words(text: &[u8], words: &mut [u64]) -> usize
 fn read_input(words: &mut [u64]) -> usize
     ensures { λ r. ⌜ r ≤ length (now (words .entry)) ⌝ }
 {
-    let mut text = [0u8; 69632];
+    let mut text = [0u8; PIECE];
     let mut count = 0;
     while count < words.len() {
         let read = io::read_full(STDIN_FILENO, &mut text);
@@ -1060,10 +1068,10 @@ fn read_input(words: &mut [u64]) -> usize
 }
 
 fn replay(words: &[u64], read: usize) -> u64 {
-    let mut numbers = [0.0; 61440];
-    let mut floats = [0.0f32; 61440];
-    let mut rows = [0i32; 61440];
-    let mut bytes = [0u8; 61440];
+    let mut numbers = [0.0; WORDS];
+    let mut floats = [0.0f32; WORDS];
+    let mut rows = [0i32; WORDS];
+    let mut bytes = [0u8; WORDS];
     read_f64s(words, &mut numbers);
     read_f32s(words, &mut floats);
     read_rows(words, &mut rows);
@@ -1072,7 +1080,7 @@ fn replay(words: &[u64], read: usize) -> u64 {
 }
 
 fn main() {
-    let mut words = [0u64; 61440];
+    let mut words = [0u64; WORDS];
     let read = read_input(&mut words);
     io::print_decimal(STDOUT_FILENO, case_count(&words));
     io::write_all(STDOUT_FILENO, b" replayed, ");

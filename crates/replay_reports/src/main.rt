@@ -7,6 +7,12 @@ ghost use Prim.Native.Nat.{_≤_};
 // More cases than are stored: a proved loop has to end.
 const MOST: u64 = 1000000;
 
+// The bytes of the line with the lengths.
+const LINE: usize = 14;
+
+// Bytes that every stored input and answer fits.
+const ROOM: usize = 65536;
+
 // The lengths of a case's input and answer; not there where the cases have ended.
 struct Sizes {
     there: bool,
@@ -41,7 +47,7 @@ fn six_digits(a: u8, b: u8, c: u8, d: u8, e: u8, f: u8) -> usize {
 }
 
 fn read_sizes() -> Sizes {
-    let mut line = [0u8; 14];
+    let mut line = [0u8; LINE];
     let got = io::read_full(STDIN_FILENO, &mut line);
     Sizes {
         there: got > 0,
@@ -67,10 +73,10 @@ fn both(one: bool, other: bool) -> bool {
 
 // The next bytes are a case's: whether its report is the stored one. Where it is the first that is not, what was written instead is printed.
 fn replay(sizes: Sizes, first: bool) -> bool {
-    let mut input = [0u8; 65536];
-    let mut answer = [0u8; 65536];
+    let mut input = [0u8; ROOM];
+    let mut answer = [0u8; ROOM];
     let mut end = [0u8; 1];
-    let mut page = [0u8; 65536];
+    let mut page = [0u8; ROOM];
     let mut read = read_text(&mut input, sizes.input);
     read = both(read, read_text(&mut answer, sizes.answer));
     read = both(read, read_text(&mut end, 1));

@@ -6,38 +6,41 @@ use report_form::Reading;
 ghost use Rattle.io.specs.Counts.{Counts};
 ghost use Rattle.report.specs.Input.{ReportOfSome};
 
+// The bytes of the page, on which every report has room.
+const PAGE: usize = 65536;
+
 // Reads all of standard input and writes its report on the page.
 fn write_input(page: &mut [u8]) -> usize
     ensures { λ r. ⌜ ReportOfSome r (now (page .entry)) (now (page .exit)) ⌝ }
     ensures { λ r. ⌜ Counts r (now (page .exit)) ⌝ }
 {
-    let mut counts = [0u64; 9];
-    let mut bpm_beats = [0.0; 256];
-    let mut bpm_values = [0.0; 256];
-    let mut stop_beats = [0.0; 256];
-    let mut stop_values = [0.0; 256];
-    let mut delay_beats = [0.0; 256];
-    let mut delay_values = [0.0; 256];
-    let mut warp_beats = [0.0; 256];
-    let mut warp_values = [0.0; 256];
-    let mut speed_beats = [0.0; 256];
-    let mut speed_ratios = [0.0; 256];
-    let mut speed_delays = [0.0; 256];
-    let mut speed_units = [0u8; 256];
-    let mut scroll_beats = [0.0; 256];
-    let mut scroll_values = [0.0; 256];
-    let mut fake_beats = [0.0; 256];
-    let mut fake_values = [0.0; 256];
+    let mut counts = [0u64; report_form::COUNTS];
+    let mut tempo_beats = [0.0; report_form::MOST_REPORTED];
+    let mut tempo_values = [0.0; report_form::MOST_REPORTED];
+    let mut stop_beats = [0.0; report_form::MOST_REPORTED];
+    let mut stop_values = [0.0; report_form::MOST_REPORTED];
+    let mut delay_beats = [0.0; report_form::MOST_REPORTED];
+    let mut delay_values = [0.0; report_form::MOST_REPORTED];
+    let mut warp_beats = [0.0; report_form::MOST_REPORTED];
+    let mut warp_lengths = [0.0; report_form::MOST_REPORTED];
+    let mut speed_beats = [0.0; report_form::MOST_REPORTED];
+    let mut speed_ratios = [0.0; report_form::MOST_REPORTED];
+    let mut speed_delays = [0.0; report_form::MOST_REPORTED];
+    let mut speed_units = [0u8; report_form::MOST_REPORTED];
+    let mut scroll_beats = [0.0; report_form::MOST_REPORTED];
+    let mut scroll_values = [0.0; report_form::MOST_REPORTED];
+    let mut fake_beats = [0.0; report_form::MOST_REPORTED];
+    let mut fake_lengths = [0.0; report_form::MOST_REPORTED];
     let reading: Reading = report_stdin::read_all(
         &mut counts,
-        &mut bpm_beats,
-        &mut bpm_values,
+        &mut tempo_beats,
+        &mut tempo_values,
         &mut stop_beats,
         &mut stop_values,
         &mut delay_beats,
         &mut delay_values,
         &mut warp_beats,
-        &mut warp_values,
+        &mut warp_lengths,
         &mut speed_beats,
         &mut speed_ratios,
         &mut speed_delays,
@@ -45,20 +48,20 @@ fn write_input(page: &mut [u8]) -> usize
         &mut scroll_beats,
         &mut scroll_values,
         &mut fake_beats,
-        &mut fake_values,
+        &mut fake_lengths,
     );
     report_whole::write_report(
         page,
         reading,
         &counts,
-        &bpm_beats,
-        &bpm_values,
+        &tempo_beats,
+        &tempo_values,
         &stop_beats,
         &stop_values,
         &delay_beats,
         &delay_values,
         &warp_beats,
-        &warp_values,
+        &warp_lengths,
         &speed_beats,
         &speed_ratios,
         &speed_delays,
@@ -66,12 +69,12 @@ fn write_input(page: &mut [u8]) -> usize
         &scroll_beats,
         &scroll_values,
         &fake_beats,
-        &fake_values,
+        &fake_lengths,
     )
 }
 
 fn main() {
-    let mut page = [0u8; 65536];
+    let mut page = [0u8; PAGE];
     let length = write_input(&mut page);
     io::write_all(STDOUT_FILENO, &page[..length]);
 }

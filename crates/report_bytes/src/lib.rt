@@ -8,23 +8,23 @@ pub fn report_of(page: &mut [u8], input: &[u8]) -> usize
     ensures { λ r. ⌜ Reported (reportOf (now (input .entry))) r (now (page .entry)) (now (page .exit)) ⌝ }
     ensures { λ r. ⌜ Counts r (now (page .exit)) ⌝ }
 {
-    let mut counts = [0u64; 9];
-    let mut tempo_beats = [0.0; 256];
-    let mut tempo_values = [0.0; 256];
-    let mut stop_beats = [0.0; 256];
-    let mut stop_values = [0.0; 256];
-    let mut delay_beats = [0.0; 256];
-    let mut delay_values = [0.0; 256];
-    let mut warp_beats = [0.0; 256];
-    let mut warp_lengths = [0.0; 256];
-    let mut speed_beats = [0.0; 256];
-    let mut speed_ratios = [0.0; 256];
-    let mut speed_delays = [0.0; 256];
-    let mut speed_units = [0u8; 256];
-    let mut scroll_beats = [0.0; 256];
-    let mut scroll_values = [0.0; 256];
-    let mut fake_beats = [0.0; 256];
-    let mut fake_lengths = [0.0; 256];
+    let mut counts = [0u64; report_form::COUNTS];
+    let mut tempo_beats = [0.0; report_form::MOST_REPORTED];
+    let mut tempo_values = [0.0; report_form::MOST_REPORTED];
+    let mut stop_beats = [0.0; report_form::MOST_REPORTED];
+    let mut stop_values = [0.0; report_form::MOST_REPORTED];
+    let mut delay_beats = [0.0; report_form::MOST_REPORTED];
+    let mut delay_values = [0.0; report_form::MOST_REPORTED];
+    let mut warp_beats = [0.0; report_form::MOST_REPORTED];
+    let mut warp_lengths = [0.0; report_form::MOST_REPORTED];
+    let mut speed_beats = [0.0; report_form::MOST_REPORTED];
+    let mut speed_ratios = [0.0; report_form::MOST_REPORTED];
+    let mut speed_delays = [0.0; report_form::MOST_REPORTED];
+    let mut speed_units = [0u8; report_form::MOST_REPORTED];
+    let mut scroll_beats = [0.0; report_form::MOST_REPORTED];
+    let mut scroll_values = [0.0; report_form::MOST_REPORTED];
+    let mut fake_beats = [0.0; report_form::MOST_REPORTED];
+    let mut fake_lengths = [0.0; report_form::MOST_REPORTED];
     let reading = report_feed::feed(
         report_form::begin(),
         input,

@@ -52,14 +52,14 @@ fn put_count(store: Store, counts: &mut [u64])
 fn put(
     store: Store,
     counts: &mut [u64],
-    bpm_beats: &mut [f64],
-    bpm_values: &mut [f64],
+    tempo_beats: &mut [f64],
+    tempo_values: &mut [f64],
     stop_beats: &mut [f64],
     stop_values: &mut [f64],
     delay_beats: &mut [f64],
     delay_values: &mut [f64],
     warp_beats: &mut [f64],
-    warp_values: &mut [f64],
+    warp_lengths: &mut [f64],
     speed_beats: &mut [f64],
     speed_ratios: &mut [f64],
     speed_delays: &mut [f64],
@@ -67,17 +67,17 @@ fn put(
     scroll_beats: &mut [f64],
     scroll_values: &mut [f64],
     fake_beats: &mut [f64],
-    fake_values: &mut [f64],
+    fake_lengths: &mut [f64],
 )
     ensures { λ _. ⌜ now (counts .exit) ≡ countIn store (now (counts .entry)) ⌝ }
-    ensures { λ _. ⌜ now («bpm_beats» .exit) ≡ numberIn 2 1 store (now («bpm_beats» .entry)) ⌝ }
-    ensures { λ _. ⌜ now («bpm_values» .exit) ≡ numberIn 2 2 store (now («bpm_values» .entry)) ⌝ }
+    ensures { λ _. ⌜ now («tempo_beats» .exit) ≡ numberIn 2 1 store (now («tempo_beats» .entry)) ⌝ }
+    ensures { λ _. ⌜ now («tempo_values» .exit) ≡ numberIn 2 2 store (now («tempo_values» .entry)) ⌝ }
     ensures { λ _. ⌜ now («stop_beats» .exit) ≡ numberIn 3 1 store (now («stop_beats» .entry)) ⌝ }
     ensures { λ _. ⌜ now («stop_values» .exit) ≡ numberIn 3 2 store (now («stop_values» .entry)) ⌝ }
     ensures { λ _. ⌜ now («delay_beats» .exit) ≡ numberIn 4 1 store (now («delay_beats» .entry)) ⌝ }
     ensures { λ _. ⌜ now («delay_values» .exit) ≡ numberIn 4 2 store (now («delay_values» .entry)) ⌝ }
     ensures { λ _. ⌜ now («warp_beats» .exit) ≡ numberIn 5 1 store (now («warp_beats» .entry)) ⌝ }
-    ensures { λ _. ⌜ now («warp_values» .exit) ≡ numberIn 5 2 store (now («warp_values» .entry)) ⌝ }
+    ensures { λ _. ⌜ now («warp_lengths» .exit) ≡ numberIn 5 2 store (now («warp_lengths» .entry)) ⌝ }
     ensures { λ _. ⌜ now («speed_beats» .exit) ≡ numberIn 6 1 store (now («speed_beats» .entry)) ⌝ }
     ensures { λ _. ⌜ now («speed_ratios» .exit) ≡ numberIn 6 2 store (now («speed_ratios» .entry)) ⌝ }
     ensures { λ _. ⌜ now («speed_delays» .exit) ≡ numberIn 6 3 store (now («speed_delays» .entry)) ⌝ }
@@ -85,20 +85,20 @@ fn put(
     ensures { λ _. ⌜ now («scroll_beats» .exit) ≡ numberIn 7 1 store (now («scroll_beats» .entry)) ⌝ }
     ensures { λ _. ⌜ now («scroll_values» .exit) ≡ numberIn 7 2 store (now («scroll_values» .entry)) ⌝ }
     ensures { λ _. ⌜ now («fake_beats» .exit) ≡ numberIn 8 1 store (now («fake_beats» .entry)) ⌝ }
-    ensures { λ _. ⌜ now («fake_values» .exit) ≡ numberIn 8 2 store (now («fake_values» .entry)) ⌝ }
+    ensures { λ _. ⌜ now («fake_lengths» .exit) ≡ numberIn 8 2 store (now («fake_lengths» .entry)) ⌝ }
 {
     if store.list == 0 {
         return;
     }
     put_count(store, counts);
-    put_number(store, 2, 1, bpm_beats);
-    put_number(store, 2, 2, bpm_values);
+    put_number(store, 2, 1, tempo_beats);
+    put_number(store, 2, 2, tempo_values);
     put_number(store, 3, 1, stop_beats);
     put_number(store, 3, 2, stop_values);
     put_number(store, 4, 1, delay_beats);
     put_number(store, 4, 2, delay_values);
     put_number(store, 5, 1, warp_beats);
-    put_number(store, 5, 2, warp_values);
+    put_number(store, 5, 2, warp_lengths);
     put_number(store, 6, 1, speed_beats);
     put_number(store, 6, 2, speed_ratios);
     put_number(store, 6, 3, speed_delays);
@@ -106,23 +106,23 @@ fn put(
     put_number(store, 7, 1, scroll_beats);
     put_number(store, 7, 2, scroll_values);
     put_number(store, 8, 1, fake_beats);
-    put_number(store, 8, 2, fake_values);
+    put_number(store, 8, 2, fake_lengths);
 }
 
-// Bytes, one readOn the other, from the state that the last piece left. Each column holds the numbers of one part of one list; `counts` has,
+// Bytes, one after the other, from the state that the last piece left. Each column holds the numbers of one part of one list; `counts` has,
 // at the number of a list, how many entries it has so far.
 pub fn feed(
     begun: Reading,
     chunk: &[u8],
     counts: &mut [u64],
-    bpm_beats: &mut [f64],
-    bpm_values: &mut [f64],
+    tempo_beats: &mut [f64],
+    tempo_values: &mut [f64],
     stop_beats: &mut [f64],
     stop_values: &mut [f64],
     delay_beats: &mut [f64],
     delay_values: &mut [f64],
     warp_beats: &mut [f64],
-    warp_values: &mut [f64],
+    warp_lengths: &mut [f64],
     speed_beats: &mut [f64],
     speed_ratios: &mut [f64],
     speed_delays: &mut [f64],
@@ -130,18 +130,18 @@ pub fn feed(
     scroll_beats: &mut [f64],
     scroll_values: &mut [f64],
     fake_beats: &mut [f64],
-    fake_values: &mut [f64],
+    fake_lengths: &mut [f64],
 ) -> Reading
     ensures { λ r. ⌜ r ≡ readOn begun (now (chunk .entry)) ⌝ }
     ensures { λ _. ⌜ now (counts .exit) ≡ columnAfter countIn begun (now (chunk .entry)) (now (counts .entry)) ⌝ }
-    ensures { λ _. ⌜ now («bpm_beats» .exit) ≡ columnAfter (numberIn 2 1) begun (now (chunk .entry)) (now («bpm_beats» .entry)) ⌝ }
-    ensures { λ _. ⌜ now («bpm_values» .exit) ≡ columnAfter (numberIn 2 2) begun (now (chunk .entry)) (now («bpm_values» .entry)) ⌝ }
+    ensures { λ _. ⌜ now («tempo_beats» .exit) ≡ columnAfter (numberIn 2 1) begun (now (chunk .entry)) (now («tempo_beats» .entry)) ⌝ }
+    ensures { λ _. ⌜ now («tempo_values» .exit) ≡ columnAfter (numberIn 2 2) begun (now (chunk .entry)) (now («tempo_values» .entry)) ⌝ }
     ensures { λ _. ⌜ now («stop_beats» .exit) ≡ columnAfter (numberIn 3 1) begun (now (chunk .entry)) (now («stop_beats» .entry)) ⌝ }
     ensures { λ _. ⌜ now («stop_values» .exit) ≡ columnAfter (numberIn 3 2) begun (now (chunk .entry)) (now («stop_values» .entry)) ⌝ }
     ensures { λ _. ⌜ now («delay_beats» .exit) ≡ columnAfter (numberIn 4 1) begun (now (chunk .entry)) (now («delay_beats» .entry)) ⌝ }
     ensures { λ _. ⌜ now («delay_values» .exit) ≡ columnAfter (numberIn 4 2) begun (now (chunk .entry)) (now («delay_values» .entry)) ⌝ }
     ensures { λ _. ⌜ now («warp_beats» .exit) ≡ columnAfter (numberIn 5 1) begun (now (chunk .entry)) (now («warp_beats» .entry)) ⌝ }
-    ensures { λ _. ⌜ now («warp_values» .exit) ≡ columnAfter (numberIn 5 2) begun (now (chunk .entry)) (now («warp_values» .entry)) ⌝ }
+    ensures { λ _. ⌜ now («warp_lengths» .exit) ≡ columnAfter (numberIn 5 2) begun (now (chunk .entry)) (now («warp_lengths» .entry)) ⌝ }
     ensures { λ _. ⌜ now («speed_beats» .exit) ≡ columnAfter (numberIn 6 1) begun (now (chunk .entry)) (now («speed_beats» .entry)) ⌝ }
     ensures { λ _. ⌜ now («speed_ratios» .exit) ≡ columnAfter (numberIn 6 2) begun (now (chunk .entry)) (now («speed_ratios» .entry)) ⌝ }
     ensures { λ _. ⌜ now («speed_delays» .exit) ≡ columnAfter (numberIn 6 3) begun (now (chunk .entry)) (now («speed_delays» .entry)) ⌝ }
@@ -149,7 +149,7 @@ pub fn feed(
     ensures { λ _. ⌜ now («scroll_beats» .exit) ≡ columnAfter (numberIn 7 1) begun (now (chunk .entry)) (now («scroll_beats» .entry)) ⌝ }
     ensures { λ _. ⌜ now («scroll_values» .exit) ≡ columnAfter (numberIn 7 2) begun (now (chunk .entry)) (now («scroll_values» .entry)) ⌝ }
     ensures { λ _. ⌜ now («fake_beats» .exit) ≡ columnAfter (numberIn 8 1) begun (now (chunk .entry)) (now («fake_beats» .entry)) ⌝ }
-    ensures { λ _. ⌜ now («fake_values» .exit) ≡ columnAfter (numberIn 8 2) begun (now (chunk .entry)) (now («fake_values» .entry)) ⌝ }
+    ensures { λ _. ⌜ now («fake_lengths» .exit) ≡ columnAfter (numberIn 8 2) begun (now (chunk .entry)) (now («fake_lengths» .entry)) ⌝ }
 {
     let mut reading = begun;
     let mut i = 0;
@@ -160,14 +160,14 @@ pub fn feed(
         put(
             store,
             counts,
-            bpm_beats,
-            bpm_values,
+            tempo_beats,
+            tempo_values,
             stop_beats,
             stop_values,
             delay_beats,
             delay_values,
             warp_beats,
-            warp_values,
+            warp_lengths,
             speed_beats,
             speed_ratios,
             speed_delays,
@@ -175,7 +175,7 @@ pub fn feed(
             scroll_beats,
             scroll_values,
             fake_beats,
-            fake_values,
+            fake_lengths,
         );
         reading = next;
         i += 1;

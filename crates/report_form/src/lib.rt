@@ -25,6 +25,14 @@ pub struct Store {
     pub count: u64,
 }
 
+// The most entries that a list of the report may have.
+pub const MOST_REPORTED: usize = 256;
+
+const MOST_COUNTED: u64 = MOST_REPORTED as u64;
+
+// Entries are counted by the number of their list, and the last list is 8.
+pub const COUNTS: usize = 9;
+
 // The state before the first byte.
 pub fn begin() -> Reading
     ensures { λ r. ⌜ r ≡ start ⌝ }
@@ -267,7 +275,7 @@ fn comma(reading: Reading) -> Reading
 fn one_more(count: u64) -> u64
     ensures { λ r. ⌜ r ≡ more count ⌝ }
 {
-    if count > 256 {
+    if count > MOST_COUNTED {
         return count;
     }
     count + 1
@@ -404,7 +412,7 @@ fn is_over(counts: &[u64]) -> bool
 {
     let mut i = 0;
     while i < counts.len() {
-        if counts[i] > 256 {
+        if counts[i] > MOST_COUNTED {
             return true;
         }
         i += 1;

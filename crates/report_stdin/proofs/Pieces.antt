@@ -27,32 +27,32 @@ column-join change reading (byte ∷ bytes) more column = column-join change (st
 joined : {A : Type 0} (change : Store → A → A) (begun half : Reading) (bytes more : List ℕ) (old middle new : A) → half ≡ readOn begun bytes → middle ≡ columnAfter change begun bytes old → new ≡ columnAfter change half more middle → new ≡ columnAfter change begun (bytes ++ more) old
 joined change begun half bytes more old middle new h m n = n ∙ ap (λ (r : Reading). columnAfter change r more middle) h ∙ ap (columnAfter change (readOn begun bytes) more) m ∙ column-join change begun bytes more old
 
-pub fed-none : {begun reading : Reading} {counts : List ℕ} {bpmBeats bpmValues stopBeats stopValues delayBeats delayValues warpBeats warpValues speedBeats speedRatios speedDelays : List Float} {speedUnits : List ℕ} {scrollBeats scrollValues fakeBeats fakeValues : List Float}
-    → reading ≡ begun → Fed begun reading counts counts bpmBeats bpmBeats bpmValues bpmValues stopBeats stopBeats stopValues stopValues delayBeats delayBeats delayValues delayValues warpBeats warpBeats warpValues warpValues speedBeats speedBeats speedRatios speedRatios speedDelays speedDelays speedUnits speedUnits scrollBeats scrollBeats scrollValues scrollValues fakeBeats fakeBeats fakeValues fakeValues
+pub fed-none : {begun reading : Reading} {counts : List ℕ} {tempoBeats tempoValues stopBeats stopValues delayBeats delayValues warpBeats warpLengths speedBeats speedRatios speedDelays : List Float} {speedUnits : List ℕ} {scrollBeats scrollValues fakeBeats fakeLengths : List Float}
+    → reading ≡ begun → Fed begun reading counts counts tempoBeats tempoBeats tempoValues tempoValues stopBeats stopBeats stopValues stopValues delayBeats delayBeats delayValues delayValues warpBeats warpBeats warpLengths warpLengths speedBeats speedBeats speedRatios speedRatios speedDelays speedDelays speedUnits speedUnits scrollBeats scrollBeats scrollValues scrollValues fakeBeats fakeBeats fakeLengths fakeLengths
 unfolding readOn columnAfter
-fed-none same = record { bytes = []; read = same; counts = refl; bpmBeats = refl; bpmValues = refl; stopBeats = refl; stopValues = refl; delayBeats = refl; delayValues = refl; warpBeats = refl; warpValues = refl; speedBeats = refl; speedRatios = refl; speedDelays = refl; speedUnits = refl; scrollBeats = refl; scrollValues = refl; fakeBeats = refl; fakeValues = refl }
+fed-none same = record { bytes = []; read = same; counts = refl; tempoBeats = refl; tempoValues = refl; stopBeats = refl; stopValues = refl; delayBeats = refl; delayValues = refl; warpBeats = refl; warpLengths = refl; speedBeats = refl; speedRatios = refl; speedDelays = refl; speedUnits = refl; scrollBeats = refl; scrollValues = refl; fakeBeats = refl; fakeLengths = refl }
 
 -- a byte 0 completes no number: each column stays as it is
 idle : {A : Type 0} (change : Store → A → A) (reading : Reading) (column : A) → column ≡ change nothing column → column ≡ columnAfter change reading (0 ∷ []) column
 unfolding columnAfter
 idle change reading column e = e ∙ ap (λ (store : Store). change store column) (sym (zero-no-store reading (stepOf reading 0)))
 
-pub fed-zero : {begun reading : Reading} {counts : List ℕ} {bpmBeats bpmValues stopBeats stopValues delayBeats delayValues warpBeats warpValues speedBeats speedRatios speedDelays : List Float} {speedUnits : List ℕ} {scrollBeats scrollValues fakeBeats fakeValues : List Float}
-    → reading ≡ stepOf begun 0 → Fed begun reading counts counts bpmBeats bpmBeats bpmValues bpmValues stopBeats stopBeats stopValues stopValues delayBeats delayBeats delayValues delayValues warpBeats warpBeats warpValues warpValues speedBeats speedBeats speedRatios speedRatios speedDelays speedDelays speedUnits speedUnits scrollBeats scrollBeats scrollValues scrollValues fakeBeats fakeBeats fakeValues fakeValues
+pub fed-zero : {begun reading : Reading} {counts : List ℕ} {tempoBeats tempoValues stopBeats stopValues delayBeats delayValues warpBeats warpLengths speedBeats speedRatios speedDelays : List Float} {speedUnits : List ℕ} {scrollBeats scrollValues fakeBeats fakeLengths : List Float}
+    → reading ≡ stepOf begun 0 → Fed begun reading counts counts tempoBeats tempoBeats tempoValues tempoValues stopBeats stopBeats stopValues stopValues delayBeats delayBeats delayValues delayValues warpBeats warpBeats warpLengths warpLengths speedBeats speedBeats speedRatios speedRatios speedDelays speedDelays speedUnits speedUnits scrollBeats scrollBeats scrollValues scrollValues fakeBeats fakeBeats fakeLengths fakeLengths
 unfolding readOn countIn storedIn
 fed-zero {begun} same =
     record {
       bytes = 0 ∷ [];
       read = same;
       counts = idle countIn begun _ refl;
-      bpmBeats = idle (numberIn 2 1) begun _ refl;
-      bpmValues = idle (numberIn 2 2) begun _ refl;
+      tempoBeats = idle (numberIn 2 1) begun _ refl;
+      tempoValues = idle (numberIn 2 2) begun _ refl;
       stopBeats = idle (numberIn 3 1) begun _ refl;
       stopValues = idle (numberIn 3 2) begun _ refl;
       delayBeats = idle (numberIn 4 1) begun _ refl;
       delayValues = idle (numberIn 4 2) begun _ refl;
       warpBeats = idle (numberIn 5 1) begun _ refl;
-      warpValues = idle (numberIn 5 2) begun _ refl;
+      warpLengths = idle (numberIn 5 2) begun _ refl;
       speedBeats = idle (numberIn 6 1) begun _ refl;
       speedRatios = idle (numberIn 6 2) begun _ refl;
       speedDelays = idle (numberIn 6 3) begun _ refl;
@@ -60,25 +60,25 @@ fed-zero {begun} same =
       scrollBeats = idle (numberIn 7 1) begun _ refl;
       scrollValues = idle (numberIn 7 2) begun _ refl;
       fakeBeats = idle (numberIn 8 1) begun _ refl;
-      fakeValues = idle (numberIn 8 2) begun _ refl;
+      fakeLengths = idle (numberIn 8 2) begun _ refl;
     }
 
-pub fed-join : {begun half reading : Reading} {countsOld countsHalf countsNew : List ℕ} {bpmBeatsOld bpmBeatsHalf bpmBeatsNew bpmValuesOld bpmValuesHalf bpmValuesNew stopBeatsOld stopBeatsHalf stopBeatsNew stopValuesOld stopValuesHalf stopValuesNew delayBeatsOld delayBeatsHalf delayBeatsNew delayValuesOld delayValuesHalf delayValuesNew warpBeatsOld warpBeatsHalf warpBeatsNew warpValuesOld warpValuesHalf warpValuesNew speedBeatsOld speedBeatsHalf speedBeatsNew speedRatiosOld speedRatiosHalf speedRatiosNew speedDelaysOld speedDelaysHalf speedDelaysNew : List Float} {speedUnitsOld speedUnitsHalf speedUnitsNew : List ℕ} {scrollBeatsOld scrollBeatsHalf scrollBeatsNew scrollValuesOld scrollValuesHalf scrollValuesNew fakeBeatsOld fakeBeatsHalf fakeBeatsNew fakeValuesOld fakeValuesHalf fakeValuesNew : List Float}
-    → Fed begun half countsOld countsHalf bpmBeatsOld bpmBeatsHalf bpmValuesOld bpmValuesHalf stopBeatsOld stopBeatsHalf stopValuesOld stopValuesHalf delayBeatsOld delayBeatsHalf delayValuesOld delayValuesHalf warpBeatsOld warpBeatsHalf warpValuesOld warpValuesHalf speedBeatsOld speedBeatsHalf speedRatiosOld speedRatiosHalf speedDelaysOld speedDelaysHalf speedUnitsOld speedUnitsHalf scrollBeatsOld scrollBeatsHalf scrollValuesOld scrollValuesHalf fakeBeatsOld fakeBeatsHalf fakeValuesOld fakeValuesHalf → Fed half reading countsHalf countsNew bpmBeatsHalf bpmBeatsNew bpmValuesHalf bpmValuesNew stopBeatsHalf stopBeatsNew stopValuesHalf stopValuesNew delayBeatsHalf delayBeatsNew delayValuesHalf delayValuesNew warpBeatsHalf warpBeatsNew warpValuesHalf warpValuesNew speedBeatsHalf speedBeatsNew speedRatiosHalf speedRatiosNew speedDelaysHalf speedDelaysNew speedUnitsHalf speedUnitsNew scrollBeatsHalf scrollBeatsNew scrollValuesHalf scrollValuesNew fakeBeatsHalf fakeBeatsNew fakeValuesHalf fakeValuesNew
-    → Fed begun reading countsOld countsNew bpmBeatsOld bpmBeatsNew bpmValuesOld bpmValuesNew stopBeatsOld stopBeatsNew stopValuesOld stopValuesNew delayBeatsOld delayBeatsNew delayValuesOld delayValuesNew warpBeatsOld warpBeatsNew warpValuesOld warpValuesNew speedBeatsOld speedBeatsNew speedRatiosOld speedRatiosNew speedDelaysOld speedDelaysNew speedUnitsOld speedUnitsNew scrollBeatsOld scrollBeatsNew scrollValuesOld scrollValuesNew fakeBeatsOld fakeBeatsNew fakeValuesOld fakeValuesNew
+pub fed-join : {begun half reading : Reading} {countsOld countsHalf countsNew : List ℕ} {tempoBeatsOld tempoBeatsHalf tempoBeatsNew tempoValuesOld tempoValuesHalf tempoValuesNew stopBeatsOld stopBeatsHalf stopBeatsNew stopValuesOld stopValuesHalf stopValuesNew delayBeatsOld delayBeatsHalf delayBeatsNew delayValuesOld delayValuesHalf delayValuesNew warpBeatsOld warpBeatsHalf warpBeatsNew warpLengthsOld warpLengthsHalf warpLengthsNew speedBeatsOld speedBeatsHalf speedBeatsNew speedRatiosOld speedRatiosHalf speedRatiosNew speedDelaysOld speedDelaysHalf speedDelaysNew : List Float} {speedUnitsOld speedUnitsHalf speedUnitsNew : List ℕ} {scrollBeatsOld scrollBeatsHalf scrollBeatsNew scrollValuesOld scrollValuesHalf scrollValuesNew fakeBeatsOld fakeBeatsHalf fakeBeatsNew fakeLengthsOld fakeLengthsHalf fakeLengthsNew : List Float}
+    → Fed begun half countsOld countsHalf tempoBeatsOld tempoBeatsHalf tempoValuesOld tempoValuesHalf stopBeatsOld stopBeatsHalf stopValuesOld stopValuesHalf delayBeatsOld delayBeatsHalf delayValuesOld delayValuesHalf warpBeatsOld warpBeatsHalf warpLengthsOld warpLengthsHalf speedBeatsOld speedBeatsHalf speedRatiosOld speedRatiosHalf speedDelaysOld speedDelaysHalf speedUnitsOld speedUnitsHalf scrollBeatsOld scrollBeatsHalf scrollValuesOld scrollValuesHalf fakeBeatsOld fakeBeatsHalf fakeLengthsOld fakeLengthsHalf → Fed half reading countsHalf countsNew tempoBeatsHalf tempoBeatsNew tempoValuesHalf tempoValuesNew stopBeatsHalf stopBeatsNew stopValuesHalf stopValuesNew delayBeatsHalf delayBeatsNew delayValuesHalf delayValuesNew warpBeatsHalf warpBeatsNew warpLengthsHalf warpLengthsNew speedBeatsHalf speedBeatsNew speedRatiosHalf speedRatiosNew speedDelaysHalf speedDelaysNew speedUnitsHalf speedUnitsNew scrollBeatsHalf scrollBeatsNew scrollValuesHalf scrollValuesNew fakeBeatsHalf fakeBeatsNew fakeLengthsHalf fakeLengthsNew
+    → Fed begun reading countsOld countsNew tempoBeatsOld tempoBeatsNew tempoValuesOld tempoValuesNew stopBeatsOld stopBeatsNew stopValuesOld stopValuesNew delayBeatsOld delayBeatsNew delayValuesOld delayValuesNew warpBeatsOld warpBeatsNew warpLengthsOld warpLengthsNew speedBeatsOld speedBeatsNew speedRatiosOld speedRatiosNew speedDelaysOld speedDelaysNew speedUnitsOld speedUnitsNew scrollBeatsOld scrollBeatsNew scrollValuesOld scrollValuesNew fakeBeatsOld fakeBeatsNew fakeLengthsOld fakeLengthsNew
 fed-join {begun} {half} {reading} a b =
     record {
       bytes = a .bytes ++ b .bytes;
       read = b .read ∙ ap (λ (r : Reading). readOn r (b .bytes)) (a .read) ∙ after-join begun (a .bytes) (b .bytes);
       counts = joined countIn begun half (a .bytes) (b .bytes) _ _ _ (a .read) (a .counts) (b .counts);
-      bpmBeats = joined (numberIn 2 1) begun half (a .bytes) (b .bytes) _ _ _ (a .read) (a .bpmBeats) (b .bpmBeats);
-      bpmValues = joined (numberIn 2 2) begun half (a .bytes) (b .bytes) _ _ _ (a .read) (a .bpmValues) (b .bpmValues);
+      tempoBeats = joined (numberIn 2 1) begun half (a .bytes) (b .bytes) _ _ _ (a .read) (a .tempoBeats) (b .tempoBeats);
+      tempoValues = joined (numberIn 2 2) begun half (a .bytes) (b .bytes) _ _ _ (a .read) (a .tempoValues) (b .tempoValues);
       stopBeats = joined (numberIn 3 1) begun half (a .bytes) (b .bytes) _ _ _ (a .read) (a .stopBeats) (b .stopBeats);
       stopValues = joined (numberIn 3 2) begun half (a .bytes) (b .bytes) _ _ _ (a .read) (a .stopValues) (b .stopValues);
       delayBeats = joined (numberIn 4 1) begun half (a .bytes) (b .bytes) _ _ _ (a .read) (a .delayBeats) (b .delayBeats);
       delayValues = joined (numberIn 4 2) begun half (a .bytes) (b .bytes) _ _ _ (a .read) (a .delayValues) (b .delayValues);
       warpBeats = joined (numberIn 5 1) begun half (a .bytes) (b .bytes) _ _ _ (a .read) (a .warpBeats) (b .warpBeats);
-      warpValues = joined (numberIn 5 2) begun half (a .bytes) (b .bytes) _ _ _ (a .read) (a .warpValues) (b .warpValues);
+      warpLengths = joined (numberIn 5 2) begun half (a .bytes) (b .bytes) _ _ _ (a .read) (a .warpLengths) (b .warpLengths);
       speedBeats = joined (numberIn 6 1) begun half (a .bytes) (b .bytes) _ _ _ (a .read) (a .speedBeats) (b .speedBeats);
       speedRatios = joined (numberIn 6 2) begun half (a .bytes) (b .bytes) _ _ _ (a .read) (a .speedRatios) (b .speedRatios);
       speedDelays = joined (numberIn 6 3) begun half (a .bytes) (b .bytes) _ _ _ (a .read) (a .speedDelays) (b .speedDelays);
@@ -86,12 +86,12 @@ fed-join {begun} {half} {reading} a b =
       scrollBeats = joined (numberIn 7 1) begun half (a .bytes) (b .bytes) _ _ _ (a .read) (a .scrollBeats) (b .scrollBeats);
       scrollValues = joined (numberIn 7 2) begun half (a .bytes) (b .bytes) _ _ _ (a .read) (a .scrollValues) (b .scrollValues);
       fakeBeats = joined (numberIn 8 1) begun half (a .bytes) (b .bytes) _ _ _ (a .read) (a .fakeBeats) (b .fakeBeats);
-      fakeValues = joined (numberIn 8 2) begun half (a .bytes) (b .bytes) _ _ _ (a .read) (a .fakeValues) (b .fakeValues);
+      fakeLengths = joined (numberIn 8 2) begun half (a .bytes) (b .bytes) _ _ _ (a .read) (a .fakeLengths) (b .fakeLengths);
     }
 
 -- and what a read's answer makes of them
-pub fed-answered : (got : ℤ) {begun half reading : Reading} {countsOld countsNew : List ℕ} {bpmBeatsOld bpmBeatsNew bpmValuesOld bpmValuesNew stopBeatsOld stopBeatsNew stopValuesOld stopValuesNew delayBeatsOld delayBeatsNew delayValuesOld delayValuesNew warpBeatsOld warpBeatsNew warpValuesOld warpValuesNew speedBeatsOld speedBeatsNew speedRatiosOld speedRatiosNew speedDelaysOld speedDelaysNew : List Float} {speedUnitsOld speedUnitsNew : List ℕ} {scrollBeatsOld scrollBeatsNew scrollValuesOld scrollValuesNew fakeBeatsOld fakeBeatsNew fakeValuesOld fakeValuesNew : List Float}
-    → Fed begun half countsOld countsNew bpmBeatsOld bpmBeatsNew bpmValuesOld bpmValuesNew stopBeatsOld stopBeatsNew stopValuesOld stopValuesNew delayBeatsOld delayBeatsNew delayValuesOld delayValuesNew warpBeatsOld warpBeatsNew warpValuesOld warpValuesNew speedBeatsOld speedBeatsNew speedRatiosOld speedRatiosNew speedDelaysOld speedDelaysNew speedUnitsOld speedUnitsNew scrollBeatsOld scrollBeatsNew scrollValuesOld scrollValuesNew fakeBeatsOld fakeBeatsNew fakeValuesOld fakeValuesNew → reading ≡ afterAnswer got half
-    → Fed begun reading countsOld countsNew bpmBeatsOld bpmBeatsNew bpmValuesOld bpmValuesNew stopBeatsOld stopBeatsNew stopValuesOld stopValuesNew delayBeatsOld delayBeatsNew delayValuesOld delayValuesNew warpBeatsOld warpBeatsNew warpValuesOld warpValuesNew speedBeatsOld speedBeatsNew speedRatiosOld speedRatiosNew speedDelaysOld speedDelaysNew speedUnitsOld speedUnitsNew scrollBeatsOld scrollBeatsNew scrollValuesOld scrollValuesNew fakeBeatsOld fakeBeatsNew fakeValuesOld fakeValuesNew
+pub fed-answered : (got : ℤ) {begun half reading : Reading} {countsOld countsNew : List ℕ} {tempoBeatsOld tempoBeatsNew tempoValuesOld tempoValuesNew stopBeatsOld stopBeatsNew stopValuesOld stopValuesNew delayBeatsOld delayBeatsNew delayValuesOld delayValuesNew warpBeatsOld warpBeatsNew warpLengthsOld warpLengthsNew speedBeatsOld speedBeatsNew speedRatiosOld speedRatiosNew speedDelaysOld speedDelaysNew : List Float} {speedUnitsOld speedUnitsNew : List ℕ} {scrollBeatsOld scrollBeatsNew scrollValuesOld scrollValuesNew fakeBeatsOld fakeBeatsNew fakeLengthsOld fakeLengthsNew : List Float}
+    → Fed begun half countsOld countsNew tempoBeatsOld tempoBeatsNew tempoValuesOld tempoValuesNew stopBeatsOld stopBeatsNew stopValuesOld stopValuesNew delayBeatsOld delayBeatsNew delayValuesOld delayValuesNew warpBeatsOld warpBeatsNew warpLengthsOld warpLengthsNew speedBeatsOld speedBeatsNew speedRatiosOld speedRatiosNew speedDelaysOld speedDelaysNew speedUnitsOld speedUnitsNew scrollBeatsOld scrollBeatsNew scrollValuesOld scrollValuesNew fakeBeatsOld fakeBeatsNew fakeLengthsOld fakeLengthsNew → reading ≡ afterAnswer got half
+    → Fed begun reading countsOld countsNew tempoBeatsOld tempoBeatsNew tempoValuesOld tempoValuesNew stopBeatsOld stopBeatsNew stopValuesOld stopValuesNew delayBeatsOld delayBeatsNew delayValuesOld delayValuesNew warpBeatsOld warpBeatsNew warpLengthsOld warpLengthsNew speedBeatsOld speedBeatsNew speedRatiosOld speedRatiosNew speedDelaysOld speedDelaysNew speedUnitsOld speedUnitsNew scrollBeatsOld scrollBeatsNew scrollValuesOld scrollValuesNew fakeBeatsOld fakeBeatsNew fakeLengthsOld fakeLengthsNew
 fed-answered (pos n) fed e = fed-join fed (fed-none e)
 fed-answered (negsuc n) fed e = fed-join fed (fed-zero e)

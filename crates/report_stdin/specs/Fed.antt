@@ -9,18 +9,18 @@ use Rattle.report_form.specs.Stores.{numberIn, unitIn, countIn, columnAfter}
 
 -- There are bytes that lead from one state of reading to another, and each column from what it held before to what it holds: what a call of
 -- the system's read hands over is known by no contract.
-pub record Fed (begun reading : Reading) (countsOld countsNew : List ℕ) (bpmBeatsOld bpmBeatsNew bpmValuesOld bpmValuesNew stopBeatsOld stopBeatsNew stopValuesOld stopValuesNew delayBeatsOld delayBeatsNew delayValuesOld delayValuesNew warpBeatsOld warpBeatsNew warpValuesOld warpValuesNew speedBeatsOld speedBeatsNew speedRatiosOld speedRatiosNew speedDelaysOld speedDelaysNew : List Float) (speedUnitsOld speedUnitsNew : List ℕ) (scrollBeatsOld scrollBeatsNew scrollValuesOld scrollValuesNew fakeBeatsOld fakeBeatsNew fakeValuesOld fakeValuesNew : List Float) : Type 0 where
+pub record Fed (begun reading : Reading) (countsOld countsNew : List ℕ) (tempoBeatsOld tempoBeatsNew tempoValuesOld tempoValuesNew stopBeatsOld stopBeatsNew stopValuesOld stopValuesNew delayBeatsOld delayBeatsNew delayValuesOld delayValuesNew warpBeatsOld warpBeatsNew warpLengthsOld warpLengthsNew speedBeatsOld speedBeatsNew speedRatiosOld speedRatiosNew speedDelaysOld speedDelaysNew : List Float) (speedUnitsOld speedUnitsNew : List ℕ) (scrollBeatsOld scrollBeatsNew scrollValuesOld scrollValuesNew fakeBeatsOld fakeBeatsNew fakeLengthsOld fakeLengthsNew : List Float) : Type 0 where
   pub bytes : List ℕ
   pub read : reading ≡ readOn begun bytes
   pub counts : countsNew ≡ columnAfter countIn begun bytes countsOld
-  pub bpmBeats : bpmBeatsNew ≡ columnAfter (numberIn 2 1) begun bytes bpmBeatsOld
-  pub bpmValues : bpmValuesNew ≡ columnAfter (numberIn 2 2) begun bytes bpmValuesOld
+  pub tempoBeats : tempoBeatsNew ≡ columnAfter (numberIn 2 1) begun bytes tempoBeatsOld
+  pub tempoValues : tempoValuesNew ≡ columnAfter (numberIn 2 2) begun bytes tempoValuesOld
   pub stopBeats : stopBeatsNew ≡ columnAfter (numberIn 3 1) begun bytes stopBeatsOld
   pub stopValues : stopValuesNew ≡ columnAfter (numberIn 3 2) begun bytes stopValuesOld
   pub delayBeats : delayBeatsNew ≡ columnAfter (numberIn 4 1) begun bytes delayBeatsOld
   pub delayValues : delayValuesNew ≡ columnAfter (numberIn 4 2) begun bytes delayValuesOld
   pub warpBeats : warpBeatsNew ≡ columnAfter (numberIn 5 1) begun bytes warpBeatsOld
-  pub warpValues : warpValuesNew ≡ columnAfter (numberIn 5 2) begun bytes warpValuesOld
+  pub warpLengths : warpLengthsNew ≡ columnAfter (numberIn 5 2) begun bytes warpLengthsOld
   pub speedBeats : speedBeatsNew ≡ columnAfter (numberIn 6 1) begun bytes speedBeatsOld
   pub speedRatios : speedRatiosNew ≡ columnAfter (numberIn 6 2) begun bytes speedRatiosOld
   pub speedDelays : speedDelaysNew ≡ columnAfter (numberIn 6 3) begun bytes speedDelaysOld
@@ -28,4 +28,4 @@ pub record Fed (begun reading : Reading) (countsOld countsNew : List ℕ) (bpmBe
   pub scrollBeats : scrollBeatsNew ≡ columnAfter (numberIn 7 1) begun bytes scrollBeatsOld
   pub scrollValues : scrollValuesNew ≡ columnAfter (numberIn 7 2) begun bytes scrollValuesOld
   pub fakeBeats : fakeBeatsNew ≡ columnAfter (numberIn 8 1) begun bytes fakeBeatsOld
-  pub fakeValues : fakeValuesNew ≡ columnAfter (numberIn 8 2) begun bytes fakeValuesOld
+  pub fakeLengths : fakeLengthsNew ≡ columnAfter (numberIn 8 2) begun bytes fakeLengthsOld

@@ -8,6 +8,9 @@ ghost use Rattle.report_form.specs.Form.{start, stepOf, whole};
 ghost use Rattle.report_stdin.specs.Fed.{Fed};
 ghost use Rattle.report_stdin.specs.Answers.{moreComes, afterAnswer};
 
+// The bytes that are read at once.
+const PIECE: usize = 4096;
+
 // How far the input is read after a piece, and whether another may come.
 struct Piece {
     more: bool,
@@ -46,14 +49,14 @@ fn answered(got: isize, reading: Reading) -> Piece
 fn read_piece(
     reading: Reading,
     counts: &mut [u64],
-    bpm_beats: &mut [f64],
-    bpm_values: &mut [f64],
+    tempo_beats: &mut [f64],
+    tempo_values: &mut [f64],
     stop_beats: &mut [f64],
     stop_values: &mut [f64],
     delay_beats: &mut [f64],
     delay_values: &mut [f64],
     warp_beats: &mut [f64],
-    warp_values: &mut [f64],
+    warp_lengths: &mut [f64],
     speed_beats: &mut [f64],
     speed_ratios: &mut [f64],
     speed_delays: &mut [f64],
@@ -61,25 +64,25 @@ fn read_piece(
     scroll_beats: &mut [f64],
     scroll_values: &mut [f64],
     fake_beats: &mut [f64],
-    fake_values: &mut [f64],
+    fake_lengths: &mut [f64],
 ) -> Piece
-    ensures { λ r. ⌜ Fed reading (r .reading) (now («counts» .entry)) (now («counts» .exit)) (now («bpm_beats» .entry)) (now («bpm_beats» .exit)) (now («bpm_values» .entry)) (now («bpm_values» .exit)) (now («stop_beats» .entry)) (now («stop_beats» .exit)) (now («stop_values» .entry)) (now («stop_values» .exit)) (now («delay_beats» .entry)) (now («delay_beats» .exit)) (now («delay_values» .entry)) (now («delay_values» .exit)) (now («warp_beats» .entry)) (now («warp_beats» .exit)) (now («warp_values» .entry)) (now («warp_values» .exit)) (now («speed_beats» .entry)) (now («speed_beats» .exit)) (now («speed_ratios» .entry)) (now («speed_ratios» .exit)) (now («speed_delays» .entry)) (now («speed_delays» .exit)) (now («speed_units» .entry)) (now («speed_units» .exit)) (now («scroll_beats» .entry)) (now («scroll_beats» .exit)) (now («scroll_values» .entry)) (now («scroll_values» .exit)) (now («fake_beats» .entry)) (now («fake_beats» .exit)) (now («fake_values» .entry)) (now («fake_values» .exit)) ⌝ }
+    ensures { λ r. ⌜ Fed reading (r .reading) (now («counts» .entry)) (now («counts» .exit)) (now («tempo_beats» .entry)) (now («tempo_beats» .exit)) (now («tempo_values» .entry)) (now («tempo_values» .exit)) (now («stop_beats» .entry)) (now («stop_beats» .exit)) (now («stop_values» .entry)) (now («stop_values» .exit)) (now («delay_beats» .entry)) (now («delay_beats» .exit)) (now («delay_values» .entry)) (now («delay_values» .exit)) (now («warp_beats» .entry)) (now («warp_beats» .exit)) (now («warp_lengths» .entry)) (now («warp_lengths» .exit)) (now («speed_beats» .entry)) (now («speed_beats» .exit)) (now («speed_ratios» .entry)) (now («speed_ratios» .exit)) (now («speed_delays» .entry)) (now («speed_delays» .exit)) (now («speed_units» .entry)) (now («speed_units» .exit)) (now («scroll_beats» .entry)) (now («scroll_beats» .exit)) (now («scroll_values» .entry)) (now («scroll_values» .exit)) (now («fake_beats» .entry)) (now («fake_beats» .exit)) (now («fake_lengths» .entry)) (now («fake_lengths» .exit)) ⌝ }
 {
-    let mut piece = [0u8; 4096];
+    let mut piece = [0u8; PIECE];
     let got = libc::read(STDIN_FILENO, &mut piece);
     let count = io::count(got, &piece);
     let next = report_feed::feed(
         reading,
         &piece[..count],
         counts,
-        bpm_beats,
-        bpm_values,
+        tempo_beats,
+        tempo_values,
         stop_beats,
         stop_values,
         delay_beats,
         delay_values,
         warp_beats,
-        warp_values,
+        warp_lengths,
         speed_beats,
         speed_ratios,
         speed_delays,
@@ -87,7 +90,7 @@ fn read_piece(
         scroll_beats,
         scroll_values,
         fake_beats,
-        fake_values,
+        fake_lengths,
     );
     answered(got, next)
 }
@@ -96,14 +99,14 @@ fn read_piece(
 // says that the input does: the turns are counted down from a number that no run uses up.
 pub fn read_all(
     counts: &mut [u64],
-    bpm_beats: &mut [f64],
-    bpm_values: &mut [f64],
+    tempo_beats: &mut [f64],
+    tempo_values: &mut [f64],
     stop_beats: &mut [f64],
     stop_values: &mut [f64],
     delay_beats: &mut [f64],
     delay_values: &mut [f64],
     warp_beats: &mut [f64],
-    warp_values: &mut [f64],
+    warp_lengths: &mut [f64],
     speed_beats: &mut [f64],
     speed_ratios: &mut [f64],
     speed_delays: &mut [f64],
@@ -111,9 +114,9 @@ pub fn read_all(
     scroll_beats: &mut [f64],
     scroll_values: &mut [f64],
     fake_beats: &mut [f64],
-    fake_values: &mut [f64],
+    fake_lengths: &mut [f64],
 ) -> Reading
-    ensures { λ r. ⌜ Fed start r (now («counts» .entry)) (now («counts» .exit)) (now («bpm_beats» .entry)) (now («bpm_beats» .exit)) (now («bpm_values» .entry)) (now («bpm_values» .exit)) (now («stop_beats» .entry)) (now («stop_beats» .exit)) (now («stop_values» .entry)) (now («stop_values» .exit)) (now («delay_beats» .entry)) (now («delay_beats» .exit)) (now («delay_values» .entry)) (now («delay_values» .exit)) (now («warp_beats» .entry)) (now («warp_beats» .exit)) (now («warp_values» .entry)) (now («warp_values» .exit)) (now («speed_beats» .entry)) (now («speed_beats» .exit)) (now («speed_ratios» .entry)) (now («speed_ratios» .exit)) (now («speed_delays» .entry)) (now («speed_delays» .exit)) (now («speed_units» .entry)) (now («speed_units» .exit)) (now («scroll_beats» .entry)) (now («scroll_beats» .exit)) (now («scroll_values» .entry)) (now («scroll_values» .exit)) (now («fake_beats» .entry)) (now («fake_beats» .exit)) (now («fake_values» .entry)) (now («fake_values» .exit)) ⌝ }
+    ensures { λ r. ⌜ Fed start r (now («counts» .entry)) (now («counts» .exit)) (now («tempo_beats» .entry)) (now («tempo_beats» .exit)) (now («tempo_values» .entry)) (now («tempo_values» .exit)) (now («stop_beats» .entry)) (now («stop_beats» .exit)) (now («stop_values» .entry)) (now («stop_values» .exit)) (now («delay_beats» .entry)) (now («delay_beats» .exit)) (now («delay_values» .entry)) (now («delay_values» .exit)) (now («warp_beats» .entry)) (now («warp_beats» .exit)) (now («warp_lengths» .entry)) (now («warp_lengths» .exit)) (now («speed_beats» .entry)) (now («speed_beats» .exit)) (now («speed_ratios» .entry)) (now («speed_ratios» .exit)) (now («speed_delays» .entry)) (now («speed_delays» .exit)) (now («speed_units» .entry)) (now («speed_units» .exit)) (now («scroll_beats» .entry)) (now («scroll_beats» .exit)) (now («scroll_values» .entry)) (now («scroll_values» .exit)) (now («fake_beats» .entry)) (now («fake_beats» .exit)) (now («fake_lengths» .entry)) (now («fake_lengths» .exit)) ⌝ }
 {
     let mut reading = report_form::begin();
     let mut turns = u64::MAX;
@@ -121,14 +124,14 @@ pub fn read_all(
         let piece = read_piece(
             reading,
             counts,
-            bpm_beats,
-            bpm_values,
+            tempo_beats,
+            tempo_values,
             stop_beats,
             stop_values,
             delay_beats,
             delay_values,
             warp_beats,
-            warp_values,
+            warp_lengths,
             speed_beats,
             speed_ratios,
             speed_delays,
@@ -136,7 +139,7 @@ pub fn read_all(
             scroll_beats,
             scroll_values,
             fake_beats,
-            fake_values,
+            fake_lengths,
         );
         reading = piece.reading;
         if !piece.more {

@@ -38,12 +38,15 @@ fn put_number(page: &mut [u8], at: usize, x: f32, end: u8) -> usize
     put_byte(page, at, end)
 }
 
-// A number in decimalText, which ends its line.
+// A u64 has no more digits.
+const MOST_DIGITS: usize = 20;
+
+// A number in decimal digits, which ends its line.
 fn put_decimal(page: &mut [u8], at: usize, n: u64) -> usize
     ensures { λ r. ⌜ Wrote (decimalText n ++ (10 ∷ [])) at r (now (page .entry)) (now (page .exit)) ⌝ }
 {
-    let mut digits = [0u8; 20];
-    let count = io::decimalText(n, &mut digits);
+    let mut digits = [0u8; MOST_DIGITS];
+    let count = io::decimal(n, &mut digits);
     let at = put_bytes(page, at, &digits[..count]);
     put_byte(page, at, b'\n')
 }
@@ -104,7 +107,7 @@ fn put_speed(page: &mut [u8], at: usize, beat: f32, ratio: f32, delay: f32, unit
     let at = put_number(page, at, beat, b',');
     let at = put_number(page, at, ratio, b',');
     let at = put_number(page, at, delay, b',');
-    let at = put_byte(page, at, 48 + unit % 10);
+    let at = put_byte(page, at, b'0' + unit % 10);
     put_byte(page, at, b'\n')
 }
 

@@ -61,24 +61,24 @@ fn write_assembled(
     ensures { λ r. ⌜ Wrote (takenText format (now («tempo_beats» .entry)) (now («tempo_values» .entry)) (now («stop_beats» .entry)) (now («stop_values» .entry)) (now («delay_beats» .entry)) (now («delay_values» .entry)) (now («warp_beats» .entry)) (now («warp_lengths» .entry)) (now («speed_beats» .entry)) (now («speed_ratios» .entry)) (now («speed_delays» .entry)) (now («speed_units» .entry)) (now («scroll_beats» .entry)) (now («scroll_values» .entry)) (now («fake_beats» .entry)) (now («fake_lengths» .entry))) 0 r (now (page .entry)) (now (page .exit)) ⌝ }
     ensures { λ r. ⌜ Counts r (now (page .exit)) ⌝ }
 {
-    let mut out_tempo_beats = [0.0f32; 256];
-    let mut out_tempo_values = [0.0f32; 256];
-    let mut out_stop_beats = [0.0f32; 256];
-    let mut out_stop_values = [0.0f32; 256];
-    let mut out_delay_beats = [0.0f32; 256];
-    let mut out_delay_values = [0.0f32; 256];
-    let mut out_warp_beats = [0.0f32; 256];
-    let mut out_warp_lengths = [0.0f32; 256];
-    let mut out_speed_beats = [0.0f32; 256];
-    let mut out_speed_ratios = [0.0f32; 256];
-    let mut out_speed_delays = [0.0f32; 256];
-    let mut out_speed_units = [0u8; 256];
-    let mut out_scroll_beats = [0.0f32; 256];
-    let mut out_scroll_values = [0.0f32; 256];
-    let mut out_fake_beats = [0.0f32; 256];
-    let mut out_fake_lengths = [0.0f32; 256];
+    let mut out_tempo_beats = [0.0f32; report_form::MOST_REPORTED];
+    let mut out_tempo_values = [0.0f32; report_form::MOST_REPORTED];
+    let mut out_stop_beats = [0.0f32; report_form::MOST_REPORTED];
+    let mut out_stop_values = [0.0f32; report_form::MOST_REPORTED];
+    let mut out_delay_beats = [0.0f32; report_form::MOST_REPORTED];
+    let mut out_delay_values = [0.0f32; report_form::MOST_REPORTED];
+    let mut out_warp_beats = [0.0f32; report_form::MOST_REPORTED];
+    let mut out_warp_lengths = [0.0f32; report_form::MOST_REPORTED];
+    let mut out_speed_beats = [0.0f32; report_form::MOST_REPORTED];
+    let mut out_speed_ratios = [0.0f32; report_form::MOST_REPORTED];
+    let mut out_speed_delays = [0.0f32; report_form::MOST_REPORTED];
+    let mut out_speed_units = [0u8; report_form::MOST_REPORTED];
+    let mut out_scroll_beats = [0.0f32; report_form::MOST_REPORTED];
+    let mut out_scroll_values = [0.0f32; report_form::MOST_REPORTED];
+    let mut out_fake_beats = [0.0f32; report_form::MOST_REPORTED];
+    let mut out_fake_lengths = [0.0f32; report_form::MOST_REPORTED];
     let done = assembly::compute_timing_segments(
-        256,
+        report_form::MOST_REPORTED,
         format,
         tempo_beats,
         tempo_values,
@@ -170,7 +170,7 @@ pub fn write_report(
     ensures { λ r. ⌜ Counts r (now (page .exit)) ⌝ }
 {
     let number = report_form::answer(reading, counts);
-    if number != 0 {
+    if number != limits::TAKEN {
         return report_answer::write_refusal(page, number);
     }
     let tempos = count_of(counts, 2);

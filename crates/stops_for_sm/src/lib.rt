@@ -315,6 +315,9 @@ fn lay_stops(
     }
 }
 
+// Two numbers for each stop, delay and warp.
+const MOST_LAID: usize = 6 * limits::MOST_ENTRIES;
+
 // Whether the sums have room: laid elsewhere first, and only where there are more entries than room.
 fn has_room(
     tempo_beats: &[f32],
@@ -333,7 +336,7 @@ fn has_room(
     if (stops.len() + 1) / 2 + delay_beats.len() + warp_beats.len() <= room {
         return true;
     }
-    let mut laid = [0.0; 6144];
+    let mut laid = [0.0; MOST_LAID];
     let size = lay_stops(
         tempo_beats,
         tempo_values,
@@ -381,11 +384,14 @@ fn is_even(size: usize) -> bool
     size % 2 == 0
 }
 
+// A flat list has two numbers for each entry.
+const MOST_FLAT: usize = 2 * limits::MOST_ENTRIES;
+
 // What a flat list answers by itself. Values are hardly ever beyond what beats are taken up to, so one test of all numbers is usually enough.
 fn flat_number(list: &[f32]) -> u32
     ensures { λ r. ⌜ r ≡ flatNumber (rangeOf Kind.Beat) (rangeOf Kind.Pause) (now (list .entry)) ⌝ }
 {
-    if list.len() > 2048 {
+    if list.len() > MOST_FLAT {
         return limits::TOO_LONG;
     }
     if !is_even(list.len()) {
@@ -491,7 +497,7 @@ pub fn convert_warps_and_delays_to_sm_stops(
         warp_lengths,
         work.len(),
     );
-    if number != 0 {
+    if number != limits::TAKEN {
         return refused(number);
     }
     if is_own(delay_beats.len(), warp_beats.len()) {

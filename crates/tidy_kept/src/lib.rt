@@ -86,7 +86,7 @@ pub fn change_of(
 ) -> Change
     ensures { λ r. ⌜ r ≡ changeOf at «on_row» «near_next» «near_previous» «near_last» ⌝ }
 {
-    if at > 1024 {
+    if at > limits::MOST_ENTRIES {
         return Change {
             low: 0,
             high: 0,

@@ -27,7 +27,7 @@ ghost use Rattle.tidy_scrolls.specs.inside.Ways.{scrollWaiting, noScroll
 
 // ---- entries in order: no working memory
 
-// The value stillWritten last, and the entry that waits to be stillWritten, if one does.
+// The value written last, and the entry that waits to be written, if one does.
 struct Held {
     before: f64,
     waits: bool,
@@ -48,7 +48,7 @@ fn none_held() -> Held
     }
 }
 
-// An entry on a row from that of the scrollWaiting one on comes, after the value that is stillWritten last.
+// An entry on a row from that of the waiting one on comes, after the value that is written last.
 fn come(before: f64, held: Held, row: u32, beat: f64, value: f64) -> Held
     requires { ⌜ row ≡ rowKeyAt beat ⌝ }
     ensures { λ r. ⌜ scrollWaiting r ≡ comes rowKeyAt nearTo before (scrollWaiting held) (beat, value) ⌝ }
@@ -71,7 +71,7 @@ fn come(before: f64, held: Held, row: u32, beat: f64, value: f64) -> Held
     }
 }
 
-// Whether the scrollWaiting entry is stillWritten when an entry on a row comes.
+// Whether the waiting entry is written when an entry on a row comes.
 fn writes(held: Held, row: u32) -> bool
     ensures { λ r. ⌜ r ≡ pick (held .waits) (ltb (held .row) row) false ⌝ }
 {
@@ -379,8 +379,8 @@ fn tidy_placed(
     requires { ⌜ neverFalls rowKeyAt (now beats) ≡ false ⌝ }
     ensures { λ r. ⌜ ScrollsTidied (now (beats .entry)) (now (values .entry)) r (now («out_beats» .entry)) (now («out_beats» .exit)) (now («out_values» .entry)) (now («out_values» .exit)) ⌝ }
 {
-    let mut kept_beats = [0.0; 1024];
-    let mut kept_values = [0.0; 1024];
+    let mut kept_beats = [0.0; limits::MOST_ENTRIES];
+    let mut kept_values = [0.0; limits::MOST_ENTRIES];
     tidy_placed_in(
         beats,
         values,
@@ -393,6 +393,8 @@ fn tidy_placed(
 
 // ---- the call
 
+// Scrolls on their rows, without those that are near the one before, over the fronts of both rooms, and how many there are. Refused with 1, 2, 3 or 4 for the list,
+// with 6 where rows fall and one is to be placed in a kept list that falls, and with 7 where they do not fit.
 pub fn tidy_scroll_segments(
     beats: &[f64],
     values: &[f64],
@@ -402,7 +404,7 @@ pub fn tidy_scroll_segments(
     ensures { λ r. ⌜ ScrollsTidied (now (beats .entry)) (now (values .entry)) r (now («out_beats» .entry)) (now («out_beats» .exit)) (now («out_values» .entry)) (now («out_values» .exit)) ⌝ }
 {
     let number = limits::list_number(Kind::Beat, Kind::Value, beats, values);
-    if number != 0 {
+    if number != limits::TAKEN {
         return columns::refused(number);
     }
     if tidy_by_rows::rise(beats) {

@@ -119,7 +119,7 @@ fn tidy_rising(
             };
         }
     }
-    tidy_speeds_ordered::tidy_ordered(
+    tidy_speeds_ordered::tidy_ordered_untested(
         beats,
         ratios,
         delays,
@@ -133,6 +133,8 @@ fn tidy_rising(
 
 // ---- the call
 
+// Speeds on their rows, without those that are near the one before, over the fronts of the four rooms, and how many there are. Refused with 1, 2, 3 or 4 for the list,
+// with 6 where rows fall and one is to be placed in a kept list that falls, and with 7 where they do not fit.
 pub fn tidy_speed_segments(
     beats: &[f64],
     ratios: &[f64],
@@ -146,7 +148,7 @@ pub fn tidy_speed_segments(
     ensures { λ r. ⌜ SpeedsTidied (now (beats .entry)) (now (ratios .entry)) (now (delays .entry)) (now (units .entry)) r (now («out_beats» .entry)) (now («out_beats» .exit)) (now («out_ratios» .entry)) (now («out_ratios» .exit)) (now («out_delays» .entry)) (now («out_delays» .exit)) (now («out_units» .entry)) (now («out_units» .exit)) ⌝ }
 {
     let number = speed_list_number(beats, ratios, delays, units);
-    if number != 0 {
+    if number != limits::TAKEN {
         return columns::refused(number);
     }
     if tidy_by_rows::rise(beats) {
@@ -162,7 +164,7 @@ pub fn tidy_speed_segments(
         );
     }
     if tidy_by_rows::in_order(beats) {
-        return tidy_speeds_ordered::tidy_ordered(
+        return tidy_speeds_ordered::tidy_ordered_untested(
             beats,
             ratios,
             delays,
@@ -173,7 +175,7 @@ pub fn tidy_speed_segments(
             out_units,
         );
     }
-    tidy_speeds_placed::tidy_placed(
+    tidy_speeds_placed::tidy_placed_untested(
         beats,
         ratios,
         delays,

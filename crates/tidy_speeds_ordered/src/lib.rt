@@ -49,19 +49,19 @@ fn none_held() -> Held
     }
 }
 
-// An entry on a row from that of the speedWaiting one on comes, after the speed that is written last.
+// An entry on a row from that of the waiting one on comes, after the speed that is written last.
 fn come(before: Speed, held: Held, row: u32, beat: f64, value: Speed) -> Held
     requires { ⌜ row ≡ rowKeyAt beat ⌝ }
     ensures { λ r. ⌜ speedWaiting r ≡ comes rowKeyAt nearSpeed (speedValueOf before) (speedWaiting held) (beat, speedValueOf value) ⌝ }
 {
-    let speedWaiting = held.value;
+    let waiting = held.value;
     if tidy_speeds_entries::near(value, before) {
         return Held {
             before: before,
             waits: false,
             row: held.row,
             beat: held.beat,
-            value: speedWaiting,
+            value: waiting,
         };
     }
     Held {
@@ -73,7 +73,7 @@ fn come(before: Speed, held: Held, row: u32, beat: f64, value: Speed) -> Held
     }
 }
 
-// Whether the speedWaiting entry is written when an entry on a row comes.
+// Whether the waiting entry is written when an entry on a row comes.
 fn writes(held: Held, row: u32) -> bool
     ensures { λ r. ⌜ r ≡ pick (held .waits) (ltb (held .row) row) false ⌝ }
 {
@@ -88,15 +88,15 @@ fn pass(held: Held, row: u32, beat: f64, value: Speed) -> Held
     ensures { λ r. ⌜ speedWaiting r ≡ entryPassed rowKeyAt nearSpeed (speedWaiting held) (beat, speedValueOf value) ⌝ }
 {
     let before = held.before;
-    let speedWaiting = held.value;
+    let waiting = held.value;
     if held.waits {
         if held.row < row {
-            return come(speedWaiting, held, row, beat, value);
+            return come(waiting, held, row, beat, value);
         }
         if tidy_speeds_entries::near(value, before) {
             return come(before, held, row, beat, value);
         }
-        if tidy_speeds_entries::near(value, speedWaiting) {
+        if tidy_speeds_entries::near(value, waiting) {
             return held;
         }
         return come(before, held, row, beat, value);
@@ -185,7 +185,7 @@ fn lay_kept(
         let row = tidy_rows_sort::row_key(beats[i]);
         let next = pass(held, row, beats[i], speed_at(ratios, delays, units, i));
         if writes(held, row) {
-            let speedWaiting = held.value;
+            let waiting = held.value;
             write_speed(
                 out_beats,
                 out_ratios,
@@ -193,7 +193,7 @@ fn lay_kept(
                 out_units,
                 count,
                 held.beat,
-                speedWaiting,
+                waiting,
             );
             count += 1;
             held = next;
@@ -204,7 +204,7 @@ fn lay_kept(
         i += 1;
     }
     if held.waits {
-        let speedWaiting = held.value;
+        let waiting = held.value;
         write_speed(
             out_beats,
             out_ratios,
@@ -212,7 +212,7 @@ fn lay_kept(
             out_units,
             count,
             held.beat,
-            speedWaiting,
+            waiting,
         );
         return count + 1;
     }
@@ -289,8 +289,8 @@ fn fits(beats: &[f64], ratios: &[f64], delays: &[f64], units: &[u8], n: usize, r
     count_kept(beats, ratios, delays, units, n) <= room
 }
 
-// The kept entries of a list in order, each on its row; 7 where they have no room. Columns are read as far as the shortest goes.
-pub fn tidy_ordered(
+// The kept entries of a list in order, each on its row; 7 where they have no room. Columns are read as far as the shortest goes, and nothing else is tested.
+pub fn tidy_ordered_untested(
     beats: &[f64],
     ratios: &[f64],
     delays: &[f64],

@@ -353,8 +353,8 @@ fn tidy_in(
 }
 
 // The kept entries of a list whatever its order, placed one by one, each on its row: 1 above 1,024 entries, 6 where one is placed in a kept list that falls, 7 without room.
-// Columns are read as far as the shortest goes.
-pub fn tidy_placed(
+// Columns are read as far as the shortest goes, and no number is tested.
+pub fn tidy_placed_untested(
     beats: &[f64],
     ratios: &[f64],
     delays: &[f64],
@@ -367,13 +367,13 @@ pub fn tidy_placed(
     ensures { λ r. ⌜ PlacedTidied (now (beats .entry)) (now (ratios .entry)) (now (delays .entry)) (now (units .entry)) r (now («out_beats» .entry)) (now («out_beats» .exit)) (now («out_ratios» .entry)) (now («out_ratios» .exit)) (now («out_delays» .entry)) (now («out_delays» .exit)) (now («out_units» .entry)) (now («out_units» .exit)) ⌝ }
 {
     let n = tidy_speeds_entries::least_of(beats.len(), ratios.len(), delays.len(), units.len());
-    if n > 1024 {
+    if n > limits::MOST_ENTRIES {
         return columns::refused(limits::TOO_LONG);
     }
-    let mut kept_beats = [0.0; 1024];
-    let mut kept_ratios = [0.0; 1024];
-    let mut kept_delays = [0.0; 1024];
-    let mut kept_units = [0; 1024];
+    let mut kept_beats = [0.0; limits::MOST_ENTRIES];
+    let mut kept_ratios = [0.0; limits::MOST_ENTRIES];
+    let mut kept_delays = [0.0; limits::MOST_ENTRIES];
+    let mut kept_units = [0; limits::MOST_ENTRIES];
     tidy_in(
         beats,
         ratios,

@@ -122,7 +122,7 @@ unfolding ofBits
 returns c =
     let put = c .before .before .write-report .ensures in
     let fed = c .before .before .before .before .before .before .before .before .before .before .before .before .before .before .before .before .before .before .before .before .before .before .before .before .before .before .before .before .before .before .before .before .before .before .before .before .before .before .read-all .ensures in
-    let text = read-report (fed .bytes) refl (fed .read) (fed .counts) (fed .bpmBeats) (fed .bpmValues) (fed .stopBeats) (fed .stopValues) (fed .delayBeats) (fed .delayValues) (fed .warpBeats) (fed .warpValues) (fed .speedBeats) (fed .speedRatios) (fed .speedDelays) (fed .speedUnits) (fed .scrollBeats) (fed .scrollValues) (fed .fakeBeats) (fed .fakeValues) in
+    let text = read-report (fed .bytes) refl (fed .read) (fed .counts) (fed .tempoBeats) (fed .tempoValues) (fed .stopBeats) (fed .stopValues) (fed .delayBeats) (fed .delayValues) (fed .warpBeats) (fed .warpLengths) (fed .speedBeats) (fed .speedRatios) (fed .speedDelays) (fed .speedUnits) (fed .scrollBeats) (fed .scrollValues) (fed .fakeBeats) (fed .fakeLengths) in
     (record { bytes = fed .bytes; reported = reported-as text (put .0) }, put .1)
 
 pub write-input-spec : {M : Type 1} → statement M

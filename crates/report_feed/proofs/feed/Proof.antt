@@ -10,17 +10,17 @@ use Rattle.report_feed.proofs.feed.Statement.{statement}
 use Rattle.report_feed.proofs.feed.Tie as tie
 
 abbrev Inv-loop : tie.InvT-loop
-Inv-loop chunk counts₀ bpm-beats₀ bpm-values₀ stop-beats₀ stop-values₀ delay-beats₀ delay-values₀ warp-beats₀ warp-values₀ speed-beats₀ speed-ratios₀ speed-delays₀ speed-units₀ scroll-beats₀ scroll-values₀ fake-beats₀ fake-values₀ reading₀ i₀ counts bpm-beats bpm-values stop-beats stop-values delay-beats delay-values warp-beats warp-values speed-beats speed-ratios speed-delays speed-units scroll-beats scroll-values fake-beats fake-values reading i =
+Inv-loop chunk counts₀ tempo-beats₀ tempo-values₀ stop-beats₀ stop-values₀ delay-beats₀ delay-values₀ warp-beats₀ warp-lengths₀ speed-beats₀ speed-ratios₀ speed-delays₀ speed-units₀ scroll-beats₀ scroll-values₀ fake-beats₀ fake-lengths₀ reading₀ i₀ counts tempo-beats tempo-values stop-beats stop-values delay-beats delay-values warp-beats warp-lengths speed-beats speed-ratios speed-delays speed-units scroll-beats scroll-values fake-beats fake-lengths reading i =
     (i ≤ length chunk) × Read chunk reading₀ reading i
     × Column countIn chunk reading₀ counts₀ reading counts i
-    × Column (numberIn 2 1) chunk reading₀ bpm-beats₀ reading bpm-beats i
-    × Column (numberIn 2 2) chunk reading₀ bpm-values₀ reading bpm-values i
+    × Column (numberIn 2 1) chunk reading₀ tempo-beats₀ reading tempo-beats i
+    × Column (numberIn 2 2) chunk reading₀ tempo-values₀ reading tempo-values i
     × Column (numberIn 3 1) chunk reading₀ stop-beats₀ reading stop-beats i
     × Column (numberIn 3 2) chunk reading₀ stop-values₀ reading stop-values i
     × Column (numberIn 4 1) chunk reading₀ delay-beats₀ reading delay-beats i
     × Column (numberIn 4 2) chunk reading₀ delay-values₀ reading delay-values i
     × Column (numberIn 5 1) chunk reading₀ warp-beats₀ reading warp-beats i
-    × Column (numberIn 5 2) chunk reading₀ warp-values₀ reading warp-values i
+    × Column (numberIn 5 2) chunk reading₀ warp-lengths₀ reading warp-lengths i
     × Column (numberIn 6 1) chunk reading₀ speed-beats₀ reading speed-beats i
     × Column (numberIn 6 2) chunk reading₀ speed-ratios₀ reading speed-ratios i
     × Column (numberIn 6 3) chunk reading₀ speed-delays₀ reading speed-delays i
@@ -28,10 +28,10 @@ Inv-loop chunk counts₀ bpm-beats₀ bpm-values₀ stop-beats₀ stop-values₀
     × Column (numberIn 7 1) chunk reading₀ scroll-beats₀ reading scroll-beats i
     × Column (numberIn 7 2) chunk reading₀ scroll-values₀ reading scroll-values i
     × Column (numberIn 8 1) chunk reading₀ fake-beats₀ reading fake-beats i
-    × Column (numberIn 8 2) chunk reading₀ fake-values₀ reading fake-values i
+    × Column (numberIn 8 2) chunk reading₀ fake-lengths₀ reading fake-lengths i
 
 abbrev μ-loop : tie.MeasureT-loop
-μ-loop chunk counts₀ bpm-beats₀ bpm-values₀ stop-beats₀ stop-values₀ delay-beats₀ delay-values₀ warp-beats₀ warp-values₀ speed-beats₀ speed-ratios₀ speed-delays₀ speed-units₀ scroll-beats₀ scroll-values₀ fake-beats₀ fake-values₀ reading₀ i₀ counts bpm-beats bpm-values stop-beats stop-values delay-beats delay-values warp-beats warp-values speed-beats speed-ratios speed-delays speed-units scroll-beats scroll-values fake-beats fake-values reading i =
+μ-loop chunk counts₀ tempo-beats₀ tempo-values₀ stop-beats₀ stop-values₀ delay-beats₀ delay-values₀ warp-beats₀ warp-lengths₀ speed-beats₀ speed-ratios₀ speed-delays₀ speed-units₀ scroll-beats₀ scroll-values₀ fake-beats₀ fake-lengths₀ reading₀ i₀ counts tempo-beats tempo-values stop-beats stop-values delay-beats delay-values warp-beats warp-lengths speed-beats speed-ratios speed-delays speed-units scroll-beats scroll-values fake-beats fake-lengths reading i =
     length chunk - i
 
 loop-holds : tie.Need-loop-holds Inv-loop μ-loop
@@ -98,14 +98,14 @@ loop-again c =
       omega arith,
       read-turn _ _ reading (stepped .step .result) i inside (stepped .step .ensures) (start .loop .inv .1),
       column-turn countIn _ _ _ reading (stepped .step .result) (told .completed .result) (start .loop .counts) (after-put .put .last .1 .0) i inside (stepped .step .ensures) (told .completed .ensures) (after-put .put .ensures .0) (after-put .put .kept .1 .0) (start .loop .inv .2),
-      column-turn (numberIn 2 1) _ _ _ reading (stepped .step .result) (told .completed .result) (start .loop .bpm-beats) (after-put .put .last .1 .1 .0) i inside (stepped .step .ensures) (told .completed .ensures) (after-put .put .ensures .1 .0) (after-put .put .kept .1 .1 .0) (start .loop .inv .3),
-      column-turn (numberIn 2 2) _ _ _ reading (stepped .step .result) (told .completed .result) (start .loop .bpm-values) (after-put .put .last .1 .1 .1 .0) i inside (stepped .step .ensures) (told .completed .ensures) (after-put .put .ensures .1 .1 .0) (after-put .put .kept .1 .1 .1 .0) (start .loop .inv .4),
+      column-turn (numberIn 2 1) _ _ _ reading (stepped .step .result) (told .completed .result) (start .loop .tempo-beats) (after-put .put .last .1 .1 .0) i inside (stepped .step .ensures) (told .completed .ensures) (after-put .put .ensures .1 .0) (after-put .put .kept .1 .1 .0) (start .loop .inv .3),
+      column-turn (numberIn 2 2) _ _ _ reading (stepped .step .result) (told .completed .result) (start .loop .tempo-values) (after-put .put .last .1 .1 .1 .0) i inside (stepped .step .ensures) (told .completed .ensures) (after-put .put .ensures .1 .1 .0) (after-put .put .kept .1 .1 .1 .0) (start .loop .inv .4),
       column-turn (numberIn 3 1) _ _ _ reading (stepped .step .result) (told .completed .result) (start .loop .stop-beats) (after-put .put .last .1 .1 .1 .1 .0) i inside (stepped .step .ensures) (told .completed .ensures) (after-put .put .ensures .1 .1 .1 .0) (after-put .put .kept .1 .1 .1 .1 .0) (start .loop .inv .5),
       column-turn (numberIn 3 2) _ _ _ reading (stepped .step .result) (told .completed .result) (start .loop .stop-values) (after-put .put .last .1 .1 .1 .1 .1 .0) i inside (stepped .step .ensures) (told .completed .ensures) (after-put .put .ensures .1 .1 .1 .1 .0) (after-put .put .kept .1 .1 .1 .1 .1 .0) (start .loop .inv .6),
       column-turn (numberIn 4 1) _ _ _ reading (stepped .step .result) (told .completed .result) (start .loop .delay-beats) (after-put .put .last .1 .1 .1 .1 .1 .1 .0) i inside (stepped .step .ensures) (told .completed .ensures) (after-put .put .ensures .1 .1 .1 .1 .1 .0) (after-put .put .kept .1 .1 .1 .1 .1 .1 .0) (start .loop .inv .7),
       column-turn (numberIn 4 2) _ _ _ reading (stepped .step .result) (told .completed .result) (start .loop .delay-values) (after-put .put .last .1 .1 .1 .1 .1 .1 .1 .0) i inside (stepped .step .ensures) (told .completed .ensures) (after-put .put .ensures .1 .1 .1 .1 .1 .1 .0) (after-put .put .kept .1 .1 .1 .1 .1 .1 .1 .0) (start .loop .inv .8),
       column-turn (numberIn 5 1) _ _ _ reading (stepped .step .result) (told .completed .result) (start .loop .warp-beats) (after-put .put .last .1 .1 .1 .1 .1 .1 .1 .1 .0) i inside (stepped .step .ensures) (told .completed .ensures) (after-put .put .ensures .1 .1 .1 .1 .1 .1 .1 .0) (after-put .put .kept .1 .1 .1 .1 .1 .1 .1 .1 .0) (start .loop .inv .9),
-      column-turn (numberIn 5 2) _ _ _ reading (stepped .step .result) (told .completed .result) (start .loop .warp-values) (after-put .put .last .1 .1 .1 .1 .1 .1 .1 .1 .1 .0) i inside (stepped .step .ensures) (told .completed .ensures) (after-put .put .ensures .1 .1 .1 .1 .1 .1 .1 .1 .0) (after-put .put .kept .1 .1 .1 .1 .1 .1 .1 .1 .1 .0) (start .loop .inv .10),
+      column-turn (numberIn 5 2) _ _ _ reading (stepped .step .result) (told .completed .result) (start .loop .warp-lengths) (after-put .put .last .1 .1 .1 .1 .1 .1 .1 .1 .1 .0) i inside (stepped .step .ensures) (told .completed .ensures) (after-put .put .ensures .1 .1 .1 .1 .1 .1 .1 .1 .0) (after-put .put .kept .1 .1 .1 .1 .1 .1 .1 .1 .1 .0) (start .loop .inv .10),
       column-turn (numberIn 6 1) _ _ _ reading (stepped .step .result) (told .completed .result) (start .loop .speed-beats) (after-put .put .last .1 .1 .1 .1 .1 .1 .1 .1 .1 .1 .0) i inside (stepped .step .ensures) (told .completed .ensures) (after-put .put .ensures .1 .1 .1 .1 .1 .1 .1 .1 .1 .0) (after-put .put .kept .1 .1 .1 .1 .1 .1 .1 .1 .1 .1 .0) (start .loop .inv .11),
       column-turn (numberIn 6 2) _ _ _ reading (stepped .step .result) (told .completed .result) (start .loop .speed-ratios) (after-put .put .last .1 .1 .1 .1 .1 .1 .1 .1 .1 .1 .1 .0) i inside (stepped .step .ensures) (told .completed .ensures) (after-put .put .ensures .1 .1 .1 .1 .1 .1 .1 .1 .1 .1 .0) (after-put .put .kept .1 .1 .1 .1 .1 .1 .1 .1 .1 .1 .1 .0) (start .loop .inv .12),
       column-turn (numberIn 6 3) _ _ _ reading (stepped .step .result) (told .completed .result) (start .loop .speed-delays) (after-put .put .last .1 .1 .1 .1 .1 .1 .1 .1 .1 .1 .1 .1 .0) i inside (stepped .step .ensures) (told .completed .ensures) (after-put .put .ensures .1 .1 .1 .1 .1 .1 .1 .1 .1 .1 .1 .0) (after-put .put .kept .1 .1 .1 .1 .1 .1 .1 .1 .1 .1 .1 .1 .0) (start .loop .inv .13),
@@ -113,7 +113,7 @@ loop-again c =
       column-turn (numberIn 7 1) _ _ _ reading (stepped .step .result) (told .completed .result) (start .loop .scroll-beats) (after-put .put .last .1 .1 .1 .1 .1 .1 .1 .1 .1 .1 .1 .1 .1 .1 .0) i inside (stepped .step .ensures) (told .completed .ensures) (after-put .put .ensures .1 .1 .1 .1 .1 .1 .1 .1 .1 .1 .1 .1 .1 .0) (after-put .put .kept .1 .1 .1 .1 .1 .1 .1 .1 .1 .1 .1 .1 .1 .1 .0) (start .loop .inv .15),
       column-turn (numberIn 7 2) _ _ _ reading (stepped .step .result) (told .completed .result) (start .loop .scroll-values) (after-put .put .last .1 .1 .1 .1 .1 .1 .1 .1 .1 .1 .1 .1 .1 .1 .1 .0) i inside (stepped .step .ensures) (told .completed .ensures) (after-put .put .ensures .1 .1 .1 .1 .1 .1 .1 .1 .1 .1 .1 .1 .1 .1 .0) (after-put .put .kept .1 .1 .1 .1 .1 .1 .1 .1 .1 .1 .1 .1 .1 .1 .1 .0) (start .loop .inv .16),
       column-turn (numberIn 8 1) _ _ _ reading (stepped .step .result) (told .completed .result) (start .loop .fake-beats) (after-put .put .last .1 .1 .1 .1 .1 .1 .1 .1 .1 .1 .1 .1 .1 .1 .1 .1 .0) i inside (stepped .step .ensures) (told .completed .ensures) (after-put .put .ensures .1 .1 .1 .1 .1 .1 .1 .1 .1 .1 .1 .1 .1 .1 .1 .0) (after-put .put .kept .1 .1 .1 .1 .1 .1 .1 .1 .1 .1 .1 .1 .1 .1 .1 .1 .0) (start .loop .inv .17),
-      column-turn (numberIn 8 2) _ _ _ reading (stepped .step .result) (told .completed .result) (start .loop .fake-values) (after-put .put .last .1 .1 .1 .1 .1 .1 .1 .1 .1 .1 .1 .1 .1 .1 .1 .1 .1 .0) i inside (stepped .step .ensures) (told .completed .ensures) (after-put .put .ensures .1 .1 .1 .1 .1 .1 .1 .1 .1 .1 .1 .1 .1 .1 .1 .1) (after-put .put .kept .1 .1 .1 .1 .1 .1 .1 .1 .1 .1 .1 .1 .1 .1 .1 .1 .1 .0) (start .loop .inv .18),
+      column-turn (numberIn 8 2) _ _ _ reading (stepped .step .result) (told .completed .result) (start .loop .fake-lengths) (after-put .put .last .1 .1 .1 .1 .1 .1 .1 .1 .1 .1 .1 .1 .1 .1 .1 .1 .1 .0) i inside (stepped .step .ensures) (told .completed .ensures) (after-put .put .ensures .1 .1 .1 .1 .1 .1 .1 .1 .1 .1 .1 .1 .1 .1 .1 .1) (after-put .put .kept .1 .1 .1 .1 .1 .1 .1 .1 .1 .1 .1 .1 .1 .1 .1 .1 .1 .0) (start .loop .inv .18),
     )
 
 same-length : tie.Need-same-length Inv-loop μ-loop

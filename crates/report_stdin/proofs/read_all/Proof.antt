@@ -10,16 +10,16 @@ use Rattle.report_stdin.proofs.read_all.Statement.{statement}
 use Rattle.report_stdin.proofs.read_all.Tie as tie
 
 abbrev Inv-loop : tie.InvT-loop
-Inv-loop counts₀ bpm-beats₀ bpm-values₀ stop-beats₀ stop-values₀ delay-beats₀ delay-values₀ warp-beats₀ warp-values₀ speed-beats₀ speed-ratios₀ speed-delays₀ speed-units₀ scroll-beats₀ scroll-values₀ fake-beats₀ fake-values₀ reading₀ turns₀ counts bpm-beats bpm-values stop-beats stop-values delay-beats delay-values warp-beats warp-values speed-beats speed-ratios speed-delays speed-units scroll-beats scroll-values fake-beats fake-values reading turns =
+Inv-loop counts₀ tempo-beats₀ tempo-values₀ stop-beats₀ stop-values₀ delay-beats₀ delay-values₀ warp-beats₀ warp-lengths₀ speed-beats₀ speed-ratios₀ speed-delays₀ speed-units₀ scroll-beats₀ scroll-values₀ fake-beats₀ fake-lengths₀ reading₀ turns₀ counts tempo-beats tempo-values stop-beats stop-values delay-beats delay-values warp-beats warp-lengths speed-beats speed-ratios speed-delays speed-units scroll-beats scroll-values fake-beats fake-lengths reading turns =
     (length counts ≡ length counts₀)
-    × (length bpm-beats ≡ length bpm-beats₀)
-    × (length bpm-values ≡ length bpm-values₀)
+    × (length tempo-beats ≡ length tempo-beats₀)
+    × (length tempo-values ≡ length tempo-values₀)
     × (length stop-beats ≡ length stop-beats₀)
     × (length stop-values ≡ length stop-values₀)
     × (length delay-beats ≡ length delay-beats₀)
     × (length delay-values ≡ length delay-values₀)
     × (length warp-beats ≡ length warp-beats₀)
-    × (length warp-values ≡ length warp-values₀)
+    × (length warp-lengths ≡ length warp-lengths₀)
     × (length speed-beats ≡ length speed-beats₀)
     × (length speed-ratios ≡ length speed-ratios₀)
     × (length speed-delays ≡ length speed-delays₀)
@@ -27,11 +27,11 @@ Inv-loop counts₀ bpm-beats₀ bpm-values₀ stop-beats₀ stop-values₀ delay
     × (length scroll-beats ≡ length scroll-beats₀)
     × (length scroll-values ≡ length scroll-values₀)
     × (length fake-beats ≡ length fake-beats₀)
-    × (length fake-values ≡ length fake-values₀)
-    × Fed start reading counts₀ counts bpm-beats₀ bpm-beats bpm-values₀ bpm-values stop-beats₀ stop-beats stop-values₀ stop-values delay-beats₀ delay-beats delay-values₀ delay-values warp-beats₀ warp-beats warp-values₀ warp-values speed-beats₀ speed-beats speed-ratios₀ speed-ratios speed-delays₀ speed-delays speed-units₀ speed-units scroll-beats₀ scroll-beats scroll-values₀ scroll-values fake-beats₀ fake-beats fake-values₀ fake-values
+    × (length fake-lengths ≡ length fake-lengths₀)
+    × Fed start reading counts₀ counts tempo-beats₀ tempo-beats tempo-values₀ tempo-values stop-beats₀ stop-beats stop-values₀ stop-values delay-beats₀ delay-beats delay-values₀ delay-values warp-beats₀ warp-beats warp-lengths₀ warp-lengths speed-beats₀ speed-beats speed-ratios₀ speed-ratios speed-delays₀ speed-delays speed-units₀ speed-units scroll-beats₀ scroll-beats scroll-values₀ scroll-values fake-beats₀ fake-beats fake-lengths₀ fake-lengths
 
 abbrev μ-loop : tie.MeasureT-loop
-μ-loop counts₀ bpm-beats₀ bpm-values₀ stop-beats₀ stop-values₀ delay-beats₀ delay-values₀ warp-beats₀ warp-values₀ speed-beats₀ speed-ratios₀ speed-delays₀ speed-units₀ scroll-beats₀ scroll-values₀ fake-beats₀ fake-values₀ reading₀ turns₀ counts bpm-beats bpm-values stop-beats stop-values delay-beats delay-values warp-beats warp-values speed-beats speed-ratios speed-delays speed-units scroll-beats scroll-values fake-beats fake-values reading turns = turns
+μ-loop counts₀ tempo-beats₀ tempo-values₀ stop-beats₀ stop-values₀ delay-beats₀ delay-values₀ warp-beats₀ warp-lengths₀ speed-beats₀ speed-ratios₀ speed-delays₀ speed-units₀ scroll-beats₀ scroll-values₀ fake-beats₀ fake-lengths₀ reading₀ turns₀ counts tempo-beats tempo-values stop-beats stop-values delay-beats delay-values warp-beats warp-lengths speed-beats speed-ratios speed-delays speed-units scroll-beats scroll-values fake-beats fake-lengths reading turns = turns
 
 begin-requires : tie.Need-begin-requires Inv-loop μ-loop
 begin-requires c κs = search needs

@@ -86,7 +86,7 @@ returns c =
     let at-feed = c .before .before .before .before .before .before .before .before .before .before .before .before .before .before .before .before .before .before .before .before .before .before .before .before .before .before .before .before .before .before .before .before .before .before .before in
     let at-read = at-feed .before .before .before .before .before .before .before .before .before .before .before .before .before .before .before .before .before .before .before .before .before .before in
     let fed = at-feed .feed .ensures in
-    fed-answered (toZ w64 (ofZ w64 (at-read .read .result))) (record { bytes = _; read = fed .0; counts = fed .1 .0; bpmBeats = fed .1 .1 .0; bpmValues = fed .1 .1 .1 .0; stopBeats = fed .1 .1 .1 .1 .0; stopValues = fed .1 .1 .1 .1 .1 .0; delayBeats = fed .1 .1 .1 .1 .1 .1 .0; delayValues = fed .1 .1 .1 .1 .1 .1 .1 .0; warpBeats = fed .1 .1 .1 .1 .1 .1 .1 .1 .0; warpValues = fed .1 .1 .1 .1 .1 .1 .1 .1 .1 .0; speedBeats = fed .1 .1 .1 .1 .1 .1 .1 .1 .1 .1 .0; speedRatios = fed .1 .1 .1 .1 .1 .1 .1 .1 .1 .1 .1 .0; speedDelays = fed .1 .1 .1 .1 .1 .1 .1 .1 .1 .1 .1 .1 .0; speedUnits = fed .1 .1 .1 .1 .1 .1 .1 .1 .1 .1 .1 .1 .1 .0; scrollBeats = fed .1 .1 .1 .1 .1 .1 .1 .1 .1 .1 .1 .1 .1 .1 .0; scrollValues = fed .1 .1 .1 .1 .1 .1 .1 .1 .1 .1 .1 .1 .1 .1 .1 .0; fakeBeats = fed .1 .1 .1 .1 .1 .1 .1 .1 .1 .1 .1 .1 .1 .1 .1 .1 .0; fakeValues = fed .1 .1 .1 .1 .1 .1 .1 .1 .1 .1 .1 .1 .1 .1 .1 .1 .1 }) (c .answered .ensures .1)
+    fed-answered (toZ w64 (ofZ w64 (at-read .read .result))) (record { bytes = _; read = fed .0; counts = fed .1 .0; tempoBeats = fed .1 .1 .0; tempoValues = fed .1 .1 .1 .0; stopBeats = fed .1 .1 .1 .1 .0; stopValues = fed .1 .1 .1 .1 .1 .0; delayBeats = fed .1 .1 .1 .1 .1 .1 .0; delayValues = fed .1 .1 .1 .1 .1 .1 .1 .0; warpBeats = fed .1 .1 .1 .1 .1 .1 .1 .1 .0; warpLengths = fed .1 .1 .1 .1 .1 .1 .1 .1 .1 .0; speedBeats = fed .1 .1 .1 .1 .1 .1 .1 .1 .1 .1 .0; speedRatios = fed .1 .1 .1 .1 .1 .1 .1 .1 .1 .1 .1 .0; speedDelays = fed .1 .1 .1 .1 .1 .1 .1 .1 .1 .1 .1 .1 .0; speedUnits = fed .1 .1 .1 .1 .1 .1 .1 .1 .1 .1 .1 .1 .1 .0; scrollBeats = fed .1 .1 .1 .1 .1 .1 .1 .1 .1 .1 .1 .1 .1 .1 .0; scrollValues = fed .1 .1 .1 .1 .1 .1 .1 .1 .1 .1 .1 .1 .1 .1 .1 .0; fakeBeats = fed .1 .1 .1 .1 .1 .1 .1 .1 .1 .1 .1 .1 .1 .1 .1 .1 .0; fakeLengths = fed .1 .1 .1 .1 .1 .1 .1 .1 .1 .1 .1 .1 .1 .1 .1 .1 .1 }) (c .answered .ensures .1)
 
 pub read-piece-spec : {M : Type 1} → statement M
 read-piece-spec =

@@ -40,8 +40,8 @@ same-length-2 c = search needs
 returns-2 : tie.Need-returns-2
 returns-2 c = c .before .before .before .before .tidy-ordered .ensures
 
-tidy-by-sort-requires : tie.Need-tidy-by-sort-requires
-tidy-by-sort-requires c κs = search needs
+tidy-by-sort-untested-requires : tie.Need-tidy-by-sort-untested-requires
+tidy-by-sort-untested-requires c κs = search needs
 
 same-length-3 : tie.Need-same-length-3
 same-length-3 c = search needs
@@ -54,7 +54,7 @@ returns-3 c =
     let given = c .before .before .before .before .before .before .before .before .before .before .before .before .before .before .before .before .args in
     let zero = sym (c .before .before .before .before .before .before .before .before .before .before .before .list-number .ensures) ∙ c .before .before .before .before .before .before .before .before .before .before .if1 .left in
     let list = list-taken zero in
-    numbered (taken-sizes (length (given .beats .now)) (length (given .values .now)) (list .few) (list .even) ∙ sym zero) (c .before .before .before .before .tidy-by-sort .ensures)
+    numbered (taken-sizes (length (given .beats .now)) (length (given .values .now)) (list .few) (list .even) ∙ sym zero) (c .before .before .before .before .tidy-by-sort-untested .ensures)
 
 pub tidy-row-segments-spec : {M : Type 1} → statement M
 tidy-row-segments-spec =
@@ -68,7 +68,7 @@ tidy-row-segments-spec =
     same-length
     same-length-2
     returns-2
-    tidy-by-sort-requires
+    tidy-by-sort-untested-requires
     same-length-3
     same-length-4
     returns-3)

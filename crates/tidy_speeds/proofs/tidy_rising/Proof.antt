@@ -38,8 +38,8 @@ returns c =
     let room : length (given .beats .now) ≤ leastOf (length (given .out-beats .now)) (length (given .out-ratios .now)) (length (given .out-delays .now)) (length (given .out-units .now)) = omega (arith, c .before .before .before .before .before .before .before .before .before .before .before .before .before .before .before .if1 .taken, c .before .before .before .before .before .before .before .before .before .before .before .before .before .before .before .before .least-of .ensures) in
     columns-tidied (given .beats .now) (given .ratios .now) (given .delays .now) (given .units .now) (c .before .before .before .before .before .before .before .before .before .before .before .before .before .before .before .before .before .before .before .before .before .before .before .before .before .pre .0) (c .before .before .before .before .before .before .before .before .before .before .before .before .before .before .before .before .before .before .before .before .before .before .before .before .before .pre .1) (sym (c .before .before .before .before .before .before .before .before .before .before .before .before .before .before .all-apart .ensures) ∙ c .before .before .before .before .before .before .before .before .before .before .before .before .before .if2 .taken) (given .out-beats .now) (given .out-ratios .now) (given .out-delays .now) (given .out-units .now) room (c .before .before .before .before .before .before .before .before .lay-columns .ensures)
 
-tidy-ordered-requires : tie.Need-tidy-ordered-requires
-tidy-ordered-requires c κs = search needs
+tidy-ordered-untested-requires : tie.Need-tidy-ordered-untested-requires
+tidy-ordered-untested-requires c κs = search needs
 
 same-length-5 : tie.Need-same-length-5
 same-length-5 c = search needs
@@ -54,7 +54,7 @@ same-length-8 : tie.Need-same-length-8
 same-length-8 c = search needs
 
 returns-2 : tie.Need-returns-2
-returns-2 c = let given = c .before .before .before .before .before .before .before .before .before .before .before .before .before .before .before .before .before .before .before .before .before .before .before .args in as-ordered (given .beats .now) (given .ratios .now) (given .delays .now) (given .units .now) (c .before .before .before .before .before .before .before .before .before .before .before .before .before .before .before .before .before .before .before .before .before .before .before .pre .0) (c .before .before .before .before .before .before .before .before .before .before .before .before .before .before .before .before .before .before .before .before .before .before .before .pre .1) (c .before .before .before .before .before .before .before .before .tidy-ordered .ensures)
+returns-2 c = let given = c .before .before .before .before .before .before .before .before .before .before .before .before .before .before .before .before .before .before .before .before .before .before .before .args in as-ordered (given .beats .now) (given .ratios .now) (given .delays .now) (given .units .now) (c .before .before .before .before .before .before .before .before .before .before .before .before .before .before .before .before .before .before .before .before .before .before .before .pre .0) (c .before .before .before .before .before .before .before .before .before .before .before .before .before .before .before .before .before .before .before .before .before .before .before .pre .1) (c .before .before .before .before .before .before .before .before .tidy-ordered-untested .ensures)
 
 pub tidy-rising-spec : {M : Type 1} → statement M
 tidy-rising-spec =
@@ -68,7 +68,7 @@ tidy-rising-spec =
     same-length-3
     same-length-4
     returns
-    tidy-ordered-requires
+    tidy-ordered-untested-requires
     same-length-5
     same-length-6
     same-length-7

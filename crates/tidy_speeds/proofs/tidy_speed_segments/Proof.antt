@@ -42,8 +42,8 @@ returns-2 c = c .before .before .before .before .before .before .before .before 
 in-order-requires : tie.Need-in-order-requires
 in-order-requires c κs = search needs
 
-tidy-ordered-requires : tie.Need-tidy-ordered-requires
-tidy-ordered-requires c κs = search needs
+tidy-ordered-untested-requires : tie.Need-tidy-ordered-untested-requires
+tidy-ordered-untested-requires c κs = search needs
 
 same-length-5 : tie.Need-same-length-5
 same-length-5 c = search needs
@@ -61,10 +61,10 @@ returns-3 : tie.Need-returns-3
 returns-3 c =
     let given = c .before .before .before .before .before .before .before .before .before .before .before .before .before .before .before .before .before .before .before .before .before .before .before .before .before .before .before .args in
     let ordered = sym (c .before .before .before .before .before .before .before .before .before .before .before .before .before .before .in-order .ensures) ∙ c .before .before .before .before .before .before .before .before .before .before .before .before .before .if3 .taken in
-    rw (ordered-number (given .beats .now) (given .ratios .now) (given .delays .now) (given .units .now) (sym (c .before .before .before .before .before .before .before .before .before .before .before .before .before .before .before .before .before .before .speed-list-number .ensures) ∙ c .before .before .before .before .before .before .before .before .before .before .before .before .before .before .before .before .before .if1 .left) ordered, ordered-list (given .beats .now) (given .ratios .now) (given .delays .now) (given .units .now) (sym (c .before .before .before .before .before .before .before .before .before .before .before .before .before .before .before .before .before .before .speed-list-number .ensures) ∙ c .before .before .before .before .before .before .before .before .before .before .before .before .before .before .before .before .before .if1 .left) ordered) (c .before .before .before .before .before .before .before .before .tidy-ordered .ensures)
+    rw (ordered-number (given .beats .now) (given .ratios .now) (given .delays .now) (given .units .now) (sym (c .before .before .before .before .before .before .before .before .before .before .before .before .before .before .before .before .before .before .speed-list-number .ensures) ∙ c .before .before .before .before .before .before .before .before .before .before .before .before .before .before .before .before .before .if1 .left) ordered, ordered-list (given .beats .now) (given .ratios .now) (given .delays .now) (given .units .now) (sym (c .before .before .before .before .before .before .before .before .before .before .before .before .before .before .before .before .before .before .speed-list-number .ensures) ∙ c .before .before .before .before .before .before .before .before .before .before .before .before .before .before .before .before .before .if1 .left) ordered) (c .before .before .before .before .before .before .before .before .tidy-ordered-untested .ensures)
 
-tidy-placed-requires : tie.Need-tidy-placed-requires
-tidy-placed-requires c κs = search needs
+tidy-placed-untested-requires : tie.Need-tidy-placed-untested-requires
+tidy-placed-untested-requires c κs = search needs
 
 same-length-9 : tie.Need-same-length-9
 same-length-9 c = search needs
@@ -82,7 +82,7 @@ returns-4 : tie.Need-returns-4
 returns-4 c =
     let given = c .before .before .before .before .before .before .before .before .before .before .before .before .before .before .before .before .before .before .before .before .before .before .before .before .before .before .before .args in
     let unordered = sym (c .before .before .before .before .before .before .before .before .before .before .before .before .before .before .in-order .ensures) ∙ c .before .before .before .before .before .before .before .before .before .before .before .before .before .if3 .left in
-    rw (placed-number (given .beats .now) (given .ratios .now) (given .delays .now) (given .units .now) (sym (c .before .before .before .before .before .before .before .before .before .before .before .before .before .before .before .before .before .before .speed-list-number .ensures) ∙ c .before .before .before .before .before .before .before .before .before .before .before .before .before .before .before .before .before .if1 .left) unordered, placed-list (given .beats .now) (given .ratios .now) (given .delays .now) (given .units .now) (sym (c .before .before .before .before .before .before .before .before .before .before .before .before .before .before .before .before .before .before .speed-list-number .ensures) ∙ c .before .before .before .before .before .before .before .before .before .before .before .before .before .before .before .before .before .if1 .left) unordered) (c .before .before .before .before .before .before .before .before .tidy-placed .ensures)
+    rw (placed-number (given .beats .now) (given .ratios .now) (given .delays .now) (given .units .now) (sym (c .before .before .before .before .before .before .before .before .before .before .before .before .before .before .before .before .before .before .speed-list-number .ensures) ∙ c .before .before .before .before .before .before .before .before .before .before .before .before .before .before .before .before .before .if1 .left) unordered, placed-list (given .beats .now) (given .ratios .now) (given .delays .now) (given .units .now) (sym (c .before .before .before .before .before .before .before .before .before .before .before .before .before .before .before .before .before .before .speed-list-number .ensures) ∙ c .before .before .before .before .before .before .before .before .before .before .before .before .before .before .before .before .before .if1 .left) unordered) (c .before .before .before .before .before .before .before .before .tidy-placed-untested .ensures)
 
 pub tidy-speed-segments-spec : {M : Type 1} → statement M
 tidy-speed-segments-spec =
@@ -99,13 +99,13 @@ tidy-speed-segments-spec =
     same-length-4
     returns-2
     in-order-requires
-    tidy-ordered-requires
+    tidy-ordered-untested-requires
     same-length-5
     same-length-6
     same-length-7
     same-length-8
     returns-3
-    tidy-placed-requires
+    tidy-placed-untested-requires
     same-length-9
     same-length-10
     same-length-11

@@ -1,12 +1,12 @@
--- `tidy_speeds_placed::tidy_placed` refuses a list that is too long, or lends its arrays. Assumes nothing.
+-- `tidy_speeds_placed::tidy_placed_untested` refuses a list that is too long, or lends its arrays. Assumes nothing.
 use native.Mathlib.Omega.{arith}
 use mathlib.Core.Path.{refl}
 use Rattle.tidy_speeds_entries.specs.Speed.{speedEntries}
 use Rattle.tidy_speeds_entries.proofs.SpeedColumns.{many-speeds}
 use Rattle.tidy_speeds_placed.proofs.Outcomes.{too-long}
 use borrow.Author.Needs.{needs}
-use Rattle.tidy_speeds_placed.proofs.tidy_placed.Statement.{statement}
-use Rattle.tidy_speeds_placed.proofs.tidy_placed.Tie as tie
+use Rattle.tidy_speeds_placed.proofs.tidy_placed_untested.Statement.{statement}
+use Rattle.tidy_speeds_placed.proofs.tidy_placed_untested.Tie as tie
 
 least-of-requires : tie.Need-least-of-requires
 least-of-requires c κs = search needs
@@ -49,8 +49,8 @@ same-length-4 c = search needs
 returns-2 : tie.Need-returns-2
 returns-2 c = c .before .before .before .before .before .before .before .before .before .before .before .before .tidy-in .ensures
 
-pub tidy-placed-spec : {M : Type 1} → statement M
-tidy-placed-spec =
+pub tidy-placed-untested-spec : {M : Type 1} → statement M
+tidy-placed-untested-spec =
     tie.close
     (tie.spec
     least-of-requires

@@ -1,4 +1,4 @@
--- `tidy_speeds_ordered::tidy_ordered` lays every entry where it can, refuses for want of room, or lays what is kept. Assumes nothing.
+-- `tidy_speeds_ordered::tidy_ordered_untested` lays every entry where it can, refuses for want of room, or lays what is kept. Assumes nothing.
 use mathlib.Core.Path.{sym, ap, _∙_}
 use native.Mathlib.Omega.{arith}
 use lib.ListN.{length}
@@ -8,8 +8,8 @@ use Rattle.tidy_speeds_entries.proofs.SpeedColumns.{many-speeds}
 use Rattle.tidy_speeds_ordered.specs.OrderedSpeeds.{keptSpeeds}
 use Rattle.tidy_speeds_ordered.proofs.KeptInOnePass.{ordered-refused, ordered-laid}
 use borrow.Author.Needs.{needs}
-use Rattle.tidy_speeds_ordered.proofs.tidy_ordered.Statement.{statement}
-use Rattle.tidy_speeds_ordered.proofs.tidy_ordered.Tie as tie
+use Rattle.tidy_speeds_ordered.proofs.tidy_ordered_untested.Statement.{statement}
+use Rattle.tidy_speeds_ordered.proofs.tidy_ordered_untested.Tie as tie
 
 least-of-requires : tie.Need-least-of-requires
 least-of-requires c κs = search needs
@@ -78,8 +78,8 @@ returns-3 c =
     let es = speedEntries (g .args .beats .now) (g .args .ratios .now) (g .args .delays .now) (g .args .units .now) in
     ordered-laid es (g .args .out-beats .now) (g .args .out-ratios .now) (g .args .out-delays .now) (g .args .out-units .now) _ _ _ _ _ (omega (arith, leb-true (length (keptSpeeds es)) (c .before .before .before .before .before .before .before .before .before .before .before .before .before .before .before .before .least-of2 .result) (sym (c .before .before .before .before .before .before .before .before .before .before .before .before .before .before .fits2 .ensures) ∙ not-false _ (c .before .before .before .before .before .before .before .before .before .before .before .before .before .if3 .left)), c .before .before .before .before .before .before .before .before .before .before .before .before .before .before .before .before .least-of2 .ensures)) (c .before .before .before .before .before .before .before .before .lay-kept .ensures .0) (c .before .before .before .before .before .before .before .before .lay-kept .ensures .1)
 
-pub tidy-ordered-spec : {M : Type 1} → statement M
-tidy-ordered-spec =
+pub tidy-ordered-untested-spec : {M : Type 1} → statement M
+tidy-ordered-untested-spec =
     tie.close
     (tie.spec
     least-of-requires
