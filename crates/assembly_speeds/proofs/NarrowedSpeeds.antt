@@ -16,7 +16,8 @@ use Rattle.tidy_speeds_entries.specs.Speed.{SpeedEntry, speedValues, speedEntri
 use Rattle.tidy_speeds_entries.specs.LaidSpeeds.{ratioOf, delayOf, unitOf, leastOf}
 use Rattle.tidy_speeds_entries.proofs.SpeedColumns.{many-values, many-speeds}
 use Rattle.assembly_rows.proofs.NarrowedFront.{front-laid}
-use Rattle.assembly_speeds.specs.AssembledSpeeds.{narrowedSpeed, narrowedSpeeds}
+use Rattle.assembly_speeds.specs.AssembledSpeeds.{narrowedSpeed}
+use Rattle.assembly_speeds.specs.inside.NarrowedSpeeds.{narrowedSpeeds}
 
 -- ---- rooms
 pub least-within : (a b c d : ℕ) (n : ℕ) → n ≤ leastOf a b c d → (n ≤ a) × (n ≤ b) × (n ≤ c) × (n ≤ d)

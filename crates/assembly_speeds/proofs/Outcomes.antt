@@ -27,7 +27,8 @@ use Rattle.limits.specs.Neighbours.{everyTwo, notFalling}
 use Rattle.assembly_rows.proofs.InRowOrder.{rows-never-fall}
 use Rattle.assembly_rows.proofs.Outcomes.{number-as-tests, number-with-room, number-in-room, tests-passed, given-same, room-same}
 use Rattle.assembly_scrolls.proofs.KeptNoLonger.{kept-few}
-use Rattle.assembly_speeds.specs.AssembledSpeeds.{narrowedSpeed, assembledSpeeds, assembledSpeedsNumber, SpeedsAssembled, speedsRoomNumber, narrowedSpeeds}
+use Rattle.assembly_speeds.specs.AssembledSpeeds.{narrowedSpeed, assembledSpeeds, assembledSpeedsNumber, SpeedsAssembled, speedsRoomNumber}
+use Rattle.assembly_speeds.specs.inside.NarrowedSpeeds.{narrowedSpeeds}
 use Rattle.assembly_speeds.proofs.NarrowedSpeeds.{front-of-result}
 use Rattle.assembly_speeds.proofs.QuantizedTaken.{speeds-pass}
 

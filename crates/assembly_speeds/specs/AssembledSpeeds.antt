@@ -3,7 +3,7 @@ use Prim.Native.Nat.{ℕ}
 use mathlib.Core.Bool.{Bool, false}
 use mathlib.Core.List.{List, map}
 use lib.Dec.{leb, eqb}
-use lib.ListN.{length, take}
+use lib.ListN.{length}
 use lib.Ieee.{Float}
 use Rattle.limits.specs.Table.{mostEntries}
 use Rattle.picks.specs.Pick.{pick}
@@ -41,10 +41,6 @@ speedsRoomNumber beats ratios delays units room = roomNumber (assembledSpeedsNum
 unfoldable pub speedsLater : List Float → List Float → List Float → List ℕ → ℕ → ℕ
 speedsLater beats ratios delays units room =
     pick (leb (length beats) room) (pick (everyTwo notFalling beats) 0 (speedsRoomNumber beats ratios delays units room)) (speedsRoomNumber beats ratios delays units room)
-
--- the first n entries of four columns, as f32
-abbrev pub narrowedSpeeds : ℕ → List Float → List Float → List Float → List ℕ → List SpeedEntry
-narrowedSpeeds n beats ratios delays units = map narrowedSpeed (speedEntries (take n beats) (take n ratios) (take n delays) (take n units))
 
 -- ---- a list that is not tested first
 

@@ -1,1 +1,2 @@
 pub mod AssembledSpeeds
+pub mod inside

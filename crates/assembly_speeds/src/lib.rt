@@ -4,7 +4,8 @@ ghost use mathlib.Core.Path.{_≡_};
 ghost use Prim.Native.Nat.{_≤_};
 ghost use lib.ListN.{length};
 ghost use Rattle.tidy_speeds_entries.specs.LaidSpeeds.{LaidSpeeds};
-ghost use Rattle.assembly_speeds.specs.AssembledSpeeds.{SpeedsAssembled, speedsRoomNumber, speedsLater, narrowedSpeeds, sameLengths, eachSpeed, SpeedsUntested};
+ghost use Rattle.assembly_speeds.specs.AssembledSpeeds.{SpeedsAssembled, speedsRoomNumber, speedsLater, sameLengths, eachSpeed, SpeedsUntested};
+ghost use Rattle.assembly_speeds.specs.inside.NarrowedSpeeds.{narrowedSpeeds};
 
 // A result of four columns as f32: its first entries over the fronts of the rooms, or the number it was refused by, or 7 where the rooms are too short.
 fn lay_narrowed(

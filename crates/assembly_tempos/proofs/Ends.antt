@@ -12,7 +12,8 @@ use Rattle.columns.specs.Laying.{LaidList}
 use Rattle.columns.proofs.Rooms.{list-refused}
 use Rattle.process_raw.specs.RawLists.{roomFor}
 use Rattle.process.specs.ByFormat.{Lists}
-use Rattle.assembly_tempos.specs.AssembledTempos.{assembledTempos, assembledStops, assembledWarps, verdict, threeRooms, ThreeLaid, nothingAssembled}
+use Rattle.assembly_tempos.specs.AssembledTempos.{assembledTempos, assembledStops, assembledWarps, verdict, threeRooms, ThreeLaid}
+use Rattle.assembly_tempos.specs.inside.Refusal.{nothingAssembled}
 
 -- ---- the number, test after test
 pub by-raw : (raw warps most later : ℕ) → (raw ≡ 0 → ⊥) → raw ≡ verdict raw warps most later

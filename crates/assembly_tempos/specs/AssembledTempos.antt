@@ -59,7 +59,3 @@ pub record ThreeLaid (raw later most : ℕ) (lists : Lists) (outcome : Assembled
   pub stopsLaid : LaidList (outcome .number) (assembledStops lists) (outcome .stops) stopBeatsOld stopBeatsNew stopValuesOld stopValuesNew
   pub warpsLaid : LaidList (outcome .number) (assembledWarps lists) (outcome .warps) warpBeatsOld warpBeatsNew warpLengthsOld warpLengthsNew
   pub offsetIs : outcome .offset ≡ pick (eqb (outcome .number) 0) (narrow (lists .offset)) plusZero
-
--- the outcome of a refusal
-abbrev pub nothingAssembled : ℕ → AssembledTempos
-nothingAssembled number = record { number = number; tempos = 0; stops = 0; warps = 0; offset = plusZero }

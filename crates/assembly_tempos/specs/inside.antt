@@ -1,1 +1,2 @@
 pub mod ProcessedColumns
+pub mod Refusal

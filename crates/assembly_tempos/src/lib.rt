@@ -16,7 +16,8 @@ ghost use Rattle.tidy_rows.specs.RowTidying.{rowsNumber};
 ghost use Rattle.assembly_rows.specs.AssembledRows.{RowsUntested};
 ghost use Rattle.limits.specs.Refusals.{lower};
 ghost use Rattle.assembly_warps.specs.MergedWarps.{threeNumber, mergedLists};
-ghost use Rattle.assembly_tempos.specs.AssembledTempos.{threeRooms, ThreeLaid, nothingAssembled};
+ghost use Rattle.assembly_tempos.specs.AssembledTempos.{threeRooms, ThreeLaid};
+ghost use Rattle.assembly_tempos.specs.inside.Refusal.{nothingAssembled};
 ghost use Rattle.assembly_tempos.specs.inside.ProcessedColumns.{heldF32, Held, Processed, listsOf, WorkRooms};
 
 // The refusal number of all lists, 0 where they are taken, how many entries of each list were written, and the seconds that beat 0 is moved by.

@@ -25,7 +25,8 @@ use Rattle.process_raw.specs.declared.Processed.{Processed}
 use Rattle.process_raw.specs.RawLists.{rawNumbers, roomFor, processedNothing}
 use Rattle.process.specs.ByFormat.{Lists, ListsLaid}
 use Rattle.process_sm_lent.proofs.Ends.{by-tests, for-stops, for-warps}
-use Rattle.assembly_warps.specs.MergedWarps.{orNoRoom, behindGiven}
+use Rattle.assembly_warps.specs.inside.OrNoRoom.{orNoRoom}
+use Rattle.assembly_warps.specs.MergedWarps.{behindGiven}
 
 -- ---- the number
 

@@ -1,1 +1,2 @@
 pub mod MergedWarps
+pub mod inside

@@ -1,10 +1,7 @@
 -- Tempos and stops processed, with the warps that they make behind the warps that are given. Definitions only.
 use Prim.Native.Nat.{ℕ}
 use mathlib.Core.List.{List, _++_}
-use lib.Dec.{eqb}
 use lib.Ieee.{Float}
-use Rattle.limits.specs.Table.{noRoom}
-use Rattle.picks.specs.Pick.{pick}
 use Rattle.limits.specs.declared.Kind.the-variants.{Beat, Value}
 use Rattle.limits.specs.Numbers.{rangeOf}
 use Rattle.limits.specs.Refusals.{lower, listNumber}
@@ -22,10 +19,6 @@ warpsNumber beats lengths = listNumber (rangeOf Beat) (rangeOf Value) beats leng
 abbrev pub threeNumber : (tempoBeats tempoValues stopBeats stopValues warpBeats warpLengths : List Float) → ℕ
 threeNumber tempoBeats tempoValues stopBeats stopValues warpBeats warpLengths =
     lower (rawNumbers tempoBeats tempoValues stopBeats stopValues) (warpsNumber warpBeats warpLengths)
-
--- the number of a refusal, for want of room where there is no other reason
-unfoldable pub orNoRoom : ℕ → ℕ
-orNoRoom number = pick (eqb number 0) noRoom number
 
 -- warps that are given come before those that are made
 abbrev pub behindGiven : List Float → List Float → Lists → Lists

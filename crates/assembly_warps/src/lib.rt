@@ -5,7 +5,8 @@ use process_raw::Processed;
 ghost use mathlib.Core.Path.{_≡_};
 ghost use Rattle.limits.specs.Refusals.{lower};
 ghost use Rattle.process_raw.specs.RawLists.{rawNumbers, processedNothing};
-ghost use Rattle.assembly_warps.specs.MergedWarps.{orNoRoom, MergedBy};
+ghost use Rattle.assembly_warps.specs.inside.OrNoRoom.{orNoRoom};
+ghost use Rattle.assembly_warps.specs.MergedWarps.{MergedBy};
 
 // Where the given warps are refused, or have no room: the lowest number of the three lists, and 7 where they are taken.
 fn refuse(

@@ -1,5 +1,5 @@
 -- The row store: the rows of stops, delays, warps and fakes, one part behind another. Definitions only.
-use Prim.Native.Nat.{ℕ, _+_}
+use Prim.Native.Nat.{ℕ}
 use mathlib.Core.Bool.{Bool, true, false}
 use mathlib.Core.List.{List, [], _∷_, _++_}
 use mathlib.Core.Path.{_≡_}
@@ -9,7 +9,6 @@ use lib.Ieee.{Float, binary32, lt}
 use Rattle.ieee.specs.Constants.{plusZero}
 use Rattle.picks.specs.Pick.{pick}
 use Rattle.rows.specs.Rows.{row}
-use Rattle.limits.specs.declared.Kind.{Kind}
 use Rattle.limits.specs.declared.Kind.the-variants.{Beat, Pause, Value}
 use Rattle.limits.specs.Numbers.{rangeOf}
 use Rattle.limits.specs.Refusals.{lower, listNumber}
@@ -32,9 +31,6 @@ givenRows pauses (beat ∷ beats) (value ∷ values) =
 -- a list's part of the store: its rows in rising order, those of pauses without repeats
 unfoldable pub storePart : Bool → List Float → List Float → List ℤ
 storePart pauses beats values = pick pauses (tidied rowKey (givenRows pauses beats values)) (ordered rowKey (givenRows pauses beats values))
-
-abbrev pub storeRefusedBy : ℕ → Stored
-storeRefusedBy number = record { number = number; stops = 0; delays = 0; warps = 0; fakes = 0 }
 
 -- ---- the call: the columns of the four lists, and the room for all rows
 module _ (stopBeats stopValues delayBeats delayValues warpBeats warpLengths fakeBeats fakeLengths : List Float) where

@@ -13,7 +13,8 @@ use lib.Seq.{drop-cons}
 use lib.Ieee.{Float, nan}
 use Rattle.picks.specs.Pick.{pick}
 use Rattle.order.proofs.Compare.{below?}
-use Rattle.lookup_tests.specs.Refused.{keyOf, isBelow, rowsRise, keyAt, countNotAbove}
+use Rattle.lookup_tests.specs.Refused.{keyOf, isBelow, rowsRise, keyAt}
+use Rattle.lookup_tests.specs.inside.CountNotAbove.{countNotAbove}
 
 pub never : {A : Type 0} → false ≡ true → A
 never e = let z : _≡_ {A = ℕ} 0 1 = ap (λ (t : Bool). pick t 1 0) e in absurd (omega arith)

@@ -22,10 +22,6 @@ keyOf beat = rowKey (row binary32 beat)
 abbrev pub keyAt : List Float → ℕ → ℕ
 keyAt beats place = keyOf (getD beats place nan)
 
--- 1 where the row of a beat is not above the row of the beat before it
-abbrev pub countNotAbove : Float → Float → ℕ
-countNotAbove before beat = pick (ltb (keyOf before) (keyOf beat)) 0 1
-
 -- each row is above the one before it
 unfoldable pub isBelow : Float → List Float → Bool
 isBelow beat [] = true

@@ -2,7 +2,8 @@
 use limits::Kind;
 ghost use mathlib.Core.Path.{_≡_};
 ghost use Rattle.limits.specs.Numbers.{rangeOf, every, miss, rowIn};
-ghost use Rattle.lookup_tests.specs.Refused.{keyOf, countNotAbove, rowsRise, risingNumber, askedNumber, warpNumber, fakeNumber, judgableNumber};
+ghost use Rattle.lookup_tests.specs.Refused.{keyOf, rowsRise, risingNumber, askedNumber, warpNumber, fakeNumber, judgableNumber};
+ghost use Rattle.lookup_tests.specs.inside.CountNotAbove.{countNotAbove};
 
 // ---- rows that rise
 

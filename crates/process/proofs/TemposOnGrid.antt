@@ -53,7 +53,8 @@ use Rattle.process_sm_laws.proofs.WrittenInOrder.{all-behind}
 use Rattle.process_sm_laws.proofs.ChangesTaken.{changes-good, changes-most, in-order, on-beats, tempos-in}
 use Rattle.process_sm_laws.proofs.ArrowsKeepBounds.{WarpWithin, Within}
 use Rattle.process_sm_laws.proofs.WalkWithin.{Along, all-states}
-use Rattle.process_sm_laws.specs.Beats.{Beat, beatKey, at, spot}
+use Rattle.process_sm_laws.specs.Beats.{Beat, beatKey}
+use Rattle.process_sm_laws.specs.inside.Keys.{at, spot}
 use Rattle.process_sm_laws.proofs.BeatsOnRows.{at-le, spot-mono}
 use Rattle.process.proofs.ChangesF32.{F32, ValueF32, changes-f32}
 use Rattle.process.proofs.StopsOnRows.{OnItsRow, on-its-row}

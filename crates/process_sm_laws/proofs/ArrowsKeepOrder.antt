@@ -22,7 +22,8 @@ use Rattle.process_sm_machine.specs.declared.Moved.{Moved}
 use Rattle.process_sm_machine.proofs.Either.{either}
 use Rattle.process_sm_machine.specs.Machine.{fits, entryAt, warpOver, tempoAfter, still, openChart, owedAt, settledAt, keepWarp, closeByTime, passInWarp, passBy, pass, tempoOutside, tempoBy, meetTempo, stopOutside, closeByStop, beginAgain, stopInWarp, stopBy, meetStop, meet, warpEndOf, finishWarp, finishBy, finish}
 use Rattle.process_sm_walk.specs.Chart.{writtenList}
-use Rattle.process_sm_laws.specs.Beats.{Beat, beatKey, at, spot}
+use Rattle.process_sm_laws.specs.Beats.{Beat, beatKey}
+use Rattle.process_sm_laws.specs.inside.Keys.{at, spot}
 use Rattle.process_sm_laws.proofs.BeatsOnRows.{spot-mono}
 use Rattle.process_sm_laws.proofs.Segments.{Segment, none-between, one-between}
 

@@ -17,7 +17,8 @@ use Rattle.rows.proofs.RowsKeepOrder.{row-mono}
 use Rattle.rows.proofs.BeatsRise.{beat-order}
 use Rattle.rows.proofs.Quantizing.{quantized32-allowed}
 use Rattle.order.proofs.FloatKeys.{floats-below, floats-at-most}
-use Rattle.process_sm_laws.specs.Beats.{Beat, at, spot}
+use Rattle.process_sm_laws.specs.Beats.{Beat}
+use Rattle.process_sm_laws.specs.inside.Keys.{at, spot}
 
 allowed-number : (x : Float) → T (allowedBeat x) → T (not (isNan x))
 allowed-number x h = finite-number x (within-finite 16 x h)

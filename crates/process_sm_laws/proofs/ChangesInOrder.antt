@@ -18,7 +18,8 @@ use Rattle.process_sm_machine.specs.declared.Change.{Change}
 use Rattle.process_sm_machine.specs.Machine.{beatAt}
 use Rattle.process_sm_walk.specs.Changes.{tempoOf, stopOf, weave, mergedChanges}
 use Rattle.process_sm_walk.specs.Chart.{temposBy0, stopsBefore}
-use Rattle.process_sm_laws.specs.Beats.{Beat, beatKey, at}
+use Rattle.process_sm_laws.specs.Beats.{Beat, beatKey}
+use Rattle.process_sm_laws.specs.inside.Keys.{at}
 use Rattle.process_sm_laws.proofs.BeatsOnRows.{at-le, at-lt}
 
 abbrev pub changeKey : Change → ℕ

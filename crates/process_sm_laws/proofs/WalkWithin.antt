@@ -26,7 +26,8 @@ use Rattle.process_sm_machine.proofs.Either.{either}
 use Rattle.process_sm_machine.proofs.Reached.{pass-reaches, meet-stays}
 use Rattle.process_sm_walk.specs.Changes.{tempoOf, stopOf, weave, mergedChanges, changesLeft}
 use Rattle.process_sm_walk.specs.Chart.{writtenList, walkChanges, firstTempo, temposBy0, stopsBefore, openingTempo, openingPlaces, processed}
-use Rattle.process_sm_laws.specs.Beats.{Beat, beatKey, at}
+use Rattle.process_sm_laws.specs.Beats.{Beat, beatKey}
+use Rattle.process_sm_laws.specs.inside.Keys.{at}
 use Rattle.process_sm_laws.proofs.BeatsOnRows.{at-le}
 use Rattle.process_sm_laws.proofs.Segments.{each-append}
 use Rattle.process_sm_laws.proofs.ChangesInOrder.{changeKey, Beats, each-merged, rises-merged, each-drop, rises-drop, after-opening}

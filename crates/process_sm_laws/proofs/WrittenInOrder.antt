@@ -16,7 +16,8 @@ use Rattle.process_sm_machine.specs.Machine.{openChart, beatAt, timePassed, met
 use Rattle.process_sm_machine.proofs.Reached.{pass-reaches, meet-stays}
 use Rattle.process_sm_walk.specs.Changes.{tempoOf, stopOf, changesLeft}
 use Rattle.process_sm_walk.specs.Chart.{walkChanges, firstTempo, lastTempo, temposBy0, stopsBefore, openingTempo, openingPlaces, processed}
-use Rattle.process_sm_laws.specs.Beats.{Beat, beatKey, at}
+use Rattle.process_sm_laws.specs.Beats.{Beat, beatKey}
+use Rattle.process_sm_laws.specs.inside.Keys.{at}
 use Rattle.process_sm_laws.proofs.Segments.{one-behind-other, each-append}
 use Rattle.process_sm_laws.proofs.ArrowsKeepOrder.{Good, OnRow, OneOf, Behind, Fair, ChangeIn, fair-opening, fair-pass, fair-meet, fair-finish}
 use Rattle.process_sm_laws.proofs.ChangesInOrder.{changeKey, Beats, each-merged, rises-merged, each-drop, rises-drop, beat-naught, after-opening}

@@ -2,7 +2,7 @@
 use Prim.Native.Nat.{ℕ}
 use lib.Dec.{T}
 use lib.Ieee.{Float, Format, binary32, fits}
-use Rattle.rows.specs.Rows.{quantized32, allowedBeat}
+use Rattle.rows.specs.Rows.{allowedBeat}
 use Rattle.order.specs.FloatKey.{floatKey}
 
 -- an f32 of at most 65,536 in size
@@ -13,10 +13,3 @@ pub record Beat (x : Float) : Type 0 where
 -- the key of an entry's beat, at the width f
 abbrev pub beatKey : Format → Float × Float → ℕ
 beatKey f e = floatKey f (e .0)
-
--- the key of a beat that is given, and of the row's beat that is written for it
-abbrev pub at : Float → ℕ
-at beat = floatKey binary32 beat
-
-abbrev pub spot : Format → Float → ℕ
-spot f beat = floatKey f (quantized32 beat)

@@ -1,2 +1,3 @@
 pub mod Beats
 pub mod PauseInWarp
+pub mod inside

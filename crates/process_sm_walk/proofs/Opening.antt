@@ -11,7 +11,8 @@ use lib.Ieee.{Float, binary32, sub, lt, le, eq, nan}
 use Rattle.ieee.specs.Constants.{plusZero32, sixty32}
 use Rattle.picks.specs.Pick.{pick}
 use Rattle.order.specs.Entries.{entries}
-use Rattle.process_sm_walk.specs.Chart.{takenOff, stopsBefore, firstValue, firstTempo, lastTempo, temposBy0, TemposNumbers}
+use Rattle.process_sm_walk.specs.Chart.{takenOff, stopsBefore, firstTempo, lastTempo, temposBy0, TemposNumbers}
+use Rattle.process_sm_walk.specs.inside.Opening.{firstValue}
 use Rattle.process_sm_walk.proofs.NextChange.{at, entries-from, entries-end}
 
 pub first-is : (beats values : List Float) → length beats ≡ length values → firstTempo (entries beats values) ≡ firstValue values

@@ -1,5 +1,5 @@
 -- SM processing of tempos and stops that are narrowed to f32 and in order: the opening, the walk over the changes, the end. Definitions only.
-use Prim.Native.Nat.{ℕ, suc, _+_, max}
+use Prim.Native.Nat.{ℕ, suc, max}
 use mathlib.Core.Bool.{true}
 use mathlib.Core.List.{List, [], _∷_, _++_}
 use mathlib.Core.Path.{_≡_}
@@ -62,10 +62,6 @@ stopsBefore [] = 0
 stopsBefore (stop ∷ stops) = pick (lt (stop .0) plusZero32) (suc (stopsBefore stops)) 0
 
 -- the tempo at the opening: of those up to beat 0 the last; where there is none the first of all; where there is none at all 60
-abbrev pub firstValue : List Float → Float
-firstValue [] = sixty32
-firstValue (value ∷ values) = value
-
 abbrev pub firstTempo : List (Float × Float) → Float
 firstTempo [] = sixty32
 firstTempo (tempo ∷ tempos) = tempo .1

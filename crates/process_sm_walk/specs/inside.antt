@@ -1,4 +1,5 @@
 pub mod NextChange
 pub mod NoWarp
+pub mod Opening
 pub mod Rooms
 pub mod Written

@@ -7,12 +7,8 @@ use Rattle.ieee.specs.Constants.{plusZero}
 use Rattle.tidy_rows.specs.RowTidying.{rowKeyAt}
 use Rattle.tidy_kept.specs.Passing.{Waiting, stillWritten}
 use Rattle.columns.specs.declared.Outcome.{Outcome}
-use Rattle.tidy_speeds_entries.specs.Speed.{SpeedValue, SpeedEntry, speedValueOf, nearSpeed, noSpeed, speedEntries, speedOnRow}
+use Rattle.tidy_speeds_entries.specs.Speed.{SpeedValue, SpeedEntry, nearSpeed, noSpeed, speedEntries, speedOnRow}
 use Rattle.tidy_speeds_entries.specs.LaidSpeeds.{LaidSpeeds}
-use Rattle.tidy_speeds_ordered.specs.declared.Held.{Held}
-
-abbrev pub speedWaiting : Held → Waiting Float SpeedValue
-speedWaiting s = record { before = speedValueOf (s .before); waits = s .waits; row = s .row; beat = s .beat; value = speedValueOf (s .value) }
 
 -- before the first entry
 abbrev pub noSpeedHeld : Waiting Float SpeedValue

@@ -14,7 +14,8 @@ ghost use Rattle.tidy_kept.specs.Passing.{comes, entryPassed};
 ghost use Rattle.tidy_speeds_entries.specs.Speed.{speedValueOf, nearSpeed, noSpeed, speedEntries, speedOnRow};
 ghost use Rattle.tidy_speeds_entries.specs.LaidSpeeds.{leastOf};
 ghost use Rattle.tidy_speeds_entries.specs.inside.LaidRooms.{LaidRooms};
-ghost use Rattle.tidy_speeds_ordered.specs.OrderedSpeeds.{speedWaiting, noSpeedHeld, keptSpeeds, OrderedTidied};
+ghost use Rattle.tidy_speeds_ordered.specs.inside.Waiting.{speedWaiting};
+ghost use Rattle.tidy_speeds_ordered.specs.OrderedSpeeds.{noSpeedHeld, keptSpeeds, OrderedTidied};
 
 // The speed written last, and the entry that waits to be written, if one does.
 struct Held {

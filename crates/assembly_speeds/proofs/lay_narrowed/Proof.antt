@@ -11,7 +11,7 @@ use Rattle.ieee.specs.Narrowing.{narrow}
 use Rattle.order.specs.Order.{laid}
 use Rattle.tidy_speeds_entries.specs.LaidSpeeds.{leastOf}
 use Rattle.tidy_speeds_entries.proofs.Rooms.{refused-by-tests, refused-for-room, taken}
-use Rattle.assembly_speeds.specs.AssembledSpeeds.{narrowedSpeeds}
+use Rattle.assembly_speeds.specs.inside.NarrowedSpeeds.{narrowedSpeeds}
 use Rattle.assembly_speeds.proofs.NarrowedSpeeds.{least-within, lesser-within, laid-front, front-length, front-beats, front-ratios, front-delays, front-units}
 use borrow.Author.Needs.{needs}
 use Rattle.assembly_speeds.proofs.lay_narrowed.Statement.{statement}

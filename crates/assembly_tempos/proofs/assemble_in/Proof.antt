@@ -7,7 +7,7 @@ use Rattle.limits.specs.Refusals.{lower}
 use Rattle.limits.proofs.NoRefusal.{lower-none}
 use Rattle.order.specs.Entries.{first, second}
 use Rattle.assembly_warps.specs.MergedWarps.{threeNumber, mergedLists}
-use Rattle.assembly_tempos.specs.AssembledTempos.{nothingAssembled}
+use Rattle.assembly_tempos.specs.inside.Refusal.{nothingAssembled}
 use Rattle.assembly_tempos.proofs.Ends.{raw-refused}
 use Rattle.assembly_tempos.proofs.WorkColumns.{Fronts, number-is, fronts, as-read, inside, processed-columns, tempos-held, stops-held}
 use borrow.Author.Needs.{needs}

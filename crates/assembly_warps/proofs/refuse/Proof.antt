@@ -1,6 +1,6 @@
 -- `assembly_warps::refuse` answers the lowest number of the three lists, or 7. Assumes nothing.
 use borrow.Author.Tests.{eq-eqb, ne-eqb}
-use Rattle.assembly_warps.specs.MergedWarps.{orNoRoom}
+use Rattle.assembly_warps.specs.inside.OrNoRoom.{orNoRoom}
 use borrow.Author.Needs.{needs}
 use Rattle.assembly_warps.proofs.refuse.Statement.{statement}
 use Rattle.assembly_warps.proofs.refuse.Tie as tie

@@ -7,7 +7,8 @@ use lib.ListN.{length, drop}
 use Rattle.tidy_rows.specs.RowTidying.{rowKeyAt}
 use Rattle.tidy_kept.specs.Passing.{stillWritten}
 use Rattle.tidy_speeds_entries.specs.Speed.{speedValueOf, nearSpeed, speedEntries}
-use Rattle.tidy_speeds_ordered.specs.OrderedSpeeds.{speedWaiting, noSpeedHeld, keptSpeeds}
+use Rattle.tidy_speeds_ordered.specs.inside.Waiting.{speedWaiting}
+use Rattle.tidy_speeds_ordered.specs.OrderedSpeeds.{noSpeedHeld, keptSpeeds}
 use Rattle.tidy_speeds_ordered.proofs.Turns.{speed-writes, speed-waits, ends-waiting, ends}
 use Rattle.tidy_speeds_entries.proofs.SpeedsLaid.{LayingSpeeds, speeds-none, speeds-same, speeds-room, speeds-more, speeds-count, speeds-all}
 use borrow.Author.Needs.{needs}

@@ -5,7 +5,7 @@ use lib.Ieee.{Float}
 use Rattle.tidy_rows.specs.RowTidying.{rowKeyAt}
 use Rattle.tidy_kept.proofs.PassTurns.{passed-later, passed-away, passed-by, passed-over, passed-alone}
 use Rattle.tidy_speeds_entries.specs.Speed.{SpeedValue, speedValueOf, nearSpeed}
-use Rattle.tidy_speeds_ordered.specs.OrderedSpeeds.{speedWaiting}
+use Rattle.tidy_speeds_ordered.specs.inside.Waiting.{speedWaiting}
 use borrow.Author.Needs.{needs}
 use Rattle.tidy_speeds_ordered.proofs.pass.Statement.{statement}
 use Rattle.tidy_speeds_ordered.proofs.pass.Tie as tie
