@@ -19,7 +19,7 @@ use Rattle.process_raw.specs.RawLists.{roomFor}
 use Rattle.tidy_speeds_entries.specs.Speed.{SpeedEntry}
 use Rattle.tidy_speeds_entries.specs.LaidSpeeds.{leastOf, LaidSpeeds}
 use Rattle.tidy_speeds.specs.SpeedTidying.{speedListNumber}
-use Rattle.process.specs.ByFormat.{Lists}
+use Rattle.process.specs.ByFormat.{ThreeLists}
 use Rattle.assembly_rows.specs.AssembledRows.{changeBy, assembledRows, RowsUntested, rowsFit}
 use Rattle.assembly_rows.proofs.QuantizedTaken.{quantized-taken}
 use Rattle.assembly_rows.proofs.Untested.{untested-taken}
@@ -61,7 +61,7 @@ none-refused raw warps most later h = go (eqb raw 0) (leb warps (min most 1024))
     go false u a k = let z : _≡_ {A = Bool} true false = sym (eq-eqb raw 0 k) ∙ a in let w : _≡_ {A = ℕ} 0 1 = cc in absurd (omega arith)
 
 -- what comes later counts only where the raw lists are taken
-pub same-later : {raw later later′ most : ℕ} {lists : Lists} {outcome : AssembledTempos} {tempoBeatsOld tempoBeatsNew tempoValuesOld tempoValuesNew stopBeatsOld stopBeatsNew stopValuesOld stopValuesNew warpBeatsOld warpBeatsNew warpLengthsOld warpLengthsNew : List Float} → (raw ≡ 0 → later ≡ later′)
+pub same-later : {raw later later′ most : ℕ} {lists : ThreeLists} {outcome : AssembledTempos} {tempoBeatsOld tempoBeatsNew tempoValuesOld tempoValuesNew stopBeatsOld stopBeatsNew stopValuesOld stopValuesNew warpBeatsOld warpBeatsNew warpLengthsOld warpLengthsNew : List Float} → (raw ≡ 0 → later ≡ later′)
     → ThreeLaid raw later most lists outcome tempoBeatsOld tempoBeatsNew tempoValuesOld tempoValuesNew stopBeatsOld stopBeatsNew stopValuesOld stopValuesNew warpBeatsOld warpBeatsNew warpLengthsOld warpLengthsNew
     → ThreeLaid raw later′ most lists outcome tempoBeatsOld tempoBeatsNew tempoValuesOld tempoValuesNew stopBeatsOld stopBeatsNew stopValuesOld stopValuesNew warpBeatsOld warpBeatsNew warpLengthsOld warpLengthsNew
 unfolding verdict
@@ -137,13 +137,13 @@ rows-laid whole beats values {outcome} {beatsOld} {beatsNew} {valuesOld} {values
 
 -- ---- what tempos, stops and warps answer is the number of all
 
-module _ (three other′ later′ : ℕ) {other later most : ℕ} {lists : Lists} {outcome : AssembledTempos} {tempoBeatsOld tempoBeatsNew tempoValuesOld tempoValuesNew stopBeatsOld stopBeatsNew stopValuesOld stopValuesNew warpBeatsOld warpBeatsNew warpLengthsOld warpLengthsNew : List Float} where
+module _ (three other′ later′ : ℕ) {other later most : ℕ} {lists : ThreeLists} {outcome : AssembledTempos} {tempoBeatsOld tempoBeatsNew tempoValuesOld tempoValuesNew stopBeatsOld stopBeatsNew stopValuesOld stopValuesNew warpBeatsOld warpBeatsNew warpLengthsOld warpLengthsNew : List Float} where
   pub as-asked : other ≡ other′ → (other′ ≡ 0 → later ≡ later′)
       → ThreeLaid (lower three other) later most lists outcome tempoBeatsOld tempoBeatsNew tempoValuesOld tempoValuesNew stopBeatsOld stopBeatsNew stopValuesOld stopValuesNew warpBeatsOld warpBeatsNew warpLengthsOld warpLengthsNew
       → ThreeLaid (lower three other′) later′ most lists outcome tempoBeatsOld tempoBeatsNew tempoValuesOld tempoValuesNew stopBeatsOld stopBeatsNew stopValuesOld stopValuesNew warpBeatsOld warpBeatsNew warpLengthsOld warpLengthsNew
   as-asked e h p = same-later (λ z. h (lower-none three other′ z .1)) (rw e at p)
 
-module _ {raw later most : ℕ} {lists : Lists} {outcome : AssembledTempos} {tempoBeatsOld tempoBeatsNew tempoValuesOld tempoValuesNew stopBeatsOld stopBeatsNew stopValuesOld stopValuesNew warpBeatsOld warpBeatsNew warpLengthsOld warpLengthsNew : List Float}
+module _ {raw later most : ℕ} {lists : ThreeLists} {outcome : AssembledTempos} {tempoBeatsOld tempoBeatsNew tempoValuesOld tempoValuesNew stopBeatsOld stopBeatsNew stopValuesOld stopValuesNew warpBeatsOld warpBeatsNew warpLengthsOld warpLengthsNew : List Float}
     (p : ThreeLaid raw later most lists outcome tempoBeatsOld tempoBeatsNew tempoValuesOld tempoValuesNew stopBeatsOld stopBeatsNew stopValuesOld stopValuesNew warpBeatsOld warpBeatsNew warpLengthsOld warpLengthsNew) (taken : outcome .number ≡ 0) where
   pub taken-part : ThreeLaid raw later most lists (record { number = 0; tempos = outcome .tempos; stops = outcome .stops; warps = outcome .warps; offset = outcome .offset }) tempoBeatsOld tempoBeatsNew tempoValuesOld tempoValuesNew stopBeatsOld stopBeatsNew stopValuesOld stopValuesNew warpBeatsOld warpBeatsNew warpLengthsOld warpLengthsNew
   taken-part = record {

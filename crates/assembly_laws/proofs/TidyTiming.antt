@@ -22,7 +22,7 @@ use Rattle.stops_for_sm.specs.Merging.{sources}
 use Rattle.stops_for_sm.specs.Filling as filling
 use Rattle.stops_for_sm.specs.Filling.{flat}
 use Rattle.chart.specs.declared.TimingFormat.{TimingFormat}
-use Rattle.process.specs.ByFormat.{Lists}
+use Rattle.process.specs.ByFormat.{ThreeLists}
 use Rattle.assembly_warps.specs.MergedWarps.{warpsNumber, threeNumber, mergedLists}
 use Rattle.assembly_rows.specs.AssembledRows.{changeBy, assembledRows}
 use Rattle.assembly_rows.proofs.QuantizedTaken.{quantized-taken}
@@ -44,7 +44,7 @@ fakes-tidy beats lengths h = lengths-tidy (changeBy true) beats lengths (quantiz
 
 -- ---- lists that are processed first: raw lists that are taken, and no more warps than a list may have
 module _ (format : TimingFormat) (tempoBeats tempoValues stopBeats stopValues warpBeats warpLengths : List Float) (taken : threeNumber tempoBeats tempoValues stopBeats stopValues warpBeats warpLengths ≡ 0) where
-  abbrev lists : Lists
+  abbrev lists : ThreeLists
   lists = mergedLists format tempoBeats tempoValues stopBeats stopValues warpBeats warpLengths
 
   -- stops are on rows, so that quantising them again changes nothing

@@ -11,7 +11,7 @@ use Rattle.limits.specs.Refusals.{lower}
 use Rattle.columns.specs.Laying.{LaidList}
 use Rattle.columns.proofs.Rooms.{list-refused}
 use Rattle.process_raw.specs.RawLists.{roomFor}
-use Rattle.process.specs.ByFormat.{Lists}
+use Rattle.process.specs.ByFormat.{ThreeLists}
 use Rattle.assembly_tempos.specs.AssembledTempos.{assembledTempos, assembledStops, assembledWarps, verdict, threeRooms, ThreeLaid}
 use Rattle.assembly_tempos.specs.inside.Refusal.{nothingAssembled}
 
@@ -28,7 +28,7 @@ pub by-later : (raw warps most later : ℕ) → raw ≡ 0 → warps ≤ min most
 unfolding verdict
 by-later raw warps most later h l = rw (eq-eqb raw 0 h, le-leb warps (min most 1024) l)
 
-module _ (raw later most : ℕ) (lists : Lists) {tempoBeatsOld tempoValuesOld stopBeatsOld stopValuesOld warpBeatsOld warpLengthsOld : List Float} where
+module _ (raw later most : ℕ) (lists : ThreeLists) {tempoBeatsOld tempoValuesOld stopBeatsOld stopValuesOld warpBeatsOld warpLengthsOld : List Float} where
   refused : {number : ℕ} → (number ≡ 0 → ⊥)
       → number ≡ verdict raw (length (lists .warps)) most (lower later (threeRooms lists (roomFor tempoBeatsOld tempoValuesOld) (roomFor stopBeatsOld stopValuesOld) (roomFor warpBeatsOld warpLengthsOld)))
       → ThreeLaid raw later most lists (nothingAssembled number) tempoBeatsOld tempoBeatsOld tempoValuesOld tempoValuesOld stopBeatsOld stopBeatsOld stopValuesOld stopValuesOld warpBeatsOld warpBeatsOld warpLengthsOld warpLengthsOld

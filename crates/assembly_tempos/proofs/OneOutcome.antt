@@ -4,11 +4,11 @@ use mathlib.Core.Path.{_≡_, sym}
 use mathlib.Core.List.{List}
 use lib.Ieee.{Float}
 use Rattle.columns.proofs.OneOutcome.{one-list}
-use Rattle.process.specs.ByFormat.{Lists}
+use Rattle.process.specs.ByFormat.{ThreeLists}
 use Rattle.assembly_tempos.specs.declared.AssembledTempos.{AssembledTempos}
 use Rattle.assembly_tempos.specs.AssembledTempos.{ThreeLaid}
 
-pub one-outcome : {raw later most : ℕ} {lists : Lists} {a b : AssembledTempos}
+pub one-outcome : {raw later most : ℕ} {lists : ThreeLists} {a b : AssembledTempos}
     {tempoBeatsOld tempoBeatsA tempoBeatsB tempoValuesOld tempoValuesA tempoValuesB stopBeatsOld stopBeatsA stopBeatsB stopValuesOld stopValuesA stopValuesB warpBeatsOld warpBeatsA warpBeatsB warpLengthsOld warpLengthsA warpLengthsB : List Float}
     → ThreeLaid raw later most lists a tempoBeatsOld tempoBeatsA tempoValuesOld tempoValuesA stopBeatsOld stopBeatsA stopValuesOld stopValuesA warpBeatsOld warpBeatsA warpLengthsOld warpLengthsA
     → ThreeLaid raw later most lists b tempoBeatsOld tempoBeatsB tempoValuesOld tempoValuesB stopBeatsOld stopBeatsB stopValuesOld stopValuesB warpBeatsOld warpBeatsB warpLengthsOld warpLengthsB

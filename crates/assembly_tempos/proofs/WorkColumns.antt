@@ -22,7 +22,7 @@ use Rattle.process_raw.specs.RawLists.{rawNumbers, roomFor}
 use Rattle.process_raw.proofs.BothTaken.{both-taken}
 use Rattle.process_sm_laws.proofs.ChangesTaken.{same-columns}
 use Rattle.chart.specs.declared.TimingFormat.{TimingFormat}
-use Rattle.process.specs.ByFormat.{Lists, ListsLaid, processedLists}
+use Rattle.process.specs.ByFormat.{ThreeLists, ListsLaid, processedLists}
 use Rattle.process.specs.ListsTaken.{ListsTaken}
 use Rattle.process.proofs.ListsTaken.{lists-taken}
 use Rattle.process.proofs.TidiedOnGrid.{tempos-on-rows}
@@ -44,7 +44,7 @@ front-columns {list} {count} {firstOld} {firstNew} {secondOld} {secondNew} l = (
   rw (l .secondIs) (front-laid (map second list) secondOld count (l .counted ∙ sym (length-map list second))),
 )
 
-pub record Fronts (lists : Lists) (outcome : raw.Processed) (tempoBeats tempoValues stopBeats stopValues warpBeats warpLengths : List Float) : Type 0 where
+pub record Fronts (lists : ThreeLists) (outcome : raw.Processed) (tempoBeats tempoValues stopBeats stopValues warpBeats warpLengths : List Float) : Type 0 where
   pub tempoBeatsAre : take (outcome .tempos) tempoBeats ≡ map first (lists .tempos)
   pub tempoValuesAre : take (outcome .tempos) tempoValues ≡ map second (lists .tempos)
   pub stopBeatsAre : take (outcome .stops) stopBeats ≡ map first (lists .stops)
@@ -56,7 +56,7 @@ pub record Fronts (lists : Lists) (outcome : raw.Processed) (tempoBeats tempoVal
   pub stopsFit : outcome .stops ≡ length (lists .stops)
   pub warpsFit : outcome .warps ≡ length (lists .warps)
 
-module _ {number : ℕ} {lists : Lists} {outcome : raw.Processed} {tempoBeatsOld tempoBeatsNew tempoValuesOld tempoValuesNew stopBeatsOld stopBeatsNew stopValuesOld stopValuesNew warpBeatsOld warpBeatsNew warpLengthsOld warpLengthsNew : List Float}
+module _ {number : ℕ} {lists : ThreeLists} {outcome : raw.Processed} {tempoBeatsOld tempoBeatsNew tempoValuesOld tempoValuesNew stopBeatsOld stopBeatsNew stopValuesOld stopValuesNew warpBeatsOld warpBeatsNew warpLengthsOld warpLengthsNew : List Float}
     (p : ListsLaid number lists outcome tempoBeatsOld tempoBeatsNew tempoValuesOld tempoValuesNew stopBeatsOld stopBeatsNew stopValuesOld stopValuesNew warpBeatsOld warpBeatsNew warpLengthsOld warpLengthsNew) where
   -- where there is room, the number is that of the tests
   pub number-is : WorkRooms number lists tempoBeatsOld tempoValuesOld stopBeatsOld stopValuesOld warpBeatsOld warpLengthsOld → outcome .number ≡ number
@@ -83,7 +83,7 @@ module _ {number : ℕ} {lists : Lists} {outcome : raw.Processed} {tempoBeatsOld
         warpsFit = w .counted;
       }
 
-module _ {lists : Lists} {outcome : raw.Processed} {tempoBeats tempoValues stopBeats stopValues warpBeats warpLengths : List Float} (f : Fronts lists outcome tempoBeats tempoValues stopBeats stopValues warpBeats warpLengths) where
+module _ {lists : ThreeLists} {outcome : raw.Processed} {tempoBeats tempoValues stopBeats stopValues warpBeats warpLengths : List Float} (f : Fronts lists outcome tempoBeats tempoValues stopBeats stopValues warpBeats warpLengths) where
   lists-read : listsOf (take (outcome .tempos) tempoBeats) (take (outcome .tempos) tempoValues) (take (outcome .stops) stopBeats) (take (outcome .stops) stopValues) (take (outcome .warps) warpBeats) (take (outcome .warps) warpLengths) (outcome .offset) ≡ lists
   lists-read =
       rw (f .tempoBeatsAre, f .tempoValuesAre, f .stopBeatsAre, f .stopValuesAre, f .warpBeatsAre, f .warpLengthsAre, f .offsetIs, entries-columns (lists .tempos), entries-columns (lists .stops), entries-columns (lists .warps))

@@ -15,22 +15,22 @@ use Rattle.order.specs.Entries.{first, second}
 use Rattle.columns.specs.Laying.{roomNumber, LaidList}
 use Rattle.tidy_rows.specs.RowTidying.{tidyRows}
 use Rattle.process_raw.specs.RawLists.{roomFor}
-use Rattle.process.specs.ByFormat.{Lists}
+use Rattle.process.specs.ByFormat.{ThreeLists}
 use Rattle.assembly_rows.specs.AssembledRows.{narrowedEntry, changeBy, assembledRows}
 use Rattle.assembly_tempos.specs.declared.AssembledTempos.{AssembledTempos}
 
 -- ---- the lists, of what processing leaves
 
 -- tempos are tidied already
-abbrev pub assembledTempos : Lists → List (Float × Float)
+abbrev pub assembledTempos : ThreeLists → List (Float × Float)
 assembledTempos lists = map narrowedEntry (lists .tempos)
 
 -- beats of stops are on rows already
-abbrev pub assembledStops : Lists → List (Float × Float)
+abbrev pub assembledStops : ThreeLists → List (Float × Float)
 assembledStops lists = map narrowedEntry (tidyRows (map first (lists .stops)) (map second (lists .stops)))
 
 -- warps, given and made, as any list of lengths
-abbrev pub assembledWarps : Lists → List (Float × Float)
+abbrev pub assembledWarps : ThreeLists → List (Float × Float)
 assembledWarps lists = assembledRows (changeBy true) (map first (lists .warps)) (map second (lists .warps))
 
 -- ---- the number
@@ -44,12 +44,12 @@ unfoldable pub verdict : (raw warps most later : ℕ) → ℕ
 verdict raw warps most later = pick (eqb raw 0) (pick (leb warps (min most mostEntries)) later tooLong) raw
 
 -- what comes later of the three lists
-abbrev pub threeRooms : Lists → (tempoRoom stopRoom warpRoom : ℕ) → ℕ
+abbrev pub threeRooms : ThreeLists → (tempoRoom stopRoom warpRoom : ℕ) → ℕ
 threeRooms lists tempoRoom stopRoom warpRoom =
     lower (lower (fitNumber (assembledTempos lists) tempoRoom) (fitNumber (assembledStops lists) stopRoom)) (fitNumber (assembledWarps lists) warpRoom)
 
 -- ---- the one outcome: the number of all lists, of which `raw` and `later` are known; under it the three lists, and the offset, which is 0 after a refusal
-pub record ThreeLaid (raw later most : ℕ) (lists : Lists) (outcome : AssembledTempos)
+pub record ThreeLaid (raw later most : ℕ) (lists : ThreeLists) (outcome : AssembledTempos)
     (tempoBeatsOld tempoBeatsNew tempoValuesOld tempoValuesNew stopBeatsOld stopBeatsNew stopValuesOld stopValuesNew warpBeatsOld warpBeatsNew warpLengthsOld warpLengthsNew : List Float) : Type 0 where
   pub number :
       outcome .number

@@ -23,7 +23,7 @@ use Rattle.columns.proofs.EachOverFront.{each-over-front}
 use Rattle.columns.proofs.OneOutcome.{one-list}
 use Rattle.process_raw.specs.declared.Processed.{Processed}
 use Rattle.process_raw.specs.RawLists.{rawNumbers, roomFor, processedNothing}
-use Rattle.process.specs.ByFormat.{Lists, ListsLaid}
+use Rattle.process.specs.ByFormat.{ThreeLists, ListsLaid}
 use Rattle.process_sm_lent.proofs.Ends.{by-tests, for-stops, for-warps}
 use Rattle.assembly_warps.specs.inside.OrNoRoom.{orNoRoom}
 use Rattle.assembly_warps.specs.MergedWarps.{behindGiven}
@@ -81,14 +81,14 @@ copied column made old back at a room lent same =
 
 -- ---- the ends of the call
 
-abbrev LeftAs : (raw warps : ℕ) → Lists → (tempoBeatsOld tempoValuesOld stopBeatsOld stopValuesOld warpBeatsOld warpLengthsOld : List Float) → ℕ → Type 0
+abbrev LeftAs : (raw warps : ℕ) → ThreeLists → (tempoBeatsOld tempoValuesOld stopBeatsOld stopValuesOld warpBeatsOld warpLengthsOld : List Float) → ℕ → Type 0
 LeftAs raw warps merged tempoBeatsOld tempoValuesOld stopBeatsOld stopValuesOld warpBeatsOld warpLengthsOld number =
     ListsLaid (lower raw warps) merged (processedNothing number) tempoBeatsOld tempoBeatsOld tempoValuesOld tempoValuesOld stopBeatsOld stopBeatsOld stopValuesOld stopValuesOld warpBeatsOld warpBeatsOld warpLengthsOld warpLengthsOld
 
-merged-length : (lists : Lists) (warpBeats warpLengths : List Float) → length warpBeats ≡ length warpLengths → length (behindGiven warpBeats warpLengths lists .warps) ≡ length warpBeats + length (lists .warps)
+merged-length : (lists : ThreeLists) (warpBeats warpLengths : List Float) → length warpBeats ≡ length warpLengths → length (behindGiven warpBeats warpLengths lists .warps) ≡ length warpBeats + length (lists .warps)
 merged-length lists warpBeats warpLengths even = simp length-append (rw (length-entries warpBeats warpLengths even))
 
-module _ (raw warps : ℕ) (lists : Lists) (warpBeats warpLengths : List Float) {tempoBeatsOld tempoValuesOld stopBeatsOld stopValuesOld warpBeatsOld warpLengthsOld : List Float} where
+module _ (raw warps : ℕ) (lists : ThreeLists) (warpBeats warpLengths : List Float) {tempoBeatsOld tempoValuesOld stopBeatsOld stopValuesOld warpBeatsOld warpLengthsOld : List Float} where
   pub refused-warps : (warps ≡ 0 → ⊥) → LeftAs raw warps (behindGiven warpBeats warpLengths lists) tempoBeatsOld tempoValuesOld stopBeatsOld stopValuesOld warpBeatsOld warpLengthsOld (orNoRoom (lower raw warps))
   unfolding orNoRoom
   refused-warps h =
@@ -108,7 +108,7 @@ module _ (raw warps : ℕ) (lists : Lists) (warpBeats warpLengths : List Float) 
       go false u a b = by-tests (λ e. let z : _≡_ {A = Bool} true false = sym (eq-eqb (lower raw warps) 0 e) ∙ a in let w : _≡_ {A = ℕ} 0 1 = cc in absurd (omega arith))
 
 -- processing has been lent the rooms of warps from behind the given ones on
-module _ (raw : ℕ) {warps : ℕ} (h : warps ≡ 0) (lists : Lists) (warpBeats warpLengths : List Float) (even : length warpBeats ≡ length warpLengths) {outcome : Processed}
+module _ (raw : ℕ) {warps : ℕ} (h : warps ≡ 0) (lists : ThreeLists) (warpBeats warpLengths : List Float) (even : length warpBeats ≡ length warpLengths) {outcome : Processed}
     {tempoBeatsOld tempoBeatsNew tempoValuesOld tempoValuesNew stopBeatsOld stopBeatsNew stopValuesOld stopValuesNew warpBeatsBack warpLengthsBack : List Float} (warpBeatsOld warpLengthsOld : List Float) (room : length warpBeats ≤ roomFor warpBeatsOld warpLengthsOld)
     (p : ListsLaid raw lists outcome tempoBeatsOld tempoBeatsNew tempoValuesOld tempoValuesNew stopBeatsOld stopBeatsNew stopValuesOld stopValuesNew
     (take (length warpBeatsOld - length warpBeats) (drop (length warpBeats) warpBeatsOld)) warpBeatsBack (take (length warpLengthsOld - length warpBeats) (drop (length warpBeats) warpLengthsOld)) warpLengthsBack) where

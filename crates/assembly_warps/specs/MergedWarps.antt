@@ -9,7 +9,7 @@ use Rattle.order.specs.Entries.{entries}
 use Rattle.process_raw.specs.declared.Processed.{Processed}
 use Rattle.process_raw.specs.RawLists.{rawNumbers}
 use Rattle.chart.specs.declared.TimingFormat.{TimingFormat}
-use Rattle.process.specs.ByFormat.{Lists, processedLists, ListsLaid}
+use Rattle.process.specs.ByFormat.{ThreeLists, processedLists, ListsLaid}
 
 -- given warps by themselves: too many, columns that differ in length, a beat, a length
 abbrev pub warpsNumber : List Float → List Float → ℕ
@@ -21,7 +21,7 @@ threeNumber tempoBeats tempoValues stopBeats stopValues warpBeats warpLengths =
     lower (rawNumbers tempoBeats tempoValues stopBeats stopValues) (warpsNumber warpBeats warpLengths)
 
 -- warps that are given come before those that are made
-abbrev pub behindGiven : List Float → List Float → Lists → Lists
+abbrev pub behindGiven : List Float → List Float → ThreeLists → ThreeLists
 behindGiven warpBeats warpLengths lists = record {
   tempos = lists .tempos;
   stops = lists .stops;
@@ -29,7 +29,7 @@ behindGiven warpBeats warpLengths lists = record {
   offset = lists .offset;
 }
 
-abbrev pub mergedLists : TimingFormat → (tempoBeats tempoValues stopBeats stopValues warpBeats warpLengths : List Float) → Lists
+abbrev pub mergedLists : TimingFormat → (tempoBeats tempoValues stopBeats stopValues warpBeats warpLengths : List Float) → ThreeLists
 mergedLists format tempoBeats tempoValues stopBeats stopValues warpBeats warpLengths =
     behindGiven warpBeats warpLengths (processedLists format tempoBeats tempoValues stopBeats stopValues)
 

@@ -38,7 +38,7 @@ use Rattle.process_sm.proofs.FewTidied.{entries-few, few-tidied}
 use Rattle.chart.specs.declared.TimingFormat.{TimingFormat}
 use Rattle.chart.specs.declared.TimingFormat.the-variants.{Sm, Ssc}
 use Rattle.process.specs.ListsTaken.{ListsTaken}
-use Rattle.process.specs.ByFormat.{Lists, tempoBeatsOf, tempoValuesOf, listsBy, processedLists}
+use Rattle.process.specs.ByFormat.{ThreeLists, tempoBeatsOf, tempoValuesOf, listsBy, processedLists}
 use Rattle.process.proofs.NoneGiven.{given-number, given-length}
 use Rattle.process.proofs.ChangesF32.{changes-f32, all-f32}
 use Rattle.process.proofs.StopsOnRows.{sm-on-rows, ssc-on-rows}

@@ -29,14 +29,14 @@ tempoValuesOf beats values = pick (noneGiven beats values) (sixty ∷ []) values
 
 -- ---- what processing makes of both lists
 
-pub record Lists : Type 0 where
+pub record ThreeLists : Type 0 where
   pub tempos : List (Float × Float)
   pub stops : List (Float × Float)
   pub warps : List (Float × Float)
   pub offset : Float
 
 -- SSC makes no warps, and leaves beat 0 where it is
-abbrev pub listsBy : TimingFormat → (tempoBeats tempoValues stopBeats stopValues : List Float) → Lists
+abbrev pub listsBy : TimingFormat → (tempoBeats tempoValues stopBeats stopValues : List Float) → ThreeLists
 listsBy Sm tempoBeats tempoValues stopBeats stopValues = record {
   tempos = tidiedTempos (smWritten tempoBeats tempoValues stopBeats stopValues .tempos);
   stops = smWritten tempoBeats tempoValues stopBeats stopValues .stops;
@@ -50,12 +50,12 @@ listsBy Ssc tempoBeats tempoValues stopBeats stopValues = record {
   offset = plusZero;
 }
 
-unfoldable pub processedLists : TimingFormat → (tempoBeats tempoValues stopBeats stopValues : List Float) → Lists
+unfoldable pub processedLists : TimingFormat → (tempoBeats tempoValues stopBeats stopValues : List Float) → ThreeLists
 processedLists format tempoBeats tempoValues stopBeats stopValues =
     listsBy format (tempoBeatsOf tempoBeats tempoValues) (tempoValuesOf tempoBeats tempoValues) stopBeats stopValues
 
 -- lists of processing under one number: that of the tests, then 7 where one is longer than its room
-abbrev pub ListsLaid : ℕ → Lists → Processed
+abbrev pub ListsLaid : ℕ → ThreeLists → Processed
     → (tempoBeatsOld tempoBeatsNew tempoValuesOld tempoValuesNew stopBeatsOld stopBeatsNew stopValuesOld stopValuesNew warpBeatsOld warpBeatsNew warpLengthsOld warpLengthsNew : List Float) → Type 0
 ListsLaid tests lists outcome = SmLaid tests (lists .tempos) (lists .stops) (lists .warps) (lists .offset) outcome
 

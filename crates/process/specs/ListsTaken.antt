@@ -9,9 +9,9 @@ use Rattle.limits.specs.declared.Kind.the-variants.{Beat, Value}
 use Rattle.limits.specs.Numbers.{rangeOf, allIn}
 use Rattle.limits.specs.Refusals.{listNumber}
 use Rattle.order.specs.Entries.{first, second}
-use Rattle.process.specs.ByFormat.{Lists}
+use Rattle.process.specs.ByFormat.{ThreeLists}
 
-pub record ListsTaken (tempoMost stopMost : ℕ) (lists : Lists) : Type 0 where
+pub record ListsTaken (tempoMost stopMost : ℕ) (lists : ThreeLists) : Type 0 where
   pub fewTempos : length (lists .tempos) ≤ max tempoMost 1
   pub fewStops : length (lists .stops) ≤ stopMost
   pub fewWarps : length (lists .warps) ≤ tempoMost + stopMost

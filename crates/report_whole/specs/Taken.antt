@@ -10,7 +10,7 @@ use Rattle.limits.specs.Refusals.{lower}
 use Rattle.order.specs.Entries.{first, second}
 use Rattle.tidy_speeds_entries.specs.LaidSpeeds.{ratioOf, delayOf, unitOf}
 use Rattle.chart.specs.declared.TimingFormat.{TimingFormat}
-use Rattle.process.specs.ByFormat.{Lists}
+use Rattle.process.specs.ByFormat.{ThreeLists}
 use Rattle.assembly_warps.specs.MergedWarps.{threeNumber, mergedLists}
 use Rattle.assembly_tempos.specs.AssembledTempos.{assembledTempos, assembledStops, assembledWarps, verdict, threeRooms}
 use Rattle.assembly_scrolls.specs.AssembledScrolls.{assembledScrolls}
@@ -20,7 +20,7 @@ use Rattle.report_text.specs.Output.{answerLine, listsText}
 
 module _ (format : TimingFormat) (tempoBeats tempoValues stopBeats stopValues delayBeats delayValues warpBeats warpLengths speedBeats speedRatios speedDelays : List Float) (speedUnits : List ℕ)
     (scrollBeats scrollValues fakeBeats fakeLengths : List Float) where
-  abbrev pub processedOf : Lists
+  abbrev pub processedOf : ThreeLists
   processedOf = mergedLists format tempoBeats tempoValues stopBeats stopValues warpBeats warpLengths
 
   abbrev pub speedsGiven : List (Float × (Float × (Float × ℕ)))

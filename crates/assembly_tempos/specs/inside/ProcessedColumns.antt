@@ -13,7 +13,7 @@ use Rattle.tidy_rows.specs.RowTidying.{rowsNumber}
 use Rattle.process_raw.specs.RawLists.{roomFor}
 use Rattle.chart.specs.declared.TimingFormat.{TimingFormat}
 use Rattle.chart.specs.declared.TimingFormat.the-variants.{Sm}
-use Rattle.process.specs.ByFormat.{Lists}
+use Rattle.process.specs.ByFormat.{ThreeLists}
 
 -- an f32, and no NaN
 abbrev pub heldF32 : Float → Bool
@@ -33,7 +33,7 @@ pub record Processed (tempoBeats tempoValues stopBeats stopValues warpBeats warp
   pub warps : length warpBeats ≤ mostEntries → rowsNumber warpBeats warpLengths ≡ 0
 
 -- columns as lists
-abbrev pub listsOf : (tempoBeats tempoValues stopBeats stopValues warpBeats warpLengths : List Float) → Float → Lists
+abbrev pub listsOf : (tempoBeats tempoValues stopBeats stopValues warpBeats warpLengths : List Float) → Float → ThreeLists
 listsOf tempoBeats tempoValues stopBeats stopValues warpBeats warpLengths offset = record {
   tempos = entries tempoBeats tempoValues;
   stops = entries stopBeats stopValues;
@@ -42,7 +42,7 @@ listsOf tempoBeats tempoValues stopBeats stopValues warpBeats warpLengths offset
 }
 
 -- work columns with room for what processing makes of lists that are taken
-pub record WorkRooms (number : ℕ) (lists : Lists) (tempoBeats tempoValues stopBeats stopValues warpBeats warpLengths : List Float) : Type 0 where
+pub record WorkRooms (number : ℕ) (lists : ThreeLists) (tempoBeats tempoValues stopBeats stopValues warpBeats warpLengths : List Float) : Type 0 where
   pub tempos : number ≡ 0 → length (lists .tempos) ≤ roomFor tempoBeats tempoValues
   pub stops : number ≡ 0 → length (lists .stops) ≤ roomFor stopBeats stopValues
   pub warps : number ≡ 0 → length (lists .warps) ≤ roomFor warpBeats warpLengths
