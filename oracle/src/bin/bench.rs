@@ -120,11 +120,11 @@ impl Bench {
         let list = columns.list();
         let mut rooms = columns.clone();
         self.line(
-            &format!("{} of {entries} {order}", tidy_speeds_entries::NAME),
+            &format!("{} of {entries} {order}", speeds::NAME),
             1,
             || {
                 let [beats, ratios, delays] = &mut rooms.numbers;
-                black_box(tidy_speeds_entries::port(black_box(&columns), [beats, ratios, delays], &mut rooms.units));
+                black_box(speeds::port(black_box(&columns), [beats, ratios, delays], &mut rooms.units));
             },
             || drop(black_box(probe::tidy_speed_segments(black_box(&list).clone()))),
         );
@@ -231,7 +231,7 @@ impl Bench {
         let list = |value: f32| (beats.clone(), vec![value; entries]);
         let tempos = (beats.iter().step_by(4).copied().collect(), vec![120.0; entries.div_ceil(4)]);
         let stops = beats.iter().flat_map(|beat| [*beat, 0.25]).collect();
-        let lists = stops_for_sm::Lists { tempos, stops, delays: list(0.5), warps: list(0.25) };
+        let lists = sm_stops::Lists { tempos, stops, delays: list(0.5), warps: list(0.25) };
         let [tempos, stops, delays, warps] = lists.pairs();
         let mut work = vec![0.0; 6 * entries];
         self.line(

@@ -24,9 +24,9 @@ fn main() -> ExitCode {
     tidying::compare_all(work, &mut total);
     lookups::compare_all(work, &mut total);
     processing::compare_all(work, &mut total);
-    stops_for_sm::compare_all(work, &mut total);
+    sm_stops::compare_all(work, &mut total);
     clock::compare_all(work, &mut total);
-    tidy_speeds_entries::compare_all(work, &mut total);
+    speeds::compare_all(work, &mut total);
     assembly::compare_all(work, &mut total);
     if total.end() { ExitCode::SUCCESS } else { ExitCode::FAILURE }
 }

@@ -5,9 +5,9 @@ use oracle::{clock, lookups, processing, sm_stops, speeds, stored, tidying};
 fn main() {
     let mut cases = Vec::new();
     tidying::stored_cases(&mut cases);
-    tidy_speeds_entries::stored_cases(&mut cases);
+    speeds::stored_cases(&mut cases);
     processing::stored_cases(&mut cases);
-    stops_for_sm::stored_cases(&mut cases);
+    sm_stops::stored_cases(&mut cases);
     lookups::stored_cases(&mut cases);
     clock::stored_cases(&mut cases);
     stored::print(&cases);
