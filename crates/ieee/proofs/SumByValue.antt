@@ -30,7 +30,8 @@ module _ (a b c a' b' c' : ℕ) (C : 0 < c) (C' : 0 < c') (p : a' * c ≡ a * c'
   minus : (b' - a') * c ≡ (b - a) * c'
   minus = sub-mul b' a' c ∙ ap₂ _-_ q p ∙ sym (sub-mul b a c')
 
-sum-same : (f : Format) (s t : Bool) (a b c a' b' c' : ℕ) → 0 < c → 0 < c' → a' * c ≡ a * c' → b' * c ≡ b * c' → sum f s a' t b' c' ≡ sum f s a t b c
+-- equal fractions have the same sum
+pub sum-same : (f : Format) (s t : Bool) (a b c a' b' c' : ℕ) → 0 < c → 0 < c' → a' * c ≡ a * c' → b' * c ≡ b * c' → sum f s a' t b' c' ≡ sum f s a t b c
 unfolding sum
 sum-same f s t a b c a' b' c' C C' p q =
     rw (
