@@ -1,0 +1,170 @@
+-- A multiply-add of three f64 at a format f, by their patterns: from the exact sum of two whole numbers, cut short. This is the one fact that both forms are proved from. Assumes nothing.
+use mathlib.Core.Path.{_≡_, refl, sym, ap, ap₂, _∙_, subst}
+use mathlib.Core.Logic.{_⊎_, inl, inr}
+use Prim.Native.Nat.{ℕ, zero, suc, _+_, _-_, _*_, _/_, _%_, _^_, _≤_, _<_}
+use native.Mathlib.Nat.{le-refl, le-trans, le-of-eq, lt-of-lt-of-le, mul-pos, mul-lt-mul-of-pos-right, mul-le-mul-right, eq-zero-or-pos, lt-of-mul-lt-mul-right}
+use native.Mathlib.Omega.{arith}
+use mathlib.Core.Bool.{Bool, true, false, not, _&&_, Bool·beq, cond}
+use lib.IntN.{pos}
+use lib.Dec.{T, leb, ltb}
+use lib.Pow.{pow-add, pow-pos, pow-mono}
+use lib.Ieee.{Float, fin, Format, binary64, prec, low, hid, ones, top, unlike, round, sum, add, mul, toBits, ofBits}
+use lib.Ieee.Bits.{ofBits-toBits}
+use lib.Ieee.Exact.{HasValue, round-exact}
+use lib.Ieee.Fits.{round-fits}
+use Rattle.ieee.proofs.ByValue.{mul-value}
+use Rattle.ieee.proofs.KeepsOrder.{round-zero}
+use Rattle.ieee.proofs.Values.{rescaled}
+use Rattle.ieee_odd_cut.specs.OddCut.{oddCut, joined}
+use Rattle.ieee_odd_cut.proofs.OddLaws.{IsOdd, cut-is, cut-zero}
+use Rattle.ieee_odd_cut.proofs.RoundOdd.{cut-pattern}
+use Rattle.ieee_mul_add.specs.MulAdd.{mulAdd}
+use Rattle.ieee_mul_add.specs.Parts.{fieldOf, digitsOf, powerOf, productOf, addendOf, Summed, patternOf, Rounded, ExactProduct}
+use Rattle.ieee_mul_add.proofs.Decode.{pattern-value, digits-lt, digits-full}
+use Rattle.ieee_mul_add.proofs.DeepEnough.{deep}
+use Rattle.ieee_mul_add.proofs.MulAddLaws.{mul-add-values, exact-product, sum-signed, sum-none}
+
+-- ---- the exact sum, over 2 ^ 2232
+module _ (a b c : ℕ) (FA : fieldOf binary64 a < 2047) (FB : fieldOf binary64 b < 2047) (FC : fieldOf binary64 c < 2047) where
+  abbrev m : ℕ
+  m = digitsOf binary64 a
+
+  abbrev n : ℕ
+  n = digitsOf binary64 b
+
+  abbrev o : ℕ
+  o = digitsOf binary64 c
+
+  abbrev i : ℕ
+  i = powerOf binary64 a
+
+  abbrev j : ℕ
+  j = powerOf binary64 b
+
+  abbrev k : ℕ
+  k = powerOf binary64 c
+
+  abbrev s : Bool
+  s = unlike (leb (2 ^ 63) a) (leb (2 ^ 63) b)
+
+  abbrev t : Bool
+  t = leb (2 ^ 63) c
+
+  abbrev A : ℕ
+  A = productOf m n * 2 ^ (i + j + 64)
+
+  abbrev B : ℕ
+  B = addendOf o * 2 ^ (k + 1085)
+
+  first : HasValue (ofBits binary64 a) (leb (2 ^ 63) a) (m * 1024 * 2 ^ i) (2 ^ 1084)
+  first = rescaled (ofBits binary64 a) (leb (2 ^ 63) a) (m * 2 ^ i) (2 ^ 1074) (m * 1024 * 2 ^ i) (2 ^ 1084) (pow-pos 1074) (move m (2 ^ i) (2 ^ 1074) (2 ^ 1084) (pow-add 2 1074 10)) (pattern-value binary64 a FA)
+    where
+      move : (m p u v : ℕ) → v ≡ u * 1024 → m * 1024 * p * u ≡ m * p * v
+      move m p u v e = let q = ap (λ (x : ℕ). m * p * x) e in omega arith
+
+  second : HasValue (ofBits binary64 b) (leb (2 ^ 63) b) (n * 1024 * 2 ^ (j + 64)) (2 ^ 1148)
+  second = rescaled (ofBits binary64 b) (leb (2 ^ 63) b) (n * 2 ^ j) (2 ^ 1074) (n * 1024 * 2 ^ (j + 64)) (2 ^ 1148) (pow-pos 1074) (move n (2 ^ j) (2 ^ 64) (2 ^ (j + 64)) (2 ^ 1074) (2 ^ 1148) (pow-add 2 j 64) (pow-add 2 1074 74 ∙ ap (λ (x : ℕ). 2 ^ 1074 * x) (pow-add 2 10 64))) (pattern-value binary64 b FB)
+    where
+      move : (n p w pw u v : ℕ) → pw ≡ p * w → v ≡ u * (1024 * w) → n * 1024 * pw * u ≡ n * p * v
+      move n p w pw u v d e = let q = ap (λ (x : ℕ). n * p * x) e in let r = ap (λ (x : ℕ). n * 1024 * x * u) d in omega arith
+
+  third : HasValue (ofBits binary64 c) t B (2 ^ 1084 * 2 ^ 1148)
+  third = rescaled (ofBits binary64 c) t (o * 2 ^ k) (2 ^ 1074) B (2 ^ 1084 * 2 ^ 1148) (pow-pos 1074) (move o (2 ^ k) (2 ^ 64) (2 ^ 1085) (2 ^ (k + 1085)) (2 ^ 1074) (2 ^ 1084 * 2 ^ 1148) (pow-add 2 k 1085) (sym (pow-add 2 1084 1148) ∙ pow-add 2 1074 1158 ∙ ap (λ (x : ℕ). 2 ^ 1074 * x) (pow-add 2 9 1149 ∙ ap (λ (x : ℕ). 512 * x) (pow-add 2 64 1085)))) (pattern-value binary64 c FC)
+    where
+      move : (o p w r pr u v : ℕ) → pr ≡ p * r → v ≡ u * (512 * (w * r)) → o * 512 * w * pr * u ≡ o * p * v
+      move o p w r pr u v d e = let q = ap (λ (x : ℕ). o * p * x) e in let g = ap (λ (x : ℕ). o * 512 * w * x * u) d in omega arith
+
+  pub exact-sum : (f : Format) → mulAdd f (ofBits binary64 a) (ofBits binary64 b) (ofBits binary64 c) ≡ sum f s A t B (2 ^ 2232)
+  exact-sum f =
+      mul-add-values f (ofBits binary64 a) (ofBits binary64 b) (ofBits binary64 c) (leb (2 ^ 63) a) (leb (2 ^ 63) b) t (m * 1024 * 2 ^ i) (n * 1024 * 2 ^ (j + 64)) B (2 ^ 1084) (2 ^ 1148) (pow-pos 1084) (pow-pos 1148) first second third
+      ∙ ap₂ (λ (x d : ℕ). sum f s x t B d) (join (m * 1024) (n * 1024) (2 ^ i) (2 ^ (j + 64)) (2 ^ (i + j + 64)) (ap (λ (x : ℕ). 2 ^ x) (omega arith) ∙ pow-add 2 i (j + 64))) (sym (pow-add 2 1084 1148))
+    where
+      join : (m n p q r : ℕ) → r ≡ p * q → m * p * (n * q) ≡ m * n * r
+      join m n p q r e = let g = ap (λ (x : ℕ). m * n * x) e in omega arith
+
+  -- ---- where the product is 0, the two operations give it
+  pub zero-product : (f : Format) → digitsOf binary64 a * digitsOf binary64 b ≡ 0
+      → add f (mul f (ofBits binary64 a) (ofBits binary64 b)) (ofBits binary64 c) ≡ mulAdd f (ofBits binary64 a) (ofBits binary64 b) (ofBits binary64 c)
+  zero-product f z =
+      let p = m * 1024 * 2 ^ i in
+      let q = n * 1024 * 2 ^ (j + 64) in
+      let e : p * q ≡ 0 = none m n (2 ^ i) (2 ^ (j + 64)) z in
+      let v = mul-value f (ofBits binary64 a) (ofBits binary64 b) (leb (2 ^ 63) a) (leb (2 ^ 63) b) p (2 ^ 1084) q (2 ^ 1148) (pow-pos 1084) (pow-pos 1148) first second ∙ round-zero f s (p * q) (2 ^ 1084 * 2 ^ 1148) (mul-pos (pow-pos 1084) (pow-pos 1148)) e in
+      sym (exact-product f (ofBits binary64 a) (ofBits binary64 b) (ofBits binary64 c) (leb (2 ^ 63) a) (leb (2 ^ 63) b) t p q B (2 ^ 1084) (2 ^ 1148) (pow-pos 1084) (pow-pos 1148) first second third
+      (subst (λ (x : Float). HasValue x s (p * q) (2 ^ 1084 * 2 ^ 1148)) (sym v) (subst (λ (x : ℕ). HasValue (fin s 0 (pos 0)) s x (2 ^ 1084 * 2 ^ 1148)) (sym e) (refl, zero-value (2 ^ 1084 * 2 ^ 1148)))))
+    where
+      none : (m n x y : ℕ) → m * n ≡ 0 → m * 1024 * x * (n * 1024 * y) ≡ 0
+      none m n x y z = let g = ap (λ (u : ℕ). u * (1048576 * (x * y))) z in omega arith
+
+      zero-value : (d : ℕ) → 0 * 1 * d ≡ 0 * 1
+      zero-value d = omega arith
+
+  -- ---- where the product is an f64, the two operations give it
+  pub whole-product : ExactProduct (digitsOf binary64 a) (powerOf binary64 a) (digitsOf binary64 b) (powerOf binary64 b)
+      → add binary64 (mul binary64 (ofBits binary64 a) (ofBits binary64 b)) (ofBits binary64 c) ≡ mulAdd binary64 (ofBits binary64 a) (ofBits binary64 b) (ofBits binary64 c)
+  whole-product E =
+      let p = m * 1024 * 2 ^ i in
+      let q = n * 1024 * 2 ^ (j + 64) in
+      let h = E .e + (i + j) - 1074 in
+      let l = E .deep in
+      let u = E .below in
+      let den = 2 ^ 1084 * 2 ^ 1148 in
+      let big : E .q * 2 ^ h < 2 ^ 2098 = lt-of-lt-of-le (mul-lt-mul-of-pos-right (E .few) (pow-pos h)) (le-trans (le-of-eq (sym (pow-add 2 53 h))) (pow-mono {i = 53 + h} {j = 2098} (omega arith))) in
+      let up : 2 ^ (E .e) * (2 ^ i * 2 ^ (j + 64)) * 2 ^ 1094 ≡ 2 ^ h * den =
+      ap (λ (x : ℕ). 2 ^ (E .e) * x * 2 ^ 1094) (sym (pow-add 2 i (j + 64))) ∙ ap (λ (x : ℕ). x * 2 ^ 1094) (sym (pow-add 2 (E .e) (i + (j + 64)))) ∙ sym (pow-add 2 (E .e + (i + (j + 64))) 1094)
+      ∙ ap (λ (x : ℕ). 2 ^ x) (exponents (E .e) i j l) ∙ pow-add 2 h 2232 ∙ ap (λ (x : ℕ). 2 ^ h * x) (pow-add 2 1084 1148) in
+      let e : p * q * 2 ^ 1074 ≡ E .q * 2 ^ h * den = regroup m n (2 ^ i) (2 ^ (j + 64)) (2 ^ 1074) (2 ^ 1094) (E .q) (2 ^ (E .e)) (2 ^ h) den (pow-add 2 20 1074) (E .is) up in
+      let v = mul-value binary64 (ofBits binary64 a) (ofBits binary64 b) (leb (2 ^ 63) a) (leb (2 ^ 63) b) p (2 ^ 1084) q (2 ^ 1148) (pow-pos 1084) (pow-pos 1148) first second in
+      sym (exact-product binary64 (ofBits binary64 a) (ofBits binary64 b) (ofBits binary64 c) (leb (2 ^ 63) a) (leb (2 ^ 63) b) t p q B (2 ^ 1084) (2 ^ 1148) (pow-pos 1084) (pow-pos 1148) first second third
+      (subst (λ (x : Float). HasValue x s (p * q) den) (sym v) (round-exact binary64 s (p * q) den (E .q) h (mul-pos (pow-pos 1084) (pow-pos 1148)) (E .few) big e)))
+    where
+      exponents : (e i j : ℕ) → 1074 ≤ e + (i + j) → e + (i + (j + 64)) + 1094 ≡ e + (i + j) - 1074 + 2232
+      exponents e i j l = omega arith
+
+      regroup : (m n x y w v q e h d : ℕ) → v ≡ 1048576 * w → m * n ≡ q * e → e * (x * y) * v ≡ h * d → m * 1024 * x * (n * 1024 * y) * w ≡ q * h * d
+      regroup m n x y w v q e h d i j k =
+          let a = ap (λ (z : ℕ). z * (x * y) * (1048576 * w)) j in
+          let b = ap (λ (z : ℕ). q * z) k in
+          let c = ap (λ (z : ℕ). q * e * (x * y) * z) i in
+          omega arith
+
+  -- ---- rounded at f, from the sum cut at 2 ^ y
+  module _ (M0 : 0 < digitsOf binary64 a) (N0 : 0 < digitsOf binary64 b) (f : Format) (d : ℕ) (small : prec f ≤ 53) (fine : 1158 ≤ d) (base : d + low f ≡ 2232)
+      (w y : ℕ) (larger : Bool) (S : Summed (Bool·beq (unlike (leb (2 ^ 63) a) (leb (2 ^ 63) b)) (leb (2 ^ 63) c)) (productOf (digitsOf binary64 a) (digitsOf binary64 b)) (powerOf binary64 a + powerOf binary64 b + 64) (addendOf (digitsOf binary64 c)) (powerOf binary64 c + 1085) w y larger) where
+    abbrev alike : Bool
+    alike = Bool·beq s t
+
+    abbrev N : ℕ
+    N = joined alike A B
+
+    odd : IsOdd N (2 ^ y) w
+    odd = subst (λ (x : ℕ). IsOdd N (2 ^ y) x) (sym (S .cut)) (cut-is N (2 ^ y) (pow-pos y))
+
+    enough : (w * 2 ^ y ≡ N) ⊎ ((y + 2 ≤ d) ⊎ (2 ^ (suc (prec f) + y) ≤ N))
+    enough = elim (deep m n o i j k (digits-lt binary64 a) (digits-lt binary64 b) (digits-lt binary64 c) M0 N0 (digits-full binary64 a) (digits-full binary64 b) (digits-full binary64 c) alike w y (S .at) odd) [
+      | inl e ↦ inl e
+      | inr (inl l) ↦ inr (inl (le-trans l fine))
+      | inr (inr l) ↦ inr (inr (le-trans (pow-mono {i = suc (prec f) + y} {j = 54 + y} (omega arith)) l))
+    ]
+
+    A0 : 0 < A
+    A0 = mul-pos (mul-pos (mul-pos M0 (omega arith)) (mul-pos N0 (omega arith))) (pow-pos (i + j + 64))
+
+    none-cut : (x g v : ℕ) → 0 < g → IsOdd x g v → x ≡ 0 → v ≡ 0
+    none-cut x g v G (inl e) z = elim (eq-zero-or-pos v) [ inl h ↦ h | inr h ↦ let p = mul-pos h G in absurd (omega arith) ]
+    none-cut x g v G (inr h) z = let l : v < 1 = lt-of-mul-lt-mul-right g (at h z) in absurd (omega arith)
+      where
+        at : (v % 2 ≡ 1) × (v * g < x + g) × (x < v * g + g) → x ≡ 0 → v * g < 1 * g
+        at h z = omega arith
+
+    pub rounded : Rounded f d (cond larger t s) w y (mulAdd f (ofBits binary64 a) (ofBits binary64 b) (ofBits binary64 c))
+    rounded =
+        record {
+          none = λ z. exact-sum f ∙ sum-none f s t A B (2 ^ 2232) (pow-pos 2232) A0 (cut-zero N (2 ^ y) w odd z);
+          some = λ p.
+              let P : 0 < N = elim (eq-zero-or-pos N) [ inl z ↦ let e = none-cut N (2 ^ y) w (pow-pos y) odd z in absurd (omega arith) | inr q ↦ q ] in
+              exact-sum f ∙ sum-signed f s t A B (2 ^ 2232) P
+              ∙ ap₂ (λ (q : Bool) (x : ℕ). round f (cond q t s) N (2 ^ x)) (sym (S .larger)) (sym base)
+              ∙ sym (ofBits-toBits f (round f (cond larger t s) N (2 ^ (d + low f))) (round-fits f (cond larger t s) N (2 ^ (d + low f))))
+              ∙ ap (ofBits f) (cut-pattern f (cond larger t s) d y N w odd enough);
+        }
