@@ -218,7 +218,7 @@ impl Scrolls {
     }
 
     fn by_chance(turn: u64, random: &mut Random) -> Self {
-        if turn % 3 == 0 { Self::any(turn, random) } else { Self::usual(random) }
+        if turn.is_multiple_of(3) { Self::any(turn, random) } else { Self::usual(random) }
     }
 
     fn asked_beat(&self, random: &mut Random) -> f64 {
