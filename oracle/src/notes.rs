@@ -487,7 +487,10 @@ pub fn compare_all(work: Work, total: &mut Total) {
 pub fn stored_cases(cases: &mut Vec<Case>) {
     let mut random = Random::new(1, "stored displayed beats");
     let displayed = |turn: u64| {
-        let scrolls = Scrolls::by_chance(turn, &mut random);
+        // no longer than the rooms of stored cases
+        let scrolls = std::iter::repeat_with(|| Scrolls::by_chance(turn, &mut random))
+            .find(|scrolls| scrolls.beats.len().max(scrolls.ratios.len()) <= stored::ROOM)
+            .expect("most are short");
         let original = (scrolls.number() == 0).then(|| scrolls.original());
         let asked: Vec<f64> = (0..random.below(24)).map(|_| scrolls.asked_beat(&mut random)).collect();
         let answers: Vec<Displayed> = asked.iter().map(|beat| expected(&scrolls, original.as_ref(), *beat)).collect();
@@ -507,11 +510,11 @@ pub fn stored_cases(cases: &mut Vec<Case>) {
         let data = note_data(turn, &mut random);
         let beats = compute_row_to_beat(&data);
         let mut case = Case::new(14);
-        case.column(&data);
-        case.column(&beats);
         // more rows than a room of stored cases has are refused
         let taken = beats.len() <= stored::ROOM;
-        case.words([if taken { 0 } else { 7 }, if taken { beats.len().word() } else { 0 }]);
+        case.column(&data);
+        case.column(if taken { &beats[..] } else { &[] });
+        case.words(if taken { [0, beats.len().word()] } else { [7, 0] });
         case
     };
     stored::add(cases, rows);

@@ -8,6 +8,7 @@ use columns::Outcome;
 use libc::STDIN_FILENO;
 use libc::STDOUT_FILENO;
 use lookup::Looked;
+use notes_displayed::Displayed;
 use process_raw::Processed;
 ghost use Prim.Native.Nat.{_≤_};
 ghost use lib.ListN.{length};
@@ -23,7 +24,7 @@ const ROOM: usize = 300;
 // The bytes that are read at once, and the most words that are stored.
 const PIECE: usize = 4096 * LINE;
 
-const WORDS: usize = 61440;
+const WORDS: usize = 81920;
 
 // Whether a case's call answered as stored, and where the next case begins.
 struct Replayed {
@@ -968,6 +969,121 @@ fn replay_run(words: &[u64], floats: &[f32], numbers: &[f64], at: usize) -> Repl
     }
 }
 
+// ---- notes
+
+// A position, and why there is none.
+fn same_displayed(words: &[u64], numbers_at: usize, positions_at: usize, i: usize, shown: Displayed) -> bool {
+    both(
+        is_u32(shown.number, entry_at(words, numbers_at, i)),
+        is_f64(shown.beat, entry_at(words, positions_at, i)),
+    )
+}
+
+// Each beat by itself, by the call that tests all and, where the scrolls are taken, by the player's over their prefix.
+fn same_positions(
+    words: &[u64],
+    numbers_at: usize,
+    positions_at: usize,
+    scroll_beats: &[f32],
+    scroll_ratios: &[f32],
+    prefix: &[f64],
+    number: u32,
+    asked: &[f64],
+) -> bool {
+    let mut same = true;
+    let mut i = 0;
+    while i < asked.len() {
+        let tested = notes_displayed::get_displayed_beat(scroll_beats, scroll_ratios, asked[i]);
+        let player =
+            notes_displayed::get_displayed_beat_checked(scroll_beats, scroll_ratios, prefix, asked[i]);
+        same = both(same, same_displayed(words, numbers_at, positions_at, i, tested));
+        same = both(
+            same,
+            if_taken(number, same_displayed(words, numbers_at, positions_at, i, player)),
+        );
+        i += 1;
+    }
+    same
+}
+
+// The prefix of scrolls, and beats drawn by them: all at once, and each by itself.
+fn replay_displayed(words: &[u64], floats: &[f32], numbers: &[f64], at: usize) -> Replayed {
+    let beats_at = further(at, 1);
+    let ratios_at = behind(words, beats_at);
+    let asked_at = behind(words, ratios_at);
+    let numbers_at = behind(words, asked_at);
+    let positions_at = behind(words, numbers_at);
+    let prefix_at = behind(words, positions_at);
+    let answer_at = behind(words, prefix_at);
+    let mut prefix_room = [1.5; ROOM];
+    let mut numbers_room = [77u32; ROOM];
+    let mut positions_room = [1.5; ROOM];
+    let built = notes_displayed::build_scroll_prefix(
+        f32_column(floats, words, beats_at),
+        f32_column(floats, words, ratios_at),
+        &mut prefix_room,
+    );
+    let shown = notes_displayed::get_displayed_beats(
+        f32_column(floats, words, beats_at),
+        f32_column(floats, words, ratios_at),
+        f64_column(numbers, words, asked_at),
+        &mut numbers_room,
+        &mut positions_room,
+    );
+    let mut same = both(
+        is_u32(built.number, word_at(words, answer_at)),
+        built.count == size_at(words, prefix_at),
+    );
+    same = both(same, same_f64s(words, prefix_at, &prefix_room));
+    same = both(same, shown.number == built.number);
+    same = both(
+        same,
+        if_taken(shown.number, shown.count == size_at(words, asked_at)),
+    );
+    same = both(
+        same,
+        if_taken(shown.number, same_u32s(words, numbers_at, &numbers_room)),
+    );
+    same = both(
+        same,
+        if_taken(shown.number, same_f64s(words, positions_at, &positions_room)),
+    );
+    same = both(
+        same,
+        same_positions(
+            words,
+            numbers_at,
+            positions_at,
+            f32_column(floats, words, beats_at),
+            f32_column(floats, words, ratios_at),
+            &prefix_room,
+            built.number,
+            f64_column(numbers, words, asked_at),
+        ),
+    );
+    Replayed {
+        same: same,
+        next: further(answer_at, 1),
+    }
+}
+
+// The beats of note data's rows.
+fn replay_row_to_beat(words: &[u64], bytes: &[u8], at: usize) -> Replayed {
+    let data_at = further(at, 1);
+    let beats_at = behind(words, data_at);
+    let answer_at = behind(words, beats_at);
+    let mut beats_room = [1.5f32; ROOM];
+    let outcome =
+        notes_rows::compute_row_to_beat(byte_column(bytes, words, data_at), &mut beats_room);
+    Replayed {
+        same: both(
+            same_outcome(words, answer_at, outcome),
+            same_f32s(words, beats_at, &beats_room),
+        ),
+        next: further(answer_at, 2),
+    }
+}
+
 // ---- all cases
 
 // A call's number that names none differs, and nothing can follow it.
@@ -992,6 +1108,8 @@ fn replay_case(
         10 => replay_judgable_rows(words, floats, rows, at),
         11 => replay_question(words, floats, at),
         12 => replay_run(words, floats, numbers, at),
+        13 => replay_displayed(words, floats, numbers, at),
+        14 => replay_row_to_beat(words, bytes, at),
         _ => Replayed {
             same: false,
             next: words.len(),
