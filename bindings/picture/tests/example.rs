@@ -29,8 +29,9 @@ fn lists_times_and_a_picture() {
     for asked in ["beat 4: 2.25 s", "beat 5: 3.75 s", "beat 17: 11.75 s, not judged", "beat 30: 17.083 s"] {
         assert!(texts(&picture).iter().any(|shown| shown.text == asked), "{asked} is not in the picture");
     }
-    // the asked beats, and where the two speeds are reached
-    assert_eq!(picture.matches("<circle").count(), 5 + 2);
+    // the asked beats, where the two speeds are reached, and the scroll from which beats are drawn
+    assert_eq!(picture.matches("<circle").count(), 5 + 2 + 1);
+    assert!(picture.contains("beat 0 is drawn at 0; 1 times as far apart from there on"));
 }
 
 #[test]
