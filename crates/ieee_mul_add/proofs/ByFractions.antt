@@ -10,6 +10,7 @@ use lib.Ieee.Exact.{HasValue}
 use lib.Ieee.Fits.{down-pos}
 use lib.Ieee.Scale.{finite}
 use Rattle.ieee.proofs.SumByValue.{sum-same, add-values}
+use Rattle.ieee.proofs.Values.{rescaled}
 use Rattle.ieee_mul_add.specs.MulAdd.{fractionPlus, mulAdd}
 
 module _ (f : Format) where
@@ -35,6 +36,21 @@ module _ (f : Format) where
 
       over : (x c d p h l : ℕ) → x * (c * d) ≡ p * h → x * l * (c * d) ≡ p * (l * h)
       over x c d p h l e = let i = ap (λ (z : ℕ). z * l) e in omega arith
+
+  -- each over a bottom of its own
+  pub mul-add-fractions : (x y z : Float) (s t u : Bool) (a b p c d e : ℕ) → 0 < c → 0 < d → 0 < e → HasValue x s a c → HasValue y t b d → HasValue z u p e → mulAdd f x y z ≡ sum f (unlike s t) (a * b * e) u (p * (c * d)) (c * d * e)
+  mul-add-fractions x y z s t u a b p c d e C D E v w r =
+      mul-add-values x y z s t u (a * e) b (p * (c * d)) (c * e) d (mul-pos C E) D (rescaled x s a c (a * e) (c * e) C (both a e c) v) w (rescaled z u p e (p * (c * d)) (c * e * d) E (over p c d e) r)
+      ∙ ap₂ (λ (n q : ℕ). sum f (unlike s t) n u (p * (c * d)) q) (turned a e b) (turned c e d)
+    where
+      both : (a e c : ℕ) → a * e * c ≡ a * (c * e)
+      both a e c = omega arith
+
+      over : (p c d e : ℕ) → p * (c * d) * e ≡ p * (c * e * d)
+      over p c d e = omega arith
+
+      turned : (a e b : ℕ) → a * e * b ≡ a * b * e
+      turned a e b = omega arith
 
   -- ---- where the product is a number of the format already, it is the two operations
   pub exact-product : (x y z : Float) (s t u : Bool) (a b p c d : ℕ) → 0 < c → 0 < d → HasValue x s a c → HasValue y t b d → HasValue z u p (c * d) → HasValue (mul f x y) (unlike s t) (a * b) (c * d)
