@@ -72,6 +72,7 @@ module _ (f : Format) where
       let c = down e * down d in
       subst (λ (q : ℤ). RoundsTo f q (c * down g) (sum f (unlike s t) (a * down g) u (p * up g * c) (c * down g))) (sym (exact-top s t u (m * up e) (n * up d) (p * up g) c (down g))) (sum-rounds f (unlike s t) u (a * down g) (p * up g * c) (c * down g))
 
+  -- what it is rounded from is a fraction
   pub bottom-above : (x y z : Float) → T (finite x) → T (finite y) → T (finite z) → 0 < exactly x y z .bottom
   bottom-above nan y z X Y Z = absurd X
   bottom-above (inf s) y z X Y Z = absurd X

@@ -1,4 +1,4 @@
--- Why the cut of an exact sum of a product of two f64 and a third is deep enough: it loses nothing, or lies two places below the smallest value, or is far below the leading digit.
+-- Why the cut of an exact sum of a product of two f64 and a third is deep-enough enough: it loses nothing, or lies two places below the smallest value, or is far below the leading digit.
 -- In numbers: m, n, o are the digits and i, j, k the powers. Assumes nothing.
 use mathlib.Core.Path.{_≡_, refl, sym, ap, ap₂, _∙_, subst}
 use mathlib.Core.Logic.{_⊎_, inl, inr}
@@ -55,6 +55,7 @@ product-lt m n M N = lt-of-le-of-lt (mul-le-mul-left (m * 1024) (le-of-lt n-lt))
     m-lt : m * 1024 < 2 ^ 63
     m-lt = omega arith
 
+-- and so is the addend
 pub addend-lt : (o : ℕ) → o < 2 ^ 53 → addendOf o < 2 ^ 126
 addend-lt o O = lt-of-lt-of-le (mul-lt-mul-of-pos-right o-lt (pow-pos 64)) (le-of-eq (sym (pow-add 2 62 64)))
   where
@@ -81,11 +82,11 @@ module _ (m n o i j k : ℕ) (M : m < 2 ^ 53) (N : n < 2 ^ 53) (O : o < 2 ^ 53) 
   abbrev B : ℕ
   B = addendOf o * 2 ^ Z
 
-  abbrev Goal : Bool → ℕ → ℕ → Type 0
-  Goal alike w y = (w * 2 ^ y ≡ sumSize alike A B) ⊎ ((y + 2 ≤ 1158) ⊎ (2 ^ (54 + y) ≤ sumSize alike A B))
+  abbrev DeepCut : Bool → ℕ → ℕ → Type 0
+  DeepCut alike w y = (w * 2 ^ y ≡ sumSize alike A B) ⊎ ((y + 2 ≤ 1158) ⊎ (2 ^ (54 + y) ≤ sumSize alike A B))
 
   -- both are multiples of 2 ^ y
-  whole : (alike : Bool) (w y a b : ℕ) → A ≡ a * 2 ^ y → B ≡ b * 2 ^ y → IsOddCut (sumSize alike A B) (2 ^ y) w → Goal alike w y
+  whole : (alike : Bool) (w y a b : ℕ) → A ≡ a * 2 ^ y → B ≡ b * 2 ^ y → IsOddCut (sumSize alike A B) (2 ^ y) w → DeepCut alike w y
   whole alike w y a b e g h =
       let c = sumSize alike a b in
       let q : sumSize alike A B ≡ c * 2 ^ y = ap₂ (sumSize alike) e g ∙ joined-mul alike a b (2 ^ y) (pow-pos y) in
@@ -112,13 +113,14 @@ module _ (m n o i j k : ℕ) (M : m < 2 ^ 53) (N : n < 2 ^ 53) (O : o < 2 ^ 53) 
       regroup : (o z e x : ℕ) → o * (e * x) ≡ o * (z * 2 ^ 73) → o * 512 * 2 ^ 64 * z ≡ o * e * x
       regroup o z e x q = omega arith
 
-  pub deep : (alike : Bool) (w y : ℕ) → y ≡ cond (ltb X Z) Z X → IsOddCut (sumSize alike A B) (2 ^ y) w → Goal alike w y
-  deep alike w y e h = elim (lt-or-ge X Z) [
+  -- the cut at the larger power loses nothing, or lies two places below the smallest value, or 54 places below the leading digit
+  pub deep-enough : (alike : Bool) (w y : ℕ) → y ≡ cond (ltb X Z) Z X → IsOddCut (sumSize alike A B) (2 ^ y) w → DeepCut alike w y
+  deep-enough alike w y e h = elim (lt-or-ge X Z) [
     | inl l ↦ below l (e ∙ rw (lt-ltb X Z l) refl)
     | inr l ↦ above l (e ∙ rw (le-ltb X Z l) refl)
   ]
     where
-      below : X < Z → y ≡ Z → Goal alike w y
+      below : X < Z → y ≡ Z → DeepCut alike w y
       below l e = elim (lt-or-ge (X + 20) Z) [
         | inr near ↦
             let a = X + 20 - Z in
@@ -141,7 +143,7 @@ module _ (m n o i j k : ℕ) (M : m < 2 ^ 53) (N : n < 2 ^ 53) (O : o < 2 ^ 53) 
         | inr p ↦ product-ge m n N0 (full-m p)
       ]
 
-      above : Z ≤ X → y ≡ X → Goal alike w y
+      above : Z ≤ X → y ≡ X → DeepCut alike w y
       above l e = elim (lt-or-ge (Z + 73) X) [
         | inr near ↦
             let a = Z + 73 - X in

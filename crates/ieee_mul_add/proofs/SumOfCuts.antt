@@ -24,6 +24,7 @@ words-lt h l H L = lt-of-lt-of-le (over h l (2 ^ 64) L) (le-trans (mul-le-mul-ri
     over : (h l w : ℕ) → l < w → h * w + l < suc h * w
     over h l w L = omega arith
 
+-- of the first word
 pub cut-high : (h l d vh vl : ℕ) → h < 2 ^ 62 → l < 2 ^ 64 → twoWords vh vl ≡ oddCut (twoWords h l) (2 ^ d) → vh ≤ 2 ^ 62
 cut-high h l d vh vl H L e =
     let x = twoWords h l in
@@ -40,6 +41,7 @@ module _ (alike : Bool) (p x q z : ℕ) (P : p % 2 ≡ 0) (Q : q % 2 ≡ 0) wher
   scaled-to : (n a d b : ℕ) → d + a ≡ b → IsOddCut (n * 2 ^ a) (2 ^ b) (oddCut n (2 ^ d))
   scaled-to n a d b e = subst (λ (t : ℕ). IsOddCut (n * 2 ^ a) (2 ^ t) (oddCut n (2 ^ d))) e (scaled n a d)
 
+  -- the first is cut, having the lower power
   pub sum-below : (w v : ℕ) (second : Bool) → x < z → v ≡ oddCut p (2 ^ (z - x)) → w ≡ sumSize alike v q → second ≡ (not alike && ltb v q) → Summed alike p x q z w z second
   sum-below w v second l e g h =
       let o = scaled-to p x (z - x) z (omega arith) in
@@ -49,6 +51,7 @@ module _ (alike : Bool) (p x q z : ℕ) (P : p % 2 ≡ 0) (Q : q % 2 ≡ 0) wher
         larger = h ∙ ap (λ (t : ℕ). not alike && ltb t q) e ∙ ap (λ (b : Bool). not alike && b) (first-less q (p * 2 ^ x) (2 ^ z) (oddCut p (2 ^ (z - x))) (pow-pos z) Q o);
       }
 
+  -- or the second
   pub sum-above : (w v : ℕ) (second : Bool) → z ≤ x → v ≡ oddCut q (2 ^ (x - z)) → w ≡ sumSize alike p v → second ≡ (not alike && ltb p v) → Summed alike p x q z w x second
   sum-above w v second l e g h =
       let o = scaled-to q z (x - z) x (omega arith) in
@@ -58,6 +61,7 @@ module _ (alike : Bool) (p x q z : ℕ) (P : p % 2 ≡ 0) (Q : q % 2 ≡ 0) wher
         larger = h ∙ ap (λ (t : ℕ). not alike && ltb p t) e ∙ ap (λ (b : Bool). not alike && b) (second-less p (q * 2 ^ z) (2 ^ x) (oddCut q (2 ^ (x - z))) (pow-pos x) P o);
       }
 
+-- two words are even where the second is
 pub even-two : (h l : ℕ) → l % 2 ≡ 0 → twoWords h l % 2 ≡ 0
 even-two h l e = omega arith
 
@@ -65,9 +69,11 @@ even-two h l e = omega arith
 pub high-of : (h l n : ℕ) → twoWords h l ≡ n → n < 2 ^ 126 → h < 2 ^ 62
 high-of h l n e b = lt-of-mul-lt-mul-right (2 ^ 64) (lt-of-le-of-lt (le-trans (le-add-right (h * 2 ^ 64) l) (le-of-eq e)) (lt-of-lt-of-le b (le-of-eq (pow-add 2 62 64))))
 
+-- the product of digits moved up is even
 pub even-low : (h l m n : ℕ) → twoWords h l ≡ m * 1024 * (n * 1024) → l % 2 ≡ 0
 even-low h l m n e = omega arith
 
+-- the addend is a first word alone
 pub word-of : (o : ℕ) → twoWords (o * 512) 0 ≡ o * 512 * 2 ^ 64
 word-of o = omega arith
 
@@ -76,6 +82,7 @@ pub summed-as : (alike : Bool) (a x b z a' x' b' z' w y : ℕ) (s : Bool) → a 
 summed-as alike a x b z a' x' b' z' w y s i j k l h =
     subst (λ (e : ℕ). Summed alike a' x' b' e w y s) l (subst (λ (e : ℕ). Summed alike a' x' e z w y s) k (subst (λ (e : ℕ). Summed alike a' e b z w y s) j (subst (λ (e : ℕ). Summed alike e x b z w y s) i h)))
 
+-- the larger of two powers is between the bounds of both
 pub larger-power : (x z y : ℕ) → y ≡ cond (ltb x z) z x → 64 ≤ x → 64 ≤ z → x ≤ 4200 → z ≤ 4200 → (64 ≤ y) × (y ≤ 4200)
 larger-power x z y e a b c d = elim (lt-or-ge x z) [
   | inl l ↦ let i : y ≡ z = e ∙ rw (lt-ltb x z l) refl in (omega arith, omega arith)

@@ -25,6 +25,7 @@ module _ (e x d w : ℕ) (D : 0 < d) (E : e % 2 ≡ 0) (h : IsOddCut x d w) wher
       go (inl i) = elim (lt-or-ge e w) [ inl g ↦ let m = mul-le-mul-right d g in absurd (omega arith) | inr g ↦ g ]
       go (inr i) = elim (lt-or-ge e w) [ inl g ↦ let m = mul-le-mul-right d g in absurd (omega arith) | inr g ↦ g ]
 
+  -- or less
   pub cut-gt : e * d < x → e < w
   cut-gt l = go h
     where
@@ -40,6 +41,7 @@ module _ (e x d w : ℕ) (D : 0 < d) (E : e % 2 ≡ 0) (h : IsOddCut x d w) wher
   less-at (inl i) l g = let m : (w - e) * d + e * d ≡ w * d = sym (add-mul (w - e) e d) ∙ ap (λ (t : ℕ). t * d) (omega arith) in inl (omega arith)
   less-at (inr i) l g = let m : (w - e) * d + e * d ≡ w * d = sym (add-mul (w - e) e d) ∙ ap (λ (t : ℕ). t * d) (omega arith) in inr (omega arith, omega arith, omega arith)
 
+  -- the second summand cut, the first even
   pub second-cut-adds : (alike : Bool) → IsOddCut (sumSize alike (e * d) x) d (sumSize alike e w)
   second-cut-adds true = plus-at h
   second-cut-adds false = elim (lt-or-ge (e * d) x) [
@@ -47,6 +49,7 @@ module _ (e x d w : ℕ) (D : 0 < d) (E : e % 2 ≡ 0) (h : IsOddCut x d w) wher
     | inr l ↦ rw (le-ltb (e * d) x l, le-ltb e w (cut-le l)) (minus-at h l (cut-le l))
   ]
 
+  -- and the cut tells which is larger
   pub second-less : ltb e w ≡ ltb (e * d) x
   second-less = elim (lt-or-ge (e * d) x) [
     | inl l ↦ lt-ltb e w (cut-gt l) ∙ sym (lt-ltb (e * d) x l)
@@ -61,6 +64,7 @@ module _ (e x d w : ℕ) (D : 0 < d) (E : e % 2 ≡ 0) (h : IsOddCut x d w) wher
       go (inl i) = elim (lt-or-ge w e) [ inl g ↦ g | inr g ↦ let m = mul-le-mul-right d g in absurd (omega arith) ]
       go (inr i) = elim (lt-or-ge w e) [ inl g ↦ g | inr g ↦ let t : e + 1 ≤ w = omega arith in let m = mul-le-mul-right d t in absurd (omega arith) ]
 
+  -- or no less
   pub ge-cut : e * d ≤ x → e ≤ w
   ge-cut l = go h
     where
@@ -76,6 +80,7 @@ module _ (e x d w : ℕ) (D : 0 < d) (E : e % 2 ≡ 0) (h : IsOddCut x d w) wher
   plus-at' (inl i) = inl (omega arith)
   plus-at' (inr i) = inr (omega arith, omega arith, omega arith)
 
+  -- the first summand cut, the second even
   pub first-cut-adds : (alike : Bool) → IsOddCut (sumSize alike x (e * d)) d (sumSize alike w e)
   first-cut-adds true = plus-at' h
   first-cut-adds false = elim (lt-or-ge x (e * d)) [
@@ -83,6 +88,7 @@ module _ (e x d w : ℕ) (D : 0 < d) (E : e % 2 ≡ 0) (h : IsOddCut x d w) wher
     | inr l ↦ rw (le-ltb x (e * d) l, le-ltb w e (ge-cut l)) (more-at h l (ge-cut l))
   ]
 
+  -- and the cut tells which is larger
   pub first-less : ltb w e ≡ ltb x (e * d)
   first-less = elim (lt-or-ge x (e * d)) [
     | inl l ↦ lt-ltb w e (lt-cut l) ∙ sym (lt-ltb x (e * d) l)
