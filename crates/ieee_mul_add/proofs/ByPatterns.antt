@@ -26,6 +26,7 @@ use Rattle.ieee_mul_add.proofs.DeepEnough.{deep-enough}
 
 -- ---- the exact sum, over 2 ^ 2232
 module _ (a b c : ℕ) (FA : fieldOf binary64 a < 2047) (FB : fieldOf binary64 b < 2047) (FC : fieldOf binary64 c < 2047) where
+  -- m, n, o are the digits and i, j, k the powers of the three; s is the sign of the product and t that of the addend; A and B are the two as whole numbers over 2 ^ 2232
   abbrev m : ℕ
   m = digitsOf binary64 a
 
@@ -56,6 +57,7 @@ module _ (a b c : ℕ) (FA : fieldOf binary64 a < 2047) (FB : fieldOf binary64 b
   abbrev B : ℕ
   B = addendOf o * 2 ^ (k + 1085)
 
+  -- the three numbers over bottoms that make it 2 ^ 2232
   first : HasValue (ofBits binary64 a) (leb (2 ^ 63) a) (m * 1024 * 2 ^ i) (2 ^ 1084)
   first = rescaled (ofBits binary64 a) (leb (2 ^ 63) a) (m * 2 ^ i) (2 ^ 1074) (m * 1024 * 2 ^ i) (2 ^ 1084) (pow-pos 1074) (move m (2 ^ i) (2 ^ 1074) (2 ^ 1084) (pow-add 2 1074 10)) (pattern-value binary64 a FA)
     where
@@ -74,7 +76,7 @@ module _ (a b c : ℕ) (FA : fieldOf binary64 a < 2047) (FB : fieldOf binary64 b
       move : (o p w r pr u v : ℕ) → pr ≡ p * r → v ≡ u * (512 * (w * r)) → o * 512 * w * pr * u ≡ o * p * v
       move o p w r pr u v d e = let q = ap (λ (x : ℕ). o * p * x) e in let g = ap (λ (x : ℕ). o * 512 * w * x * u) d in omega arith
 
-  -- the exact sum is a whole number over 2 ^ 2232, and the multiply-add is that, rounded-from-cut
+  -- the exact sum is a whole number over 2 ^ 2232, and the multiply-add is that, rounded
   pub exact-sum : (f : Format) → mulAdd f (ofBits binary64 a) (ofBits binary64 b) (ofBits binary64 c) ≡ sum f s A t B (2 ^ 2232)
   exact-sum f =
       mul-add-values f (ofBits binary64 a) (ofBits binary64 b) (ofBits binary64 c) (leb (2 ^ 63) a) (leb (2 ^ 63) b) t (m * 1024 * 2 ^ i) (n * 1024 * 2 ^ (j + 64)) B (2 ^ 1084) (2 ^ 1148) (pow-pos 1084) (pow-pos 1148) first second third
@@ -83,7 +85,7 @@ module _ (a b c : ℕ) (FA : fieldOf binary64 a < 2047) (FB : fieldOf binary64 b
       join : (m n p q r : ℕ) → r ≡ p * q → m * p * (n * q) ≡ m * n * r
       join m n p q r e = let g = ap (λ (x : ℕ). m * n * x) e in omega arith
 
-  -- ---- rounded-from-cut at f, from the sum cut at 2 ^ y
+  -- ---- rounded at f, from the sum cut at 2 ^ y
   module _ (M0 : 0 < digitsOf binary64 a) (N0 : 0 < digitsOf binary64 b) (f : Format) (d : ℕ) (small : prec f ≤ 53) (fine : 1158 ≤ d) (base : d + low f ≡ 2232)
       (w y : ℕ) (larger : Bool) (S : Summed (Bool·beq (unlike (leb (2 ^ 63) a) (leb (2 ^ 63) b)) (leb (2 ^ 63) c)) (productOf (digitsOf binary64 a) (digitsOf binary64 b)) (powerOf binary64 a + powerOf binary64 b + 64) (addendOf (digitsOf binary64 c)) (powerOf binary64 c + 1085) w y larger) where
     abbrev alike : Bool
@@ -112,7 +114,7 @@ module _ (a b c : ℕ) (FA : fieldOf binary64 a < 2047) (FB : fieldOf binary64 b
         at : (v % 2 ≡ 1) × (v * g < x + g) × (x < v * g + g) → x ≡ 0 → v * g < 1 * g
         at h z = omega arith
 
-    -- what is rounded-from-cut from the cut is the multiply-add
+    -- what is rounded from the cut is the multiply-add
     pub rounded-from-cut : RoundedFrom f d (cond larger t s) w y (mulAdd f (ofBits binary64 a) (ofBits binary64 b) (ofBits binary64 c))
     rounded-from-cut =
         record {

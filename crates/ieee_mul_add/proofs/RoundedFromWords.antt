@@ -1,4 +1,4 @@
--- What is dropped and kept of twoWords words, in numbers. Assumes nothing.
+-- What is dropped and kept of a number of two words: how many digits it has, how far it is cut, and that the quarters left, rounded, are the digits kept. Assumes nothing.
 use mathlib.Core.Path.{_≡_, sym, ap, _∙_}
 use mathlib.Core.Logic.{_⊎_, inl, inr}
 use Prim.Native.Nat.{ℕ, suc, _+_, _-_, _*_, _/_, _%_, _^_, _≤_, _<_}
@@ -43,7 +43,7 @@ size-words h l P H L = go (leading-top 64 h P H)
         let hi : twoWords h l < 2 ^ suc (j + 64) = lt-of-lt-of-le (above h l (2 ^ suc j) (2 ^ 64) L m) (le-of-eq (sym (pow-add 2 (suc j) 64) ∙ ap (λ (x : ℕ). 2 ^ x) (omega arith))) in
         size-between (twoWords h l) (j + 64) lo hi ∙ omega arith
 
--- ---- the shift
+-- ---- the shift: s places are dropped of a number of t digits times 2 ^ y / 2 ^ d where p are kept; no fewer than two, and so many that p are left and no place below the smallest value
 pub record Shift (t p d y s : ℕ) : Type 0 where
   pub two-more : 2 ≤ s
   pub covers : t ≤ p + s

@@ -1,4 +1,4 @@
--- Two numbers times powers of twoWords, sumSize where one is cut to the other's power. Assumes nothing.
+-- Two numbers times powers of two, added where one is cut to the other's power. Assumes nothing.
 use mathlib.Core.Path.{_≡_, refl, sym, ap, _∙_, subst}
 use mathlib.Core.Logic.{inl, inr}
 use Prim.Native.Nat.{ℕ, suc, _+_, _-_, _*_, _%_, _^_, _≤_, _<_}
@@ -24,7 +24,7 @@ words-lt h l H L = lt-of-lt-of-le (over h l (2 ^ 64) L) (le-trans (mul-le-mul-ri
     over : (h l w : ℕ) → l < w → h * w + l < suc h * w
     over h l w L = omega arith
 
--- of the first word
+-- so a first word below 2 ^ 62 is at most that after it
 pub cut-high : (h l d vh vl : ℕ) → h < 2 ^ 62 → l < 2 ^ 64 → twoWords vh vl ≡ oddCut (twoWords h l) (2 ^ d) → vh ≤ 2 ^ 62
 cut-high h l d vh vl H L e =
     let x = twoWords h l in
@@ -33,8 +33,9 @@ cut-high h l d vh vl H L e =
     let w = odd-le x g (oddCut x g) (2 ^ 126) (pow-pos d) (is-odd-cut x g (pow-pos d)) b in
     le-of-mul-le-mul-right (le-trans (le-add-right (vh * 2 ^ 64) vl) (le-trans (le-of-eq e) (le-trans w (le-of-eq (pow-add 2 62 64))))) (pow-pos 64)
 
--- ---- sumSize at the larger power
+-- ---- added at the larger power
 module _ (alike : Bool) (p x q z : ℕ) (P : p % 2 ≡ 0) (Q : q % 2 ≡ 0) where
+  -- a number cut by 2 ^ d, and the same times 2 ^ a
   scaled : (n a d : ℕ) → IsOddCut (n * 2 ^ a) (2 ^ (d + a)) (oddCut n (2 ^ d))
   scaled n a d = subst (λ (g : ℕ). IsOddCut (n * 2 ^ a) g (oddCut n (2 ^ d))) (sym (pow-add 2 d a)) (scaled-cut n (2 ^ d) (oddCut n (2 ^ d)) (2 ^ a) (pow-pos a) (is-odd-cut n (2 ^ d) (pow-pos d)))
 
@@ -66,6 +67,8 @@ pub even-two : (h l : ℕ) → l % 2 ≡ 0 → twoWords h l % 2 ≡ 0
 even-two h l e = omega arith
 
 -- ---- the words of the product and of the addend
+
+-- a number below 2 ^ 126 has a first word below 2 ^ 62
 pub high-of : (h l n : ℕ) → twoWords h l ≡ n → n < 2 ^ 126 → h < 2 ^ 62
 high-of h l n e b = lt-of-mul-lt-mul-right (2 ^ 64) (lt-of-le-of-lt (le-trans (le-add-right (h * 2 ^ 64) l) (le-of-eq e)) (lt-of-lt-of-le b (le-of-eq (pow-add 2 62 64))))
 

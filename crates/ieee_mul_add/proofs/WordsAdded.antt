@@ -1,4 +1,4 @@
--- Sums and differences of two words, in numbers; W is the base, held open because `omega` works with no numbers of more than 38 digits. Assumes nothing.
+-- Differences of numbers of two words, by their words. W is the base, held open because `omega` works with no numbers of more than 38 digits. Assumes nothing.
 use mathlib.Core.Path.{_≡_, refl, ap}
 use mathlib.Core.Logic.{inl, inr}
 use Prim.Native.Nat.{ℕ, _+_, _-_, _*_, _%_, _^_, _≤_, _<_}

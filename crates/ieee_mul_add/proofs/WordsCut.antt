@@ -1,4 +1,4 @@
--- Two words cut short, in numbers. Assumes nothing.
+-- Two words cut short by so many places: what the code makes of them is their odd cut. Assumes nothing.
 use mathlib.Core.Path.{_≡_, refl, sym, ap, ap₂, _∙_, subst}
 use mathlib.Core.Logic.{inl, inr}
 use Prim.Native.Nat.{ℕ, _+_, _-_, _*_, _/_, _%_, _^_, _≤_, _<_}

@@ -1,4 +1,4 @@
--- A product of two words by columns in base 2 ^ 32, in numbers. Assumes nothing.
+-- A product of two words by columns in base 2 ^ 32. Assumes nothing.
 use mathlib.Core.Path.{_≡_, sym, ap, _∙_}
 use Prim.Native.Nat.{ℕ, _+_, _-_, _*_, _/_, _%_, _^_, _≤_, _<_}
 use native.Mathlib.Nat.{mul-le-mul, lt-of-mul-lt-mul-right, lt-of-le-of-lt, le-trans, le-of-eq, le-of-lt, le-add-right, mul-le-mul-left, mul-lt-mul-of-pos-right}
