@@ -24,7 +24,6 @@ firstMeasure (byte ∷ bytes) = pick (eqb byte comma) [] (byte ∷ firstMeasure 
 
 -- behind each comma another begins
 unfoldable pub laterMeasures : List ℕ → List (List ℕ)
-unfolding firstMeasure
 laterMeasures [] = []
 laterMeasures (byte ∷ bytes) = pick (eqb byte comma) (firstMeasure bytes ∷ laterMeasures bytes) (laterMeasures bytes)
 
@@ -40,17 +39,14 @@ oneIf begun = pick begun 1 0
 -- The rows of a measure. Only a line feed ends a row, and so does the measure's end; a row of blank bytes is none.
 -- The test says whether the row so far is begun.
 unfoldable pub measureRows : Bool → List ℕ → ℕ
-unfolding isBlank
 measureRows begun [] = oneIf begun
 measureRows begun (byte ∷ bytes) =
     pick (eqb byte lineFeed) (oneIf begun + measureRows false bytes) (measureRows (pick (isBlank byte) begun true) bytes)
 
 unfoldable pub rowsOf : List ℕ → ℕ
-unfolding measureRows
 rowsOf measure = measureRows false measure
 
 -- the rows of all measures
 unfoldable pub allRows : List (List ℕ) → ℕ
-unfolding rowsOf
 allRows [] = 0
 allRows (measure ∷ rest) = rowsOf measure + allRows rest

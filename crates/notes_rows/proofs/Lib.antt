@@ -1,0 +1,6 @@
+pub mod FewRows
+pub mod CountingRows
+pub mod MeasureByMeasure
+pub mod RowByRow
+pub mod MeasureWritesRows
+pub mod WritingMeasures
