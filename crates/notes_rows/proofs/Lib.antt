@@ -4,3 +4,5 @@ pub mod MeasureByMeasure
 pub mod RowByRow
 pub mod MeasureWritesRows
 pub mod WritingMeasures
+pub mod RowsOutcome
+pub mod OneOutcome

@@ -45,7 +45,7 @@ module _ (noteData : List ℕ) (place : ℕ) (within : place ≤ length noteData
     measure-after-measure =
         let part = drop place noteData in
         let behind : measuresFrom (measure .end + 1) noteData ≡ laterMeasures part =
-            ap (λ (n : ℕ). measuresFrom n noteData) (omega (arith, counted .end)) ∙ from-part (suc (length (firstMeasure part))) ∙ sym (later-measures part) in
+        ap (λ (n : ℕ). measuresFrom n noteData) (omega (arith, counted .end)) ∙ from-part (suc (length (firstMeasure part))) ∙ sym (later-measures part) in
         rw (le-leb place (length noteData) within) (ap (_∷_ (firstMeasure part)) (sym behind))
 
     pub rows-after-rows : allRows (measuresFrom place noteData) ≡ measure .rows + allRows (measuresFrom (measure .end + 1) noteData)

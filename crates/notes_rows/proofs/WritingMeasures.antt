@@ -36,9 +36,14 @@ module _ {noteData : List ℕ} {old : List Float} where
     -- what is written and what is left have room
     room-left : written + allRows (measuresFrom place noteData) ≤ length old
     room-left =
-        omega
-        (arith, so-far .many, length-append (so-far .done) (beatsFrom index (measuresFrom place noteData)), ap length (so-far .whole),
-        measures-write-rows index (measuresFrom place noteData), data-writes-rows noteData)
+        omega (
+          arith,
+          so-far .many,
+          length-append (so-far .done) (beatsFrom index (measuresFrom place noteData)),
+          ap length (so-far .whole),
+          measures-write-rows index (measuresFrom place noteData),
+          data-writes-rows noteData,
+        )
 
     pub same-room : length room ≡ length old
     same-room = ap length (so-far .laid-so-far) ∙ laid-length (so-far .done) old (omega (arith, room-left, so-far .many))
@@ -54,7 +59,7 @@ module _ {noteData : List ℕ} {old : List Float} where
           let beats = measureBeats index (measure .rows) in
           let rest = beatsFrom (index + 1) (measuresFrom (measure .end + 1) noteData) in
           let left : beatsFrom index (measuresFrom place noteData) ≡ beats ++ rest =
-              ap (beatsFrom index) (measure-after-measure noteData place place-within counted) ∙ rw (add-one index, counted .rows) in
+          ap (beatsFrom index) (measure-after-measure noteData place place-within counted) ∙ rw (add-one index, counted .rows) in
           record {
             done = so-far .done ++ beats;
             many = omega (arith, so-far .many, length-append (so-far .done) beats, measure-writes-rows index (measure .rows));
@@ -71,5 +76,5 @@ module _ {noteData : List ℕ} {old : List Float} where
     unfolding beatsFrom
     all-written past =
         let all : so-far .done ≡ rowsToBeats noteData =
-            sym (append-nil (so-far .done)) ∙ rw (none-behind noteData place (omega arith)) at (so-far .whole) in
+        sym (append-nil (so-far .done)) ∙ rw (none-behind noteData place (omega arith)) at (so-far .whole) in
         so-far .laid-so-far ∙ ap (λ (l : List Float). laid l old) all

@@ -7,10 +7,6 @@ use borrow.Author.Needs.{needs}
 use Rattle.notes_rows.proofs.CountingRows.{Counting, at-start, rows-fit, at-end, at-comma, at-line-feed, at-blank, at-other}
 use Rattle.notes_rows.proofs.count_measure_rows.Statement.{statement}
 use Rattle.notes_rows.proofs.count_measure_rows.Tie as tie
-use Rattle.notes_rows.proofs.count_measure_rows.Reads as reads
-use Rattle.notes_rows.proofs.count_measure_rows.Lts as lts
-use Rattle.notes_rows.proofs.is_blank.Reads as is-blank-reads
-use Rattle.notes_rows.proofs.one_if.Reads as one-if-reads
 
 abbrev Inv-loop : tie.InvT-loop
 Inv-loop note-data place rows₀ begun₀ i₀ rows begun i = Counting note-data place rows begun i

@@ -10,9 +10,6 @@ use Rattle.notes_rows.proofs.FewRows.{all-rows-few}
 use Rattle.notes_rows.proofs.MeasureByMeasure.{rows-after-rows, ends-within, none-behind, all-at-first}
 use Rattle.notes_rows.proofs.count_rows.Statement.{statement}
 use Rattle.notes_rows.proofs.count_rows.Tie as tie
-use Rattle.notes_rows.proofs.count_rows.Reads as reads
-use Rattle.notes_rows.proofs.count_rows.Lts as lts
-use Rattle.notes_rows.proofs.count_measure_rows.Reads as count-measure-rows-reads
 
 abbrev Inv-loop : tie.InvT-loop
 Inv-loop note-data rows₀ place₀ rows place = (place ≤ length note-data + 1) × (rows + allRows (measuresFrom place note-data) ≡ allRows (measures note-data))

@@ -3,8 +3,6 @@ use borrow.Author.Tests.{eq-eqb, ne-eqb}
 use Rattle.notes_rows.specs.Measures.{isBlank}
 use Rattle.notes_rows.proofs.is_blank.Statement.{statement}
 use Rattle.notes_rows.proofs.is_blank.Tie as tie
-use Rattle.notes_rows.proofs.is_blank.Reads as reads
-use Rattle.notes_rows.proofs.is_blank.Lts as lts
 
 returns : tie.Need-returns
 unfolding isBlank

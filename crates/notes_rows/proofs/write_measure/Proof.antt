@@ -8,9 +8,6 @@ use Rattle.notes_rows.specs.RowBeats.{beatOfRow, measureBeats}
 use Rattle.notes_rows.proofs.RowByRow.{beatsLeft, count-held, all-left, row-after-row, none-left}
 use Rattle.notes_rows.proofs.write_measure.Statement.{statement}
 use Rattle.notes_rows.proofs.write_measure.Tie as tie
-use Rattle.notes_rows.proofs.write_measure.Reads as reads
-use Rattle.notes_rows.proofs.write_measure.Lts as lts
-use Rattle.ieee_mul_add.proofs.mul_add_f32.Reads as mul-add-f32-reads
 
 abbrev Inv-loop : tie.InvT-loop
 Inv-loop measure rows beats₀ start step row₀ beats row =
