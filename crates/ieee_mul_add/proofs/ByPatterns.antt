@@ -1,28 +1,32 @@
 -- A multiply-add of three f64 at a format f, by their patterns: from the exact sum of two whole numbers, cut short. This is the one fact that both forms are proved from. Assumes nothing.
 use mathlib.Core.Path.{_≡_, refl, sym, ap, ap₂, _∙_, subst}
 use mathlib.Core.Logic.{_⊎_, inl, inr}
-use Prim.Native.Nat.{ℕ, zero, suc, _+_, _-_, _*_, _/_, _%_, _^_, _≤_, _<_}
-use native.Mathlib.Nat.{le-refl, le-trans, le-of-eq, lt-of-lt-of-le, mul-pos, mul-lt-mul-of-pos-right, mul-le-mul-right, eq-zero-or-pos, lt-of-mul-lt-mul-right}
+use Prim.Native.Nat.{ℕ, suc, _+_, _-_, _*_, _%_, _^_, _≤_, _<_}
+use native.Mathlib.Nat.{le-trans, le-of-eq, lt-of-lt-of-le, mul-pos, mul-lt-mul-of-pos-right, eq-zero-or-pos, lt-of-mul-lt-mul-right}
 use native.Mathlib.Omega.{arith}
-use mathlib.Core.Bool.{Bool, true, false, not, _&&_, Bool·beq, cond}
+use mathlib.Core.Bool.{Bool, Bool·beq, cond}
 use lib.IntN.{pos}
-use lib.Dec.{T, leb, ltb}
+use lib.Dec.{leb}
 use lib.Pow.{pow-add, pow-pos, pow-mono}
-use lib.Ieee.{Float, fin, Format, binary64, prec, low, hid, ones, top, unlike, round, sum, add, mul, toBits, ofBits}
+use lib.Ieee.{Float, fin, Format, binary64, prec, low, unlike, round, sum, add, mul, ofBits}
 use lib.Ieee.Bits.{ofBits-toBits}
 use lib.Ieee.Exact.{HasValue, round-exact}
 use lib.Ieee.Fits.{round-fits}
 use Rattle.ieee.proofs.ByValue.{mul-value}
 use Rattle.ieee.proofs.KeepsOrder.{round-zero}
 use Rattle.ieee.proofs.Values.{rescaled}
-use Rattle.ieee_odd_cut.specs.OddCut.{oddCut, joined}
-use Rattle.ieee_odd_cut.proofs.OddLaws.{IsOdd, cut-is, cut-zero}
-use Rattle.ieee_odd_cut.proofs.RoundOdd.{cut-pattern}
+use Rattle.ieee.proofs.PatternValue.{pattern-value, digits-lt, digits-full}
+use Rattle.ieee.proofs.SumBySigns.{sum-signed, sum-cancelled}
+use Rattle.ieee.specs.inside.PatternParts.{fieldOf, digitsOf, powerOf}
+use Rattle.ieee.specs.inside.SumSize.{sumSize}
 use Rattle.ieee_mul_add.specs.MulAdd.{mulAdd}
-use Rattle.ieee_mul_add.specs.Parts.{fieldOf, digitsOf, powerOf, productOf, addendOf, Summed, patternOf, Rounded, ExactProduct}
-use Rattle.ieee_mul_add.proofs.Decode.{pattern-value, digits-lt, digits-full}
+use Rattle.ieee_mul_add.specs.inside.CutSum.{productOf, addendOf, Summed}
+use Rattle.ieee_mul_add.specs.inside.QuickWays.{ExactProduct}
+use Rattle.ieee_mul_add.specs.inside.RoundedFromCut.{RoundedFrom}
+use Rattle.ieee_odd_cut.proofs.OneOddCut.{IsOddCut, is-odd-cut, cut-to-zero}
+use Rattle.ieee_odd_cut.proofs.RoundsAsUncut.{cut-pattern}
+use Rattle.ieee_mul_add.proofs.ByFractions.{mul-add-values, exact-product}
 use Rattle.ieee_mul_add.proofs.DeepEnough.{deep}
-use Rattle.ieee_mul_add.proofs.MulAddLaws.{mul-add-values, exact-product, sum-signed, sum-none}
 
 -- ---- the exact sum, over 2 ^ 2232
 module _ (a b c : ℕ) (FA : fieldOf binary64 a < 2047) (FB : fieldOf binary64 b < 2047) (FC : fieldOf binary64 c < 2047) where
@@ -135,10 +139,10 @@ module _ (a b c : ℕ) (FA : fieldOf binary64 a < 2047) (FB : fieldOf binary64 b
     alike = Bool·beq s t
 
     abbrev N : ℕ
-    N = joined alike A B
+    N = sumSize alike A B
 
-    odd : IsOdd N (2 ^ y) w
-    odd = subst (λ (x : ℕ). IsOdd N (2 ^ y) x) (sym (S .cut)) (cut-is N (2 ^ y) (pow-pos y))
+    odd : IsOddCut N (2 ^ y) w
+    odd = subst (λ (x : ℕ). IsOddCut N (2 ^ y) x) (sym (S .cut)) (is-odd-cut N (2 ^ y) (pow-pos y))
 
     enough : (w * 2 ^ y ≡ N) ⊎ ((y + 2 ≤ d) ⊎ (2 ^ (suc (prec f) + y) ≤ N))
     enough = elim (deep m n o i j k (digits-lt binary64 a) (digits-lt binary64 b) (digits-lt binary64 c) M0 N0 (digits-full binary64 a) (digits-full binary64 b) (digits-full binary64 c) alike w y (S .at) odd) [
@@ -150,17 +154,17 @@ module _ (a b c : ℕ) (FA : fieldOf binary64 a < 2047) (FB : fieldOf binary64 b
     A0 : 0 < A
     A0 = mul-pos (mul-pos (mul-pos M0 (omega arith)) (mul-pos N0 (omega arith))) (pow-pos (i + j + 64))
 
-    none-cut : (x g v : ℕ) → 0 < g → IsOdd x g v → x ≡ 0 → v ≡ 0
+    none-cut : (x g v : ℕ) → 0 < g → IsOddCut x g v → x ≡ 0 → v ≡ 0
     none-cut x g v G (inl e) z = elim (eq-zero-or-pos v) [ inl h ↦ h | inr h ↦ let p = mul-pos h G in absurd (omega arith) ]
     none-cut x g v G (inr h) z = let l : v < 1 = lt-of-mul-lt-mul-right g (at h z) in absurd (omega arith)
       where
         at : (v % 2 ≡ 1) × (v * g < x + g) × (x < v * g + g) → x ≡ 0 → v * g < 1 * g
         at h z = omega arith
 
-    pub rounded : Rounded f d (cond larger t s) w y (mulAdd f (ofBits binary64 a) (ofBits binary64 b) (ofBits binary64 c))
+    pub rounded : RoundedFrom f d (cond larger t s) w y (mulAdd f (ofBits binary64 a) (ofBits binary64 b) (ofBits binary64 c))
     rounded =
         record {
-          none = λ z. exact-sum f ∙ sum-none f s t A B (2 ^ 2232) (pow-pos 2232) A0 (cut-zero N (2 ^ y) w odd z);
+          none = λ z. exact-sum f ∙ sum-cancelled f s t A B (2 ^ 2232) (pow-pos 2232) A0 (cut-to-zero N (2 ^ y) w odd z);
           some = λ p.
               let P : 0 < N = elim (eq-zero-or-pos N) [ inl z ↦ let e = none-cut N (2 ^ y) w (pow-pos y) odd z in absurd (omega arith) | inr q ↦ q ] in
               exact-sum f ∙ sum-signed f s t A B (2 ^ 2232) P

@@ -2,8 +2,8 @@
 -- In numbers: m, n, o are the digits and i, j, k the powers. Assumes nothing.
 use mathlib.Core.Path.{_≡_, refl, sym, ap, ap₂, _∙_, subst}
 use mathlib.Core.Logic.{_⊎_, inl, inr}
-use Prim.Native.Nat.{ℕ, zero, suc, _+_, _-_, _*_, _/_, _%_, _^_, _≤_, _<_}
-use native.Mathlib.Nat.{le-refl, le-trans, le-of-eq, le-of-lt, lt-of-lt-of-le, lt-of-le-of-lt, mul-pos, add-mul, mul-comm, mul-le-mul, mul-le-mul-left, mul-le-mul-right, mul-lt-mul-of-pos-right, eq-zero-or-pos}
+use Prim.Native.Nat.{ℕ, _+_, _-_, _*_, _^_, _≤_, _<_}
+use native.Mathlib.Nat.{le-trans, le-of-eq, le-of-lt, lt-of-lt-of-le, lt-of-le-of-lt, add-mul, mul-comm, mul-le-mul, mul-le-mul-left, mul-le-mul-right, mul-lt-mul-of-pos-right, eq-zero-or-pos}
 use native.Mathlib.Omega.{arith}
 use mathlib.Core.Bool.{Bool, true, false, cond}
 use lib.Dec.{ltb}
@@ -11,28 +11,28 @@ use lib.Pow.{pow-add, pow-pos, pow-mono}
 use borrow.Author.Tests.{lt-ltb, le-ltb}
 use Rattle.ieee.proofs.Closest.{lt-or-ge}
 use Rattle.ieee.proofs.SumByValue.{sub-mul}
-use Rattle.ieee_odd_cut.specs.OddCut.{oddCut, joined}
-use Rattle.ieee_odd_cut.proofs.OddLaws.{IsOdd, is-cut}
-use Rattle.ieee_mul_add.specs.Parts.{productOf, addendOf}
+use Rattle.ieee.specs.inside.SumSize.{sumSize}
+use Rattle.ieee_mul_add.specs.inside.CutSum.{productOf, addendOf}
+use Rattle.ieee_odd_cut.proofs.OneOddCut.{IsOddCut, only-odd-cut}
 
--- ---- two sizes joined
-joined-mul : (alike : Bool) (a b d : ℕ) → 0 < d → joined alike (a * d) (b * d) ≡ joined alike a b * d
+-- ---- two sizes sumSize
+joined-mul : (alike : Bool) (a b d : ℕ) → 0 < d → sumSize alike (a * d) (b * d) ≡ sumSize alike a b * d
 joined-mul true a b d D = sym (add-mul a b d)
 joined-mul false a b d D = elim (lt-or-ge a b) [
   | inl l ↦ rw (lt-ltb a b l, lt-ltb (a * d) (b * d) (mul-lt-mul-of-pos-right l D)) (sym (sub-mul b a d))
   | inr l ↦ rw (le-ltb a b l, le-ltb (a * d) (b * d) (mul-le-mul-right d l)) (sym (sub-mul a b d))
 ]
 
-far-first : (alike : Bool) (t a b : ℕ) → t + t ≤ a → b ≤ t → t ≤ joined alike a b
+far-first : (alike : Bool) (t a b : ℕ) → t + t ≤ a → b ≤ t → t ≤ sumSize alike a b
 far-first true t a b h l = omega arith
 far-first false t a b h l = elim (lt-or-ge a b) [ inl g ↦ rw (lt-ltb a b g) (omega arith) | inr g ↦ rw (le-ltb a b g) (omega arith) ]
 
-far-second : (alike : Bool) (t a b : ℕ) → a ≤ t → t + t ≤ b → t ≤ joined alike a b
+far-second : (alike : Bool) (t a b : ℕ) → a ≤ t → t + t ≤ b → t ≤ sumSize alike a b
 far-second true t a b h l = omega arith
 far-second false t a b h l = elim (lt-or-ge a b) [ inl g ↦ rw (lt-ltb a b g) (omega arith) | inr g ↦ rw (le-ltb a b g) (omega arith) ]
 
-exact-cut : (k d w : ℕ) → 0 < d → IsOdd (k * d) d w → w * d ≡ k * d
-exact-cut k d w D O = ap (λ (x : ℕ). x * d) (sym (is-cut (k * d) d w D O) ∙ is-cut (k * d) d k D (inl refl))
+exact-cut : (k d w : ℕ) → 0 < d → IsOddCut (k * d) d w → w * d ≡ k * d
+exact-cut k d w D O = ap (λ (x : ℕ). x * d) (sym (only-odd-cut (k * d) d w D O) ∙ only-odd-cut (k * d) d k D (inl refl))
 
 -- ---- powers
 double : (e : ℕ) → 2 ^ e + 2 ^ e ≡ 2 ^ (1 + e)
@@ -82,14 +82,14 @@ module _ (m n o i j k : ℕ) (M : m < 2 ^ 53) (N : n < 2 ^ 53) (O : o < 2 ^ 53) 
   B = addendOf o * 2 ^ Z
 
   abbrev Goal : Bool → ℕ → ℕ → Type 0
-  Goal alike w y = (w * 2 ^ y ≡ joined alike A B) ⊎ ((y + 2 ≤ 1158) ⊎ (2 ^ (54 + y) ≤ joined alike A B))
+  Goal alike w y = (w * 2 ^ y ≡ sumSize alike A B) ⊎ ((y + 2 ≤ 1158) ⊎ (2 ^ (54 + y) ≤ sumSize alike A B))
 
   -- both are multiples of 2 ^ y
-  whole : (alike : Bool) (w y a b : ℕ) → A ≡ a * 2 ^ y → B ≡ b * 2 ^ y → IsOdd (joined alike A B) (2 ^ y) w → Goal alike w y
+  whole : (alike : Bool) (w y a b : ℕ) → A ≡ a * 2 ^ y → B ≡ b * 2 ^ y → IsOddCut (sumSize alike A B) (2 ^ y) w → Goal alike w y
   whole alike w y a b e g h =
-      let c = joined alike a b in
-      let q : joined alike A B ≡ c * 2 ^ y = ap₂ (joined alike) e g ∙ joined-mul alike a b (2 ^ y) (pow-pos y) in
-      inl (exact-cut c (2 ^ y) w (pow-pos y) (subst (λ (x : ℕ). IsOdd x (2 ^ y) w) q h) ∙ sym q)
+      let c = sumSize alike a b in
+      let q : sumSize alike A B ≡ c * 2 ^ y = ap₂ (sumSize alike) e g ∙ joined-mul alike a b (2 ^ y) (pow-pos y) in
+      inl (exact-cut c (2 ^ y) w (pow-pos y) (subst (λ (x : ℕ). IsOddCut x (2 ^ y) w) q h) ∙ sym q)
 
   short-product : (e : ℕ) → e + Z ≡ X + 20 → A ≡ m * n * 2 ^ e * 2 ^ Z
   short-product e h =
@@ -112,7 +112,7 @@ module _ (m n o i j k : ℕ) (M : m < 2 ^ 53) (N : n < 2 ^ 53) (O : o < 2 ^ 53) 
       regroup : (o z e x : ℕ) → o * (e * x) ≡ o * (z * 2 ^ 73) → o * 512 * 2 ^ 64 * z ≡ o * e * x
       regroup o z e x q = omega arith
 
-  pub deep : (alike : Bool) (w y : ℕ) → y ≡ cond (ltb X Z) Z X → IsOdd (joined alike A B) (2 ^ y) w → Goal alike w y
+  pub deep : (alike : Bool) (w y : ℕ) → y ≡ cond (ltb X Z) Z X → IsOddCut (sumSize alike A B) (2 ^ y) w → Goal alike w y
   deep alike w y e h = elim (lt-or-ge X Z) [
     | inl l ↦ below l (e ∙ rw (lt-ltb X Z l) refl)
     | inr l ↦ above l (e ∙ rw (le-ltb X Z l) refl)

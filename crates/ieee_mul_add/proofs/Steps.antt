@@ -1,8 +1,8 @@
 -- What the steps of a multiply-add ask, in short laws. Assumes nothing.
 use mathlib.Core.Path.{_≡_, refl, sym, ap, ap₂, _∙_, subst}
-use mathlib.Core.Logic.{_⊎_, inl, inr}
-use Prim.Native.Nat.{ℕ, zero, suc, _+_, _-_, _*_, _/_, _%_, _^_, _≤_, _<_}
-use native.Mathlib.Nat.{le-trans, le-of-eq, lt-of-le-of-lt, lt-of-lt-of-le, le-add-right, lt-of-mul-lt-mul-right, mul-le-mul-left, mul-lt-mul-of-pos-right, le-of-lt, mul-one, eq-zero-or-pos, zero-add}
+use mathlib.Core.Logic.{inl, inr}
+use Prim.Native.Nat.{ℕ, _+_, _-_, _*_, _/_, _%_, _^_, _≤_, _<_}
+use native.Mathlib.Nat.{le-trans, le-of-eq, lt-of-le-of-lt, lt-of-lt-of-le, le-add-right, lt-of-mul-lt-mul-right, mul-le-mul-left, mul-lt-mul-of-pos-right, mul-one, eq-zero-or-pos}
 use native.Mathlib.Omega.{arith}
 use mathlib.Core.Bool.{Bool, true, false, not, _&&_, cond}
 use lib.Dec.{T, ltb}
@@ -14,11 +14,14 @@ use lib.Ieee.Scale.{finite}
 use borrow.Author.Tests.{le-ltb, lt-ltb}
 use Rattle.ieee.proofs.Closest.{lt-or-ge}
 use Rattle.ieee.proofs.FiniteTest.{finite-test}
-use Rattle.ieee_words.specs.Words.{two}
+use Rattle.ieee.proofs.PatternValue.{finite-field, digits-lt}
+use Rattle.ieee.specs.inside.PatternParts.{fieldOf, digitsOf, powerOf}
 use Rattle.ieee_mul_add.specs.MulAdd.{mulAdd}
-use Rattle.ieee_mul_add.specs.Parts.{fieldOf, digitsOf, powerOf, Summed, Rounded, ExactProduct}
+use Rattle.ieee_mul_add.specs.inside.CutSum.{Summed}
+use Rattle.ieee_mul_add.specs.inside.QuickWays.{ExactProduct}
+use Rattle.ieee_mul_add.specs.inside.RoundedFromCut.{RoundedFrom}
+use Rattle.ieee_mul_add.specs.inside.Words.{twoWords}
 use Rattle.ieee_mul_add.proofs.ByPatterns.{zero-product, whole-product}
-use Rattle.ieee_mul_add.proofs.Decode.{finite-field, digits-lt}
 
 -- ---- signs
 pub unlike-minus : (t : Bool) → not t ≡ unlike true t
@@ -33,13 +36,13 @@ pub no-nan : (f : Format) (n : ℕ) → n % top f ≤ ones f * hid f → T (not 
 no-nan f n h = subst (λ (b : Bool). T (not b)) (sym (nanBits-above f n ∙ le-ltb (ones f * hid f) (n % top f) h)) tt
 
 -- ---- words
-pub high-of : (h l n : ℕ) → two h l ≡ n → n < 2 ^ 126 → h < 2 ^ 62
+pub high-of : (h l n : ℕ) → twoWords h l ≡ n → n < 2 ^ 126 → h < 2 ^ 62
 high-of h l n e b = lt-of-mul-lt-mul-right (2 ^ 64) (lt-of-le-of-lt (le-trans (le-add-right (h * 2 ^ 64) l) (le-of-eq e)) (lt-of-lt-of-le b (le-of-eq (pow-add 2 62 64))))
 
-pub even-low : (h l m n : ℕ) → two h l ≡ m * 1024 * (n * 1024) → l % 2 ≡ 0
+pub even-low : (h l m n : ℕ) → twoWords h l ≡ m * 1024 * (n * 1024) → l % 2 ≡ 0
 even-low h l m n e = omega arith
 
-pub word-of : (o : ℕ) → two (o * 512) 0 ≡ o * 512 * 2 ^ 64
+pub word-of : (o : ℕ) → twoWords (o * 512) 0 ≡ o * 512 * 2 ^ 64
 word-of o = omega arith
 
 -- ---- a sum of other names for the same numbers
@@ -54,7 +57,7 @@ larger-power x z y e a b c d = elim (lt-or-ge x z) [
 ]
 
 -- ---- only one float is it
-pub rounded-one : (f : Format) (d : ℕ) (s : Bool) (w y : ℕ) (r q : Float) → Rounded f d s w y r → Rounded f d s w y q → r ≡ q
+pub rounded-one : (f : Format) (d : ℕ) (s : Bool) (w y : ℕ) (r q : Float) → RoundedFrom f d s w y r → RoundedFrom f d s w y q → r ≡ q
 rounded-one f d s w y r q a b = elim (eq-zero-or-pos w) [
   | inl z ↦ a .none z ∙ sym (b .none z)
   | inr p ↦ a .some p ∙ sym (b .some p)

@@ -1,102 +1,248 @@
-// x * y + z with one rounding, at f64 and at f32: the exact sum as a whole number of two words, cut short with a mark for what was lost, and rounded from there.
+// a * b + c with one rounding, at f64 and at f32. The exact sum is a whole number of two words, cut short with a mark for what was lost (rounding to odd), and is rounded from there.
+// Where the product needs no rounding, the two operations give the same, and are taken.
 ghost use mathlib.Core.Path.{_≡_};
-ghost use mathlib.Core.Bool.{true, cond};
-ghost use Prim.Native.Nat.{_+_, _-_, _*_, _%_, _^_, _≤_, _<_};
+ghost use mathlib.Core.Bool.{true, false, cond, not, _&&_};
+ghost use Prim.Native.Nat.{_+_, _-_, _*_, _^_, _≤_, _<_, _%_};
+ghost use lib.Dec.{ltb};
 ghost use lib.Ieee.{binary32, binary64, top, unlike, ofBits};
-ghost use Rattle.ieee_words.specs.Words.{two};
+ghost use Rattle.ieee.specs.inside.Harmless.{Harmless};
+ghost use Rattle.ieee.specs.inside.PatternParts.{fieldOf, digitsOf, powerOf};
+ghost use Rattle.ieee.specs.inside.SumSize.{sumSize};
+ghost use Rattle.ieee_odd_cut.specs.OddCut.{madeOdd, oddCut};
 ghost use Rattle.ieee_mul_add.specs.MulAdd.{mulAdd};
-ghost use Rattle.ieee_mul_add.specs.Parts.{fieldOf, digitsOf, powerOf, productOf, addendOf, sizeOf, Summed, KeptOf, Rounded, ExactProduct, Harmless};
+ghost use Rattle.ieee_mul_add.specs.inside.Words.{twoWords, wordsOf};
+ghost use Rattle.ieee_mul_add.specs.inside.CutSum.{productOf, addendOf, Summed};
+ghost use Rattle.ieee_mul_add.specs.inside.RoundedFromCut.{KeptOf, patternSize, RoundedFrom};
+ghost use Rattle.ieee_mul_add.specs.inside.QuickWays.{ExactProduct};
+
+// ---- whole numbers of two words
+
+// high * 2^64 + low.
+pub struct Wide {
+    pub high: u64,
+    pub low: u64,
+}
+
+// q, and where something is left over the odd one of q and q + 1.
+fn made_odd(q: u64, rest: u64) -> u64
+    ensures { λ r. ⌜ r ≡ madeOdd q rest ⌝ }
+{
+    if rest == 0 { q } else { q / 2 * 2 + 1 }
+}
+
+// Two words / 2^places, rounded to odd.
+fn cut_below(high: u64, low: u64, places: u64) -> Wide
+    requires { ⌜ (0 < places) × (places < 64) ⌝ }
+    ensures { λ r. ⌜ wordsOf r ≡ oddCut (twoWords high low) (2 ^ places) ⌝ }
+{
+    Wide {
+        high: high >> places,
+        low: made_odd(
+            (high << (64 - places)) + (low >> places),
+            low % (1u64 << places),
+        ),
+    }
+}
+
+// The same for any number of places.
+fn cut(high: u64, low: u64, places: u64) -> Wide
+    ensures { λ r. ⌜ wordsOf r ≡ oddCut (twoWords high low) (2 ^ places) ⌝ }
+{
+    if places == 0 {
+        return Wide { high, low };
+    }
+    if places < 64 {
+        return cut_below(high, low, places);
+    }
+    let word = made_odd(high, low);
+    if places == 64 {
+        return Wide { high: 0, low: word };
+    }
+    if places < 128 {
+        return cut_below(0, word, places - 64);
+    }
+    Wide {
+        high: 0,
+        low: made_odd(0, word),
+    }
+}
+
+// The whole product, column by column in base 2^32.
+fn product(a: u64, b: u64) -> Wide
+    ensures { λ r. ⌜ wordsOf r ≡ a * b ⌝ }
+{
+    let a0 = a % 0x1_0000_0000;
+    let a1 = a / 0x1_0000_0000;
+    let b0 = b % 0x1_0000_0000;
+    let b1 = b / 0x1_0000_0000;
+    let w0 = a0 * b0;
+    let t = a1 * b0 + w0 / 0x1_0000_0000;
+    let w1 = t % 0x1_0000_0000 + a0 * b1;
+    Wide {
+        high: a1 * b1 + t / 0x1_0000_0000 + w1 / 0x1_0000_0000,
+        low: w1 % 0x1_0000_0000 * 0x1_0000_0000 + w0 % 0x1_0000_0000,
+    }
+}
+
+fn plus(a_high: u64, a_low: u64, b_high: u64, b_low: u64) -> Wide
+    requires { ⌜ «a_high» + «b_high» + 1 < 2 ^ 64 ⌝ }
+    ensures { λ r. ⌜ wordsOf r ≡ twoWords «a_high» «a_low» + twoWords «b_high» «b_low» ⌝ }
+{
+    let low = std::num::wrapping_add_u64(a_low, b_low);
+    if low < a_low {
+        Wide {
+            high: a_high + b_high + 1,
+            low,
+        }
+    } else {
+        Wide {
+            high: a_high + b_high,
+            low,
+        }
+    }
+}
+
+fn minus(a_high: u64, a_low: u64, b_high: u64, b_low: u64) -> Wide
+    requires { ⌜ twoWords «b_high» «b_low» ≤ twoWords «a_high» «a_low» ⌝ }
+    ensures { λ r. ⌜ wordsOf r + twoWords «b_high» «b_low» ≡ twoWords «a_high» «a_low» ⌝ }
+{
+    let low = std::num::wrapping_sub_u64(a_low, b_low);
+    if a_low < b_low {
+        Wide {
+            high: a_high - b_high - 1,
+            low,
+        }
+    } else {
+        Wide {
+            high: a_high - b_high,
+            low,
+        }
+    }
+}
+
+// The size of a sum of two numbers of either sign, by their sizes, and whether the second is larger and its sign counts.
+pub struct Joined {
+    pub high: u64,
+    pub low: u64,
+    pub second: bool,
+}
+
+// Signs that are not alike: how far the two are apart.
+fn apart(a_high: u64, a_low: u64, b_high: u64, b_low: u64) -> Joined
+    ensures { λ r.
+        let a = twoWords «a_high» «a_low» in
+        let b = twoWords «b_high» «b_low» in
+        ⌜ (twoWords (r .high) (r .low) ≡ sumSize false a b) × (r .second ≡ ltb a b) ⌝ }
+{
+    if a_high < b_high {
+        let w = minus(b_high, b_low, a_high, a_low);
+        return Joined {
+            high: w.high,
+            low: w.low,
+            second: true,
+        };
+    }
+    if a_high == b_high {
+        if a_low < b_low {
+            return Joined {
+                high: 0,
+                low: b_low - a_low,
+                second: true,
+            };
+        }
+    }
+    let w = minus(a_high, a_low, b_high, b_low);
+    Joined {
+        high: w.high,
+        low: w.low,
+        second: false,
+    }
+}
+
+fn join(a_high: u64, a_low: u64, b_high: u64, b_low: u64, alike: bool) -> Joined
+    requires { ⌜ «a_high» + «b_high» + 1 < 2 ^ 64 ⌝ }
+    ensures { λ r.
+        let a = twoWords «a_high» «a_low» in
+        let b = twoWords «b_high» «b_low» in
+        ⌜ (twoWords (r .high) (r .low) ≡ sumSize alike a b) × (r .second ≡ (not alike && ltb a b)) ⌝ }
+{
+    if alike {
+        let w = plus(a_high, a_low, b_high, b_low);
+        Joined {
+            high: w.high,
+            low: w.low,
+            second: false,
+        }
+    } else {
+        apart(a_high, a_low, b_high, b_low)
+    }
+}
+
+// ---- the exact sum, cut
 
 // The digits of an f64's pattern, and the power of two that they are times, in units of the smallest f64.
-fn digits(b: u64) -> u64
-    ensures { λ r. ⌜ r ≡ digitsOf binary64 b ⌝ }
+fn digits(pattern: u64) -> u64
+    ensures { λ r. ⌜ r ≡ digitsOf binary64 pattern ⌝ }
 {
-    if b % 0x8000_0000_0000_0000 / 0x10_0000_0000_0000 == 0 {
-        b % 0x10_0000_0000_0000
+    if pattern % 0x8000_0000_0000_0000 / 0x10_0000_0000_0000 == 0 {
+        pattern % 0x10_0000_0000_0000
     } else {
-        0x10_0000_0000_0000 + b % 0x10_0000_0000_0000
+        0x10_0000_0000_0000 + pattern % 0x10_0000_0000_0000
     }
 }
 
-fn power(b: u64) -> u64
-    ensures { λ r. ⌜ r ≡ powerOf binary64 b ⌝ }
+fn power(pattern: u64) -> u64
+    ensures { λ r. ⌜ r ≡ powerOf binary64 pattern ⌝ }
 {
-    let x = b % 0x8000_0000_0000_0000 / 0x10_0000_0000_0000;
-    if x == 0 { 0 } else { x - 1 }
+    let field = pattern % 0x8000_0000_0000_0000 / 0x10_0000_0000_0000;
+    if field == 0 { 0 } else { field - 1 }
 }
 
-// Two numbers of two words, times 2^x and 2^z, joined and cut at the larger power y.
+// Two words times 2^exponent, and whether the second summand is larger and its sign counts.
 pub struct Sum {
-    pub h: u64,
-    pub l: u64,
+    pub high: u64,
+    pub low: u64,
     pub second: bool,
-    pub y: u64,
+    pub exponent: u64,
 }
 
-fn summed(ph: u64, pl: u64, x: u64, qh: u64, ql: u64, z: u64, alike: bool) -> Sum
-    requires { ⌜ (ph < 2 ^ 62) × (qh < 2 ^ 62) × (pl % 2 ≡ 0) × (ql % 2 ≡ 0) ⌝ }
-    ensures { λ r. ⌜ Summed alike (two ph pl) x (two qh ql) z (two (r .h) (r .l)) (r .y) (r .second) ⌝ }
+// p * 2^x and q * 2^z joined: the one with the lower power is cut to the other's.
+fn summed(p_high: u64, p_low: u64, x: u64, q_high: u64, q_low: u64, z: u64, alike: bool) -> Sum
+    requires { ⌜ («p_high» < 2 ^ 62) × («q_high» < 2 ^ 62) × («p_low» % 2 ≡ 0) × («q_low» % 2 ≡ 0) ⌝ }
+    ensures { λ r. ⌜ Summed alike (twoWords «p_high» «p_low») x (twoWords «q_high» «q_low») z (twoWords (r .high) (r .low)) (r .exponent) (r .second) ⌝ }
 {
     if x < z {
-        let p = ieee_words::cut(ph, pl, z - x);
-        let j = ieee_words::join(p.h, p.l, qh, ql, alike);
+        let p = cut(p_high, p_low, z - x);
+        let j = join(p.high, p.low, q_high, q_low, alike);
         Sum {
-            h: j.h,
-            l: j.l,
+            high: j.high,
+            low: j.low,
             second: j.second,
-            y: z,
+            exponent: z,
         }
     } else {
-        let q = ieee_words::cut(qh, ql, x - z);
-        let j = ieee_words::join(ph, pl, q.h, q.l, alike);
+        let q = cut(q_high, q_low, x - z);
+        let j = join(p_high, p_low, q.high, q.low, alike);
         Sum {
-            h: j.h,
-            l: j.l,
+            high: j.high,
+            low: j.low,
             second: j.second,
-            y: x,
+            exponent: x,
         }
     }
 }
 
-// What a format of p digits drops and keeps of a number times 2^y / 2^d, in units of its smallest value.
-pub struct Kept {
-    pub k: u64,
-    pub q: u64,
-}
-
-fn kept_high(h: u64, l: u64, y: u64, p: u64, d: u64) -> Kept
-    requires { ⌜ (0 < h) × (2 ≤ p) × (p ≤ 53) × (y ≤ 8000) × (d ≤ 8000) ⌝ }
-    ensures { λ r. ⌜ KeptOf p d (two h l * 2 ^ y) (r .k) (r .q) × (r .k ≤ y + 128 - d) ⌝ }
-{
-    let over = 128 - (u64::leading_zeros(h) as u64) - p;
-    let s = if y + over < d { d - y } else { over };
-    let v = ieee_words::cut(h, l, s - 2);
-    let n = v.l;
-    Kept {
-        k: y + s - d,
-        q: (n + 1 + n / 4 % 2) / 4,
-    }
-}
-
-fn kept_of(h: u64, l: u64, y: u64, p: u64, d: u64) -> Kept
-    requires { ⌜ (0 < h + l) × (2 ≤ p) × (p ≤ 53) × (64 ≤ y) × (y ≤ 8000) × (d ≤ 8000) ⌝ }
-    ensures { λ r. ⌜ KeptOf p d (two h l * 2 ^ y) (r .k) (r .q) × (r .k ≤ y + 128 - d) ⌝ }
-{
-    if h == 0 {
-        kept_high(l, 0, y - 64, p, d)
-    } else {
-        kept_high(h, l, y, p, d)
-    }
-}
-
-// The exact sum of a product and a third number, by their f64 patterns, cut.
+// The exact sum of a product a * b and an addend c, by their f64 patterns, in units of 2^-2232.
 fn summed_bits(a: u64, b: u64, c: u64, alike: bool) -> Sum
-    ensures { λ r. ⌜ Summed alike (productOf (digitsOf binary64 a) (digitsOf binary64 b)) (powerOf binary64 a + powerOf binary64 b + 64) (addendOf (digitsOf binary64 c)) (powerOf binary64 c + 1085) (two (r .h) (r .l)) (r .y) (r .second) ⌝ }
+    ensures { λ r.
+        let product = productOf (digitsOf binary64 a) (digitsOf binary64 b) in
+        let addend = addendOf (digitsOf binary64 c) in
+        ⌜ Summed alike product (powerOf binary64 a + powerOf binary64 b + 64) addend (powerOf binary64 c + 1085) (twoWords (r .high) (r .low)) (r .exponent) (r .second) ⌝ }
 {
-    let p = ieee_words::product(digits(a) * 1024, digits(b) * 1024);
+    let p = product(digits(a) * 1024, digits(b) * 1024);
     summed(
-        p.h,
-        p.l,
+        p.high,
+        p.low,
         power(a) + power(b) + 64,
         digits(c) * 512,
         0,
@@ -105,13 +251,52 @@ fn summed_bits(a: u64, b: u64, c: u64, alike: bool) -> Sum
     )
 }
 
-// The pattern of a size, no more than an infinity's.
-fn size_f64(h: u64, l: u64, y: u64) -> u64
-    requires { ⌜ (0 < h + l) × (64 ≤ y) × (y ≤ 4200) ⌝ }
-    ensures { λ r. ⌜ r ≡ sizeOf binary64 1158 (two h l * 2 ^ y) ⌝ }
+// ---- rounded from there
+
+// How many places are dropped, and the digits that are kept, rounded.
+pub struct Kept {
+    pub dropped: u64,
+    pub digits: u64,
+}
+
+// Of two words times 2^exponent / 2^base, counted in units of the smallest value of a format that keeps so many digits as `precision` says.
+fn kept_high(high: u64, low: u64, exponent: u64, precision: u64, base: u64) -> Kept
+    requires { ⌜ (0 < high) × (2 ≤ precision) × (precision ≤ 53) × (exponent ≤ 8000) × (base ≤ 8000) ⌝ }
+    ensures { λ r. ⌜ KeptOf precision base (twoWords high low * 2 ^ exponent) (r .dropped) (r .digits) × (r .dropped ≤ exponent + 128 - base) ⌝ }
 {
-    let r = kept_of(h, l, y, 53, 1158);
-    let m = r.k * 0x10_0000_0000_0000 + r.q;
+    let over = 128 - (u64::leading_zeros(high) as u64) - precision;
+    let shift = if exponent + over < base {
+        base - exponent
+    } else {
+        over
+    };
+    let quarters = cut(high, low, shift - 2);
+    let n = quarters.low;
+    Kept {
+        dropped: exponent + shift - base,
+        digits: (n + 1 + n / 4 % 2) / 4,
+    }
+}
+
+// The same where the first word may be 0.
+fn kept_of(high: u64, low: u64, exponent: u64, precision: u64, base: u64) -> Kept
+    requires { ⌜ (0 < high + low) × (2 ≤ precision) × (precision ≤ 53) × (64 ≤ exponent) × (exponent ≤ 8000) × (base ≤ 8000) ⌝ }
+    ensures { λ r. ⌜ KeptOf precision base (twoWords high low * 2 ^ exponent) (r .dropped) (r .digits) × (r .dropped ≤ exponent + 128 - base) ⌝ }
+{
+    if high == 0 {
+        kept_high(low, 0, exponent - 64, precision, base)
+    } else {
+        kept_high(high, low, exponent, precision, base)
+    }
+}
+
+// The pattern of a size, no more than an infinity's.
+fn size_f64(high: u64, low: u64, exponent: u64) -> u64
+    requires { ⌜ (0 < high + low) × (64 ≤ exponent) × (exponent ≤ 4200) ⌝ }
+    ensures { λ r. ⌜ r ≡ patternSize binary64 1158 (twoWords high low * 2 ^ exponent) ⌝ }
+{
+    let r = kept_of(high, low, exponent, 53, 1158);
+    let m = r.dropped * 0x10_0000_0000_0000 + r.digits;
     if m < 0x7ff0_0000_0000_0000 {
         m
     } else {
@@ -119,62 +304,63 @@ fn size_f64(h: u64, l: u64, y: u64) -> u64
     }
 }
 
-fn size_f32(h: u64, l: u64, y: u64) -> u64
-    requires { ⌜ (0 < h + l) × (64 ≤ y) × (y ≤ 4200) ⌝ }
-    ensures { λ r. ⌜ r ≡ sizeOf binary32 2083 (two h l * 2 ^ y) ⌝ }
+fn size_f32(high: u64, low: u64, exponent: u64) -> u64
+    requires { ⌜ (0 < high + low) × (64 ≤ exponent) × (exponent ≤ 4200) ⌝ }
+    ensures { λ r. ⌜ r ≡ patternSize binary32 2083 (twoWords high low * 2 ^ exponent) ⌝ }
 {
-    let r = kept_of(h, l, y, 24, 2083);
-    let m = r.k * 0x80_0000 + r.q;
+    let r = kept_of(high, low, exponent, 24, 2083);
+    let m = r.dropped * 0x80_0000 + r.digits;
     if m < 0x7f80_0000 { m } else { 0x7f80_0000 }
 }
 
-// A size with a sign.
-fn signed_f64(n: u64, s: bool) -> f64
-    requires { ⌜ n ≤ 9218868437227405312 ⌝ }
-    ensures { λ r. ⌜ r ≡ ofBits binary64 (cond s (top binary64) 0 + n) ⌝ }
+// A pattern with a sign, negative where it is true.
+fn signed_f64(size: u64, sign: bool) -> f64
+    requires { ⌜ size ≤ 9218868437227405312 ⌝ }
+    ensures { λ r. ⌜ r ≡ ofBits binary64 (cond sign (top binary64) 0 + size) ⌝ }
 {
-    if s {
-        f64::from_bits(0x8000_0000_0000_0000 + n)
+    if sign {
+        f64::from_bits(0x8000_0000_0000_0000 + size)
     } else {
-        f64::from_bits(n)
+        f64::from_bits(size)
     }
 }
 
-fn signed_f32(n: u64, s: bool) -> f32
-    requires { ⌜ n ≤ 2139095040 ⌝ }
-    ensures { λ r. ⌜ r ≡ ofBits binary32 (cond s (top binary32) 0 + n) ⌝ }
+fn signed_f32(size: u64, sign: bool) -> f32
+    requires { ⌜ size ≤ 2139095040 ⌝ }
+    ensures { λ r. ⌜ r ≡ ofBits binary32 (cond sign (top binary32) 0 + size) ⌝ }
 {
-    if s {
-        f32::from_bits((0x8000_0000 + n) as u32)
+    if sign {
+        f32::from_bits((0x8000_0000 + size) as u32)
     } else {
-        f32::from_bits(n as u32)
+        f32::from_bits(size as u32)
     }
 }
 
-fn rounded_f64(h: u64, l: u64, y: u64, s: bool) -> f64
-    requires { ⌜ (64 ≤ y) × (y ≤ 4200) ⌝ }
-    ensures { λ r. ⌜ Rounded binary64 1158 s (two h l) y r ⌝ }
+// What cancelled is +0.
+fn rounded_f64(high: u64, low: u64, exponent: u64, sign: bool) -> f64
+    requires { ⌜ (64 ≤ exponent) × (exponent ≤ 4200) ⌝ }
+    ensures { λ r. ⌜ RoundedFrom binary64 1158 sign (twoWords high low) exponent r ⌝ }
 {
-    if h == 0 {
-        if l == 0 {
+    if high == 0 {
+        if low == 0 {
             return 0.0;
         }
-        return signed_f64(size_f64(h, l, y), s);
+        return signed_f64(size_f64(high, low, exponent), sign);
     }
-    signed_f64(size_f64(h, l, y), s)
+    signed_f64(size_f64(high, low, exponent), sign)
 }
 
-fn rounded_f32(h: u64, l: u64, y: u64, s: bool) -> f32
-    requires { ⌜ (64 ≤ y) × (y ≤ 4200) ⌝ }
-    ensures { λ r. ⌜ Rounded binary32 2083 s (two h l) y r ⌝ }
+fn rounded_f32(high: u64, low: u64, exponent: u64, sign: bool) -> f32
+    requires { ⌜ (64 ≤ exponent) × (exponent ≤ 4200) ⌝ }
+    ensures { λ r. ⌜ RoundedFrom binary32 2083 sign (twoWords high low) exponent r ⌝ }
 {
-    if h == 0 {
-        if l == 0 {
+    if high == 0 {
+        if low == 0 {
             return 0.0;
         }
-        return signed_f32(size_f32(h, l, y), s);
+        return signed_f32(size_f32(high, low, exponent), sign);
     }
-    signed_f32(size_f32(h, l, y), s)
+    signed_f32(size_f32(high, low, exponent), sign)
 }
 
 fn unlike(s: bool, t: bool) -> bool
@@ -189,7 +375,7 @@ fn pick(b: bool, x: bool, y: bool) -> bool
     if b { x } else { y }
 }
 
-// Between numbers, by their patterns, of which the first two are not 0.
+// Between numbers, by their f64 patterns, where neither factor is 0.
 fn finite_f64(a: u64, b: u64, c: u64) -> f64
     requires { ⌜ (fieldOf binary64 a < 2047) × (fieldOf binary64 b < 2047) × (fieldOf binary64 c < 2047) × (0 < digitsOf binary64 a) × (0 < digitsOf binary64 b) ⌝ }
     ensures { λ r. ⌜ r ≡ mulAdd binary64 (ofBits binary64 a) (ofBits binary64 b) (ofBits binary64 c) ⌝ }
@@ -197,7 +383,7 @@ fn finite_f64(a: u64, b: u64, c: u64) -> f64
     let s = unlike(a >= 0x8000_0000_0000_0000, b >= 0x8000_0000_0000_0000);
     let t = c >= 0x8000_0000_0000_0000;
     let r = summed_bits(a, b, c, s == t);
-    rounded_f64(r.h, r.l, r.y, pick(r.second, t, s))
+    rounded_f64(r.high, r.low, r.exponent, pick(r.second, t, s))
 }
 
 fn finite_f32(a: u64, b: u64, c: u64) -> f32
@@ -207,7 +393,7 @@ fn finite_f32(a: u64, b: u64, c: u64) -> f32
     let s = unlike(a >= 0x8000_0000_0000_0000, b >= 0x8000_0000_0000_0000);
     let t = c >= 0x8000_0000_0000_0000;
     let r = summed_bits(a, b, c, s == t);
-    rounded_f32(r.h, r.l, r.y, pick(r.second, t, s))
+    rounded_f32(r.high, r.low, r.exponent, pick(r.second, t, s))
 }
 
 // Whether a product is sure to be an f64, by the patterns: the second is a power of two, or the two have no more than 53 digits together, as a beat's 29 and the 24 of an f32.

@@ -1,11 +1,10 @@
-use Prim.Native.Nat.{_^_}
 use native.Mathlib.Omega.{arith}
 use lib.Ieee.{binary64}
 use borrow.Author.Tests.{eqb-true}
-use Rattle.ieee_mul_add.specs.Parts.{digitsOf, powerOf}
+use Rattle.ieee.specs.inside.PatternParts.{digitsOf, powerOf}
 use Rattle.ieee_mul_add.proofs.Steps.{exact-as, by-power, by-digits, few-digits, never}
-use borrow.Author.Needs.{needs}
 use Rattle.ieee_mul_add.proofs.exact.Statement.{statement}
+use borrow.Author.Needs.{needs}
 use Rattle.ieee_mul_add.proofs.exact.Tie as tie
 
 power-requires : tie.Need-power-requires

@@ -1,6 +1,6 @@
 use Rattle.ieee_mul_add.proofs.Steps.{never}
-use borrow.Author.Needs.{needs}
 use Rattle.ieee_mul_add.proofs.harmless.Statement.{statement}
+use borrow.Author.Needs.{needs}
 use Rattle.ieee_mul_add.proofs.harmless.Tie as tie
 
 returns : tie.Need-returns

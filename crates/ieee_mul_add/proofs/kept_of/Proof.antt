@@ -1,11 +1,11 @@
 use native.Mathlib.Omega.{arith}
 use mathlib.Core.Path.{sym, ap, _∙_, subst}
 use Prim.Native.Nat.{ℕ, _*_, _^_}
-use Rattle.ieee_words.specs.Words.{two}
-use Rattle.ieee_mul_add.specs.Parts.{KeptOf}
-use Rattle.ieee_mul_add.proofs.KeptWords.{raised}
-use borrow.Author.Needs.{needs}
+use Rattle.ieee_mul_add.specs.inside.RoundedFromCut.{KeptOf}
+use Rattle.ieee_mul_add.specs.inside.Words.{twoWords}
+use Rattle.ieee_mul_add.proofs.RoundedFromWords.{raised}
 use Rattle.ieee_mul_add.proofs.kept_of.Statement.{statement}
+use borrow.Author.Needs.{needs}
 use Rattle.ieee_mul_add.proofs.kept_of.Tie as tie
 
 sub-kept-high : tie.Need-sub-kept-high
@@ -20,7 +20,7 @@ kept-high-requires-2 c κs = search needs
 returns : tie.Need-returns
 returns c =
     let s = c .before .before in
-    (subst (λ (n : ℕ). KeptOf (s .args .p) (s .args .d) n (c .kept-high .result .k) (c .kept-high .result .q)) (raised (s .args .l) (s .args .y) (s .pre .3) ∙ ap (λ (h : ℕ). two h (s .args .l) * 2 ^ (s .args .y)) (sym (c .before .if1 .taken))) (c .kept-high .ensures .0), omega (arith, c .kept-high .ensures .1))
+    (subst (λ (n : ℕ). KeptOf (s .args .precision) (s .args .base) n (c .kept-high .result .dropped) (c .kept-high .result .digits)) (raised (s .args .low) (s .args .exponent) (s .pre .3) ∙ ap (λ (h : ℕ). twoWords h (s .args .low) * 2 ^ (s .args .exponent)) (sym (c .before .if1 .taken))) (c .kept-high .ensures .0), omega (arith, c .kept-high .ensures .1))
 
 returns-2 : tie.Need-returns-2
 returns-2 c = search needs

@@ -8,8 +8,8 @@ use lib.Ieee.Scale.{finite}
 use borrow.Author.Needs.{needs}
 use Rattle.ieee.specs.Narrowing.{narrow}
 use Rattle.ieee.proofs.FiniteTest.{finite-of-test, number-of-test}
-use Rattle.ieee_mul_add.specs.Parts.{Harmless}
-use Rattle.ieee_mul_add.proofs.ByWay.{once}
+use Rattle.ieee.specs.inside.Harmless.{Harmless}
+use Rattle.ieee_mul_add.proofs.ThroughF64.{once}
 use Rattle.ieee_mul_add.proofs.mul_add_f32.Statement.{statement}
 use Rattle.ieee_mul_add.proofs.mul_add_f32.Tie as tie
 

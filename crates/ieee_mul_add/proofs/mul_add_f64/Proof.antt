@@ -1,16 +1,15 @@
 -- `ieee_mul_add::mul_add_f64` meets its contract: between numbers by their patterns, and by the two operations where a factor is 0 or something is not finite. Assumes nothing.
-use mathlib.Core.Path.{_≡_, refl, sym, ap, _∙_, subst}
-use mathlib.Core.Bool.{Bool, not, _&&_}
-use Prim.Native.Nat.{ℕ, _*_, _<_}
+use mathlib.Core.Path.{sym, ap, _∙_, subst}
+use mathlib.Core.Bool.{not}
+use Prim.Native.Nat.{ℕ, _*_}
 use native.Mathlib.Nat.{zero-mul, mul-zero}
 use lib.Dec.{T}
 use lib.Ieee.{binary64, fits, isNan, toBits, ofBits}
-use lib.Ieee.Fits.{and-i, fits-widens}
 use lib.Ieee.Scale.{finite}
 use borrow.Author.Needs.{needs}
 use Rattle.ieee.proofs.FiniteTest.{finite-of-test, number-of-test}
-use Rattle.ieee_mul_add.specs.Parts.{digitsOf}
-use Rattle.ieee_mul_add.proofs.MulAddLaws.{other-sum, other-product}
+use Rattle.ieee.specs.inside.PatternParts.{digitsOf}
+use Rattle.ieee_mul_add.proofs.ByFractions.{other-sum, other-product}
 use Rattle.ieee_mul_add.proofs.Steps.{finite-bits, by-patterns, zero-of, whole-of, not-finite, not-first, not-second, above-zero}
 use Rattle.ieee_mul_add.proofs.mul_add_f64.Statement.{statement}
 use Rattle.ieee_mul_add.proofs.mul_add_f64.Tie as tie

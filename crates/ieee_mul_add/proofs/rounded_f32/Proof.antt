@@ -22,7 +22,7 @@ returns-2 c =
     let s = c .before .before .before .before in
     record {
       none = λ z. absurd (omega (arith, c .before .before .if2 .left, z));
-      some = λ p. c .signed-f32 .ensures ∙ ap (λ (n : ℕ). ofBits binary32 (cond (s .args .s) 2147483648 0 + n)) (c .before .size-f32 .ensures);
+      some = λ p. c .signed-f32 .ensures ∙ ap (λ (n : ℕ). ofBits binary32 (cond (s .args .sign) 2147483648 0 + n)) (c .before .size-f32 .ensures);
     }
 
 size-f32-requires-2 : tie.Need-size-f32-requires-2
@@ -36,7 +36,7 @@ returns-3 c =
     let s = c .before .before .before in
     record {
       none = λ z. absurd (omega (arith, c .before .before .if1 .left, z));
-      some = λ p. c .signed-f322 .ensures ∙ ap (λ (n : ℕ). ofBits binary32 (cond (s .args .s) 2147483648 0 + n)) (c .before .size-f322 .ensures);
+      some = λ p. c .signed-f322 .ensures ∙ ap (λ (n : ℕ). ofBits binary32 (cond (s .args .sign) 2147483648 0 + n)) (c .before .size-f322 .ensures);
     }
 
 pub rounded-f32-spec : {M : Type 1} → statement M

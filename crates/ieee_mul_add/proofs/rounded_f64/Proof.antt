@@ -22,7 +22,7 @@ returns-2 c =
     let s = c .before .before .before .before in
     record {
       none = λ z. absurd (omega (arith, c .before .before .if2 .left, z));
-      some = λ p. c .signed-f64 .ensures ∙ ap (λ (n : ℕ). ofBits binary64 (cond (s .args .s) 9223372036854775808 0 + n)) (c .before .size-f64 .ensures);
+      some = λ p. c .signed-f64 .ensures ∙ ap (λ (n : ℕ). ofBits binary64 (cond (s .args .sign) 9223372036854775808 0 + n)) (c .before .size-f64 .ensures);
     }
 
 size-f64-requires-2 : tie.Need-size-f64-requires-2
@@ -36,7 +36,7 @@ returns-3 c =
     let s = c .before .before .before in
     record {
       none = λ z. absurd (omega (arith, c .before .before .if1 .left, z));
-      some = λ p. c .signed-f642 .ensures ∙ ap (λ (n : ℕ). ofBits binary64 (cond (s .args .s) 9223372036854775808 0 + n)) (c .before .size-f642 .ensures);
+      some = λ p. c .signed-f642 .ensures ∙ ap (λ (n : ℕ). ofBits binary64 (cond (s .args .sign) 9223372036854775808 0 + n)) (c .before .size-f642 .ensures);
     }
 
 pub rounded-f64-spec : {M : Type 1} → statement M

@@ -2,13 +2,14 @@ use mathlib.Core.Path.{refl, sym, ap, ap₂, _∙_, subst}
 use Prim.Native.Nat.{ℕ, _+_, _*_, _^_, _<_}
 use native.Mathlib.Omega.{arith}
 use lib.Ieee.{binary64}
-use Rattle.ieee_words.specs.Words.{two, wide}
-use Rattle.ieee_mul_add.specs.Parts.{digitsOf, powerOf, productOf, addendOf}
-use Rattle.ieee_mul_add.proofs.Decode.{digits-lt}
+use Rattle.ieee.proofs.PatternValue.{digits-lt}
+use Rattle.ieee.specs.inside.PatternParts.{digitsOf, powerOf}
+use Rattle.ieee_mul_add.specs.inside.CutSum.{productOf, addendOf}
+use Rattle.ieee_mul_add.specs.inside.Words.{twoWords, wordsOf}
 use Rattle.ieee_mul_add.proofs.DeepEnough.{product-lt}
 use Rattle.ieee_mul_add.proofs.Steps.{high-of, even-low, word-of, summed-as}
-use borrow.Author.Needs.{needs}
 use Rattle.ieee_mul_add.proofs.summed_bits.Statement.{statement}
+use borrow.Author.Needs.{needs}
 use Rattle.ieee_mul_add.proofs.summed_bits.Tie as tie
 
 third : (c : tie.After-digits3) → c .digits3 .result < 2 ^ 53
@@ -59,9 +60,9 @@ summed-requires c κs =
     let m = p .before .before .digits .result in
     let n = p .before .digits2 .result in
     let o = third (c .before) in (
-      high-of (p .product .result .h) (p .product .result .l) (productOf m n) (p .product .ensures) (product-lt m n (subst (λ (x : ℕ). x < 2 ^ 53) (sym (p .before .before .digits .ensures)) (digits-lt binary64 (p .before .before .before .args .a))) (subst (λ (x : ℕ). x < 2 ^ 53) (sym (p .before .digits2 .ensures)) (digits-lt binary64 (p .before .before .before .args .b)))),
+      high-of (p .product .result .high) (p .product .result .low) (productOf m n) (p .product .ensures) (product-lt m n (subst (λ (x : ℕ). x < 2 ^ 53) (sym (p .before .before .digits .ensures)) (digits-lt binary64 (p .before .before .before .args .a))) (subst (λ (x : ℕ). x < 2 ^ 53) (sym (p .before .digits2 .ensures)) (digits-lt binary64 (p .before .before .before .args .b)))),
       omega arith,
-      even-low (p .product .result .h) (p .product .result .l) m n (p .product .ensures),
+      even-low (p .product .result .high) (p .product .result .low) m n (p .product .ensures),
       refl,
     )
 
@@ -72,8 +73,8 @@ returns c =
     let a = s .args .a in
     let b = s .args .b in
     let o = c .before .before .digits3 in
-    summed-as (s .args .alike) (wide (p .product .result)) (c .before .before .before .before .power .result + c .before .before .before .power2 .result + 64) (two (o .result * 512) 0) (c .before .power3 .result + 1085)
-    (productOf (digitsOf binary64 a) (digitsOf binary64 b)) (powerOf binary64 a + powerOf binary64 b + 64) (addendOf (digitsOf binary64 (s .args .c))) (powerOf binary64 (s .args .c) + 1085) (two (c .summed .result .h) (c .summed .result .l)) (c .summed .result .y) (c .summed .result .second)
+    summed-as (s .args .alike) (wordsOf (p .product .result)) (c .before .before .before .before .power .result + c .before .before .before .power2 .result + 64) (twoWords (o .result * 512) 0) (c .before .power3 .result + 1085)
+    (productOf (digitsOf binary64 a) (digitsOf binary64 b)) (powerOf binary64 a + powerOf binary64 b + 64) (addendOf (digitsOf binary64 (s .args .c))) (powerOf binary64 (s .args .c) + 1085) (twoWords (c .summed .result .high) (c .summed .result .low)) (c .summed .result .exponent) (c .summed .result .second)
     (p .product .ensures ∙ ap₂ productOf (p .before .before .digits .ensures) (p .before .digits2 .ensures))
     (ap₂ (λ (x z : ℕ). x + z + 64) (c .before .before .before .before .power .ensures) (c .before .before .before .power2 .ensures))
     (word-of (o .result) ∙ ap addendOf (o .ensures))

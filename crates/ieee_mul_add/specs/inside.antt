@@ -1,0 +1,4 @@
+pub mod Words
+pub mod CutSum
+pub mod RoundedFromCut
+pub mod QuickWays
