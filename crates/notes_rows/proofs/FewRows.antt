@@ -64,3 +64,17 @@ together-few (byte ∷ bytes) = go (eqb byte comma) (together-few bytes)
 pub all-rows-few : (bytes : List ℕ) → allRows (measures bytes) ≤ length bytes
 unfolding measures allRows
 all-rows-few bytes = omega (arith, together-few bytes, measure-rows-few (firstMeasure bytes))
+
+-- ---- and no more measures than bytes and one
+later-few : (bytes : List ℕ) → length (laterMeasures bytes) ≤ length bytes
+unfolding laterMeasures
+later-few [] = omega arith
+later-few (byte ∷ bytes) = go (eqb byte comma) (later-few bytes)
+  where
+    go : (ends : Bool) → length (laterMeasures bytes) ≤ length bytes → length (pick ends (firstMeasure bytes ∷ laterMeasures bytes) (laterMeasures bytes)) ≤ suc (length bytes)
+    go true h = omega arith
+    go false h = omega arith
+
+pub measures-few : (bytes : List ℕ) → length (measures bytes) ≤ length bytes + 1
+unfolding measures
+measures-few bytes = omega (arith, later-few bytes)

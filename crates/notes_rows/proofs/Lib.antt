@@ -6,3 +6,5 @@ pub mod MeasureWritesRows
 pub mod WritingMeasures
 pub mod RowsOutcome
 pub mod OneOutcome
+pub mod RowUnits
+pub mod BeatsNeverFall
