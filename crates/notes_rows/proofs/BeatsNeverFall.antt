@@ -1,8 +1,8 @@
 -- The beats of note data's rows never fall, from the first to the last, of all data that is taken. Assumes nothing.
-use Prim.Native.Nat.{ℕ, zero, suc, _+_, _*_, _^_, _≤_, _<_}
+use Prim.Native.Nat.{ℕ, zero, suc, _+_, _*_, _≤_, _<_}
 use mathlib.Core.Bool.{Bool, true, false}
 use mathlib.Core.List.{List, [], _∷_, _++_, map}
-use mathlib.Core.Path.{_≡_, refl, sym, ap, _∙_}
+use mathlib.Core.Path.{_≡_, refl}
 use native.Mathlib.Nat.{le-trans, mul-le-mul-right}
 use native.Mathlib.Omega.{arith}
 use lib.Dec.{T}
@@ -15,7 +15,7 @@ use Rattle.limits.specs.Neighbours.{neighbours, everyTwo}
 use Rattle.notes_rows.specs.Measures.{measures, rowsOf, allRows}
 use Rattle.notes_rows.specs.RowBeats.{beatOfRow, rowsFrom, measureBeats, beatsFrom, rowsToBeats, mostNoteBytes}
 use Rattle.notes_rows.proofs.FewRows.{all-rows-few, measures-few}
-use Rattle.notes_rows.proofs.RowUnits.{unit, stepUnits, beatUnits, beat-rounds, row-within-measure}
+use Rattle.notes_rows.proofs.RowUnits.{unit, beatUnits, beat-rounds, from-its-start, behind-the-row-before, up-to-the-next-start}
 
 -- ---- a list of whole numbers of units that are rounded: each is at least the one before it, and the first at least `low`
 abbrev Climbs : ℕ → List Float → Type 0
@@ -41,18 +41,6 @@ never-falls low (x ∷ y ∷ list) climbs =
     rw (is-true (le x y) rises) (never-falls u (y ∷ list) (climbs .3))
 
 -- ---- a measure, and what stands behind it from the next measure's start on
-next-row : (step row start : ℕ) → row * step + start ≤ suc row * step + start
-next-row step row start = omega arith
-
-before-next : (u step row measure : ℕ) → row * step ≤ 4 * u → row * step + measure * 4 * u ≤ suc measure * 4 * u
-before-next u step row measure h = omega arith
-
-next-start : (u measure : ℕ) → measure * 4 * u ≤ suc measure * 4 * u
-next-start u measure = omega arith
-
-at-start : (u step measure : ℕ) → measure * 4 * u ≤ 0 * step + measure * 4 * u
-at-start u step measure = omega arith
-
 module _ (measure rows : ℕ) (early : measure ≤ mostNoteBytes) (few : rows ≤ mostNoteBytes) (rest : List Float) (behind : Climbs (suc measure * 4 * unit) rest) where
   rows-climb : (low row left : ℕ) → low ≤ suc measure * 4 * unit → low ≤ beatUnits measure rows row → row + left ≡ rows → Climbs low (map (beatOfRow measure rows) (rowsFrom row left) ++ rest)
   unfolding rowsFrom
@@ -63,14 +51,17 @@ module _ (measure rows : ℕ) (early : measure ≤ mostNoteBytes) (few : rows �
         below,
         beat-rounds measure rows row early inside few,
         rows-climb (beatUnits measure rows row) (suc row) left
-            (before-next unit (stepUnits rows) row measure (row-within-measure rows row inside few))
-            (next-row (stepUnits rows) row (measure * 4 * unit))
+            (up-to-the-next-start measure rows row inside few)
+            (behind-the-row-before measure rows row)
             (omega arith),
       )
 
+  next-start : (u : ℕ) → measure * 4 * u ≤ suc measure * 4 * u
+  next-start u = omega arith
+
   measure-climbs : Climbs (measure * 4 * unit) (measureBeats measure rows ++ rest)
   unfolding measureBeats
-  measure-climbs = rows-climb (measure * 4 * unit) 0 rows (next-start unit measure) (at-start unit (stepUnits rows) measure) (omega arith)
+  measure-climbs = rows-climb (measure * 4 * unit) 0 rows (next-start unit) (from-its-start measure rows 0) (omega arith)
 
 -- ---- all measures
 measures-climb : (measure : ℕ) (list : List (List ℕ)) → measure + length list ≤ mostNoteBytes + 1 → allRows list ≤ mostNoteBytes → Climbs (measure * 4 * unit) (beatsFrom measure list)

@@ -8,3 +8,6 @@ pub mod RowsOutcome
 pub mod OneOutcome
 pub mod RowUnits
 pub mod BeatsNeverFall
+pub mod BlankBytesChangeNothing
+pub mod MeasuresAreTheData
+pub mod RowInItsMeasure

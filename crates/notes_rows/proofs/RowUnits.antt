@@ -1,18 +1,17 @@
 -- A row's beat by whole numbers: in units of the least f32, 2 ^ -149, it is row * step + start, rounded once; a step is 4 / rows rounded, and the last row of a
 -- measure is at most four beats behind its start. Assumes nothing.
-use Prim.Native.Nat.{ℕ, suc, _+_, _-_, _*_, _^_, _≤_, _<_}
+use Prim.Native.Nat.{ℕ, suc, _+_, _*_, _^_, _≤_, _<_}
 use mathlib.Core.Bool.{false}
-use mathlib.Core.Path.{_≡_, refl, sym, ap, ap₂, _∙_, subst}
+use mathlib.Core.Path.{_≡_, refl, ap, ap₂, _∙_}
 use native.Mathlib.Nat.{le-trans, mul-one, one-mul, mul-le-mul-right, mul-le-mul-left}
 use native.Mathlib.Omega.{arith}
 use lib.IntN.{pos}
 use lib.Pow.{pow-pos}
-use lib.Dec.{T, lit≤}
-use lib.Ieee.{Float, binary32, round, sum, mul, div, ofBits, le}
+use lib.Dec.{lit≤}
+use lib.Ieee.{binary32, round, sum, ofBits}
 use lib.Ieee.Back.{round-whole}
 use lib.Ieee.Exact.{HasValue}
-use lib.Ieee.Order.{round-mono}
-use lib.Ieee.Scale.{grid, overflow, round-val}
+use lib.Ieee.Scale.{grid, round-val}
 use Rattle.ieee.proofs.ByValue.{mul-value, div-value, whole-value}
 use Rattle.ieee.proofs.RoundedSize.{Near, grid-fine, grid-near}
 use Rattle.ieee_mul_add.proofs.ByFractions.{mul-add-fractions}
@@ -54,19 +53,31 @@ beat-rounds measure rows row m r n =
     (omega arith) (pow-pos 149) (omega arith) (count-value row (omega arith)) (step-value rows (omega arith) n) (start-value measure m)
     ∙ ap₂ (round binary32 false) (ap₂ _+_ (mul-one (row * stepUnits rows)) (ap (λ (u : ℕ). measure * 4 * u) (one-mul unit))) (mul-one (1 * unit) ∙ one-mul unit)
 
--- four beats hold every row of a measure: row * step is at most 4, though rows * step may be above
+-- ---- four beats hold every row of a measure: row * step is at most 4, though rows * step may be above
 module _ (u step rows row : ℕ) (near : Near 16777216 (step * rows) (4 * u)) (inside : row < rows) (few : rows ≤ mostNoteBytes) where
   four-beats : row * step ≤ 4 * u
   four-beats = omega (arith, near .0, near .1, mul-le-mul-right step inside, mul-le-mul-left step few)
 
-pub row-within-measure : (rows row : ℕ) → row < rows → rows ≤ mostNoteBytes → row * stepUnits rows ≤ 4 * unit
-row-within-measure rows row inside few =
+within-four : (rows row : ℕ) → row < rows → rows ≤ mostNoteBytes → row * stepUnits rows ≤ 4 * unit
+within-four rows row inside few =
     let normal : 8388608 * rows ≤ 4 * unit = le-trans (mul-le-mul-left 8388608 few) (lit≤ tt) in
     four-beats unit (stepUnits rows) rows row (grid-near binary32 4 rows (omega arith) normal 8388608 (lit≤ tt)) inside few
 
--- ---- one row and another
-pub rows-in-order : {measure rows row measure' rows' row' : ℕ} → measure ≤ mostNoteBytes → row < rows → rows ≤ mostNoteBytes → measure' ≤ mostNoteBytes → row' < rows' → rows' ≤ mostNoteBytes
-    → beatUnits measure rows row ≤ beatUnits measure' rows' row' → T (le (beatOfRow measure rows row) (beatOfRow measure' rows' row'))
-rows-in-order {measure} {rows} {row} {measure'} {rows'} {row'} m r n m' r' n' h =
-    rw (beat-rounds measure rows row m r n, beat-rounds measure' rows' row' m' r' n')
-    (round-mono binary32 (beatUnits measure rows row) unit (beatUnits measure' rows' row') unit (pow-pos 149) (pow-pos 149) (mul-le-mul-right unit h))
+-- ---- from its measure's start on, behind the row before, and up to the next measure's start
+pub from-its-start : (measure rows row : ℕ) → measure * 4 * unit ≤ beatUnits measure rows row
+from-its-start measure rows row = go unit (stepUnits rows)
+  where
+    go : (u step : ℕ) → measure * 4 * u ≤ row * step + measure * 4 * u
+    go u step = omega arith
+
+pub behind-the-row-before : (measure rows row : ℕ) → beatUnits measure rows row ≤ beatUnits measure rows (suc row)
+behind-the-row-before measure rows row = go (measure * 4 * unit) (stepUnits rows)
+  where
+    go : (start step : ℕ) → row * step + start ≤ suc row * step + start
+    go start step = omega arith
+
+pub up-to-the-next-start : (measure rows row : ℕ) → row < rows → rows ≤ mostNoteBytes → beatUnits measure rows row ≤ suc measure * 4 * unit
+up-to-the-next-start measure rows row inside few = go unit (stepUnits rows) (within-four rows row inside few)
+  where
+    go : (u step : ℕ) → row * step ≤ 4 * u → row * step + measure * 4 * u ≤ suc measure * 4 * u
+    go u step h = omega arith
