@@ -1,6 +1,6 @@
 -- The beats of note data's rows never fall, from the first to the last, of all data that is taken. Assumes nothing.
 use Prim.Native.Nat.{ℕ, zero, suc, _+_, _*_, _≤_, _<_}
-use mathlib.Core.Bool.{Bool, true, false}
+use mathlib.Core.Bool.{true, false}
 use mathlib.Core.List.{List, [], _∷_, _++_, map}
 use mathlib.Core.Path.{_≡_, refl}
 use native.Mathlib.Nat.{le-trans, mul-le-mul-right}
@@ -9,6 +9,7 @@ use lib.Dec.{T}
 use lib.ListN.{length}
 use lib.Pow.{pow-pos}
 use lib.Ieee.{Float, binary32, round, le}
+use lib.Ieee.Bits.{is-true}
 use lib.Ieee.Order.{round-mono}
 use Rattle.limits.specs.Numbers.{every}
 use Rattle.limits.specs.Neighbours.{neighbours, everyTwo}
@@ -25,10 +26,6 @@ Climbs low (x ∷ list) = (u : ℕ) × (low ≤ u) × (x ≡ round binary32 fals
 from-lower : {low lower : ℕ} (list : List Float) → lower ≤ low → Climbs low list → Climbs lower list
 from-lower [] h climbs = climbs
 from-lower (x ∷ list) h climbs = (climbs .0, le-trans h (climbs .1), climbs .2, climbs .3)
-
-is-true : (t : Bool) → T t → t ≡ true
-is-true true h = refl
-is-true false h = absurd h
 
 never-falls : (low : ℕ) (list : List Float) → Climbs low list → everyTwo le list ≡ true
 unfolding neighbours every
