@@ -84,6 +84,11 @@ blank-byte-changes-nothing front back byte blank no-feed =
     (alike-behind front (byte ∷ back) back (λ begun. step begun byte back ∙ rw (ne-eqb byte comma no-comma, ne-eqb byte lineFeed no-feed, blank)) false)
 
 module _ (front back : List ℕ) where
+  -- 13, which stands before each line feed in some files
+  pub carriage-return-changes-nothing : rowsToBeats (front ++ 13 ∷ back) ≡ rowsToBeats (front ++ back)
+  unfolding isBlank
+  carriage-return-changes-nothing = blank-byte-changes-nothing front back 13 refl (λ e. omega arith)
+
   pub feed-behind-feed : rowsToBeats (front ++ lineFeed ∷ lineFeed ∷ back) ≡ rowsToBeats (front ++ lineFeed ∷ back)
   unfolding after
   feed-behind-feed =
