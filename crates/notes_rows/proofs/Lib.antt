@@ -11,3 +11,4 @@ pub mod BeatsNeverFall
 pub mod BlankBytesChangeNothing
 pub mod MeasuresAreTheData
 pub mod RowInItsMeasure
+pub mod OneRoundingMatters
