@@ -1,14 +1,17 @@
--- A product and a sum rounded once, over the format: by whatever fractions the numbers are, where the product is exact, and where something is not finite. Assumes nothing.
-use mathlib.Core.Path.{_≡_, refl, sym, ap, ap₂, _∙_}
+-- A multiply-add by whatever fractions the numbers are, over the format; that it is the two operations where the product is exact, or something in it is not finite; and what they leave finite, or no NaN. Assumes nothing.
+use mathlib.Core.Path.{_≡_, refl, sym, ap, ap₂, _∙_, subst}
+use lib.IntN.{pos}
 use Prim.Native.Nat.{ℕ, _-_, _*_, _<_}
 use native.Mathlib.Nat.{mul-pos}
 use native.Mathlib.Omega.{arith}
 use mathlib.Core.Bool.{Bool, true, false, not, _&&_, cond}
 use lib.Dec.{T, eqb}
-use lib.Ieee.{Float, nan, inf, fin, Format, up, down, unlike, sum, add, mul}
+use lib.Ieee.{Float, nan, inf, fin, Format, up, down, unlike, isNan, sum, add, mul}
 use lib.Ieee.Exact.{HasValue}
 use lib.Ieee.Fits.{down-pos}
 use lib.Ieee.Scale.{finite}
+use Rattle.ieee.proofs.ByValue.{mul-value}
+use Rattle.ieee.proofs.KeepsOrder.{round-zero}
 use Rattle.ieee.proofs.SumByValue.{sum-same, add-values}
 use Rattle.ieee.proofs.Values.{rescaled}
 use Rattle.ieee_mul_add.specs.MulAdd.{fractionPlus, mulAdd}
@@ -52,10 +55,37 @@ module _ (f : Format) where
       turned : (a e b : ℕ) → a * e * b ≡ a * b * e
       turned a e b = omega arith
 
-  -- ---- where the product is a number of the format already, it is the two operations
-  pub exact-product : (x y z : Float) (s t u : Bool) (a b p c d : ℕ) → 0 < c → 0 < d → HasValue x s a c → HasValue y t b d → HasValue z u p (c * d) → HasValue (mul f x y) (unlike s t) (a * b) (c * d)
-      → mulAdd f x y z ≡ add f (mul f x y) z
-  exact-product x y z s t u a b p c d C D v w r h = mul-add-values x y z s t u a b p c d C D v w r ∙ sym (add-values f (mul f x y) z (unlike s t) u (a * b) p (c * d) (mul-pos C D) h r)
+  -- ---- where the product is exact, or 0, it is the two operations
+  module _ (x y z : Float) (s t : Bool) (a b c d : ℕ) (C : 0 < c) (D : 0 < d) (v : HasValue x s a c) (w : HasValue y t b d) where
+    pub exact-product : T (finite z) → HasValue (mul f x y) (unlike s t) (a * b) (c * d) → add f (mul f x y) z ≡ mulAdd f x y z
+    exact-product Z h = go z Z
+      where
+        below : (p e n : ℕ) → p * e * n ≡ p * (n * e)
+        below p e n = omega arith
+
+        beside : (p e n : ℕ) → p * n * e ≡ p * (n * e)
+        beside p e n = omega arith
+
+        go : (z : Float) → T (finite z) → add f (mul f x y) z ≡ mulAdd f x y z
+        go nan Z = absurd Z
+        go (inf u) Z = absurd Z
+        go (fin u o g) Z =
+            let p = o * up g in
+            let e = down g in
+            let E = down-pos g in
+            let CD = mul-pos C D in
+            add-values f (mul f x y) (fin u o g) (unlike s t) u (a * b * e) (p * (c * d)) (c * d * e) (mul-pos CD E)
+            (rescaled (mul f x y) (unlike s t) (a * b) (c * d) (a * b * e) (c * d * e) CD (below (a * b) e (c * d)) h)
+            (rescaled (fin u o g) u p e (p * (c * d)) (c * d * e) E (beside p e (c * d)) (refl, refl))
+            ∙ sym (mul-add-fractions x y (fin u o g) s t u a b p c d e C D E v w (refl, refl))
+
+    pub zero-product : T (finite z) → a * b ≡ 0 → add f (mul f x y) z ≡ mulAdd f x y z
+    zero-product Z e =
+        let n = mul-value f x y s t a c b d C D v w ∙ round-zero f (unlike s t) (a * b) (c * d) (mul-pos C D) e in
+        exact-product Z (subst (λ (r : Float). HasValue r (unlike s t) (a * b) (c * d)) (sym n) (subst (λ (k : ℕ). HasValue (fin (unlike s t) 0 (pos 0)) (unlike s t) k (c * d)) (sym e) (refl, nothing (c * d))))
+      where
+        nothing : (k : ℕ) → 0 * 1 * k ≡ 0 * 1
+        nothing k = omega arith
 
   -- ---- where something is not finite
   pub other-sum : (x y z : Float) → T (finite x) → T (finite y) → T (not (finite z)) → z ≡ mulAdd f x y z
@@ -82,3 +112,57 @@ module _ (f : Format) where
   other-product (fin s m e) nan z h = refl
   other-product (fin s m e) (inf t) z h = picked (eqb m 0) (unlike s t) z
   other-product (fin s m e) (fin t n d) z h = absurd h
+
+  -- ---- a finite result of the two operations has finite parts
+  infinite-sum : (s : Bool) (z : Float) → T (finite (add f (inf s) z)) → ⊥
+  unfolding add
+  infinite-sum s nan h = h
+  infinite-sum true (inf true) h = h
+  infinite-sum true (inf false) h = h
+  infinite-sum false (inf true) h = h
+  infinite-sum false (inf false) h = h
+  infinite-sum s (fin t n d) h = h
+
+  no-number : (b s : Bool) (z : Float) → T (finite (add f (cond b nan (inf s)) z)) → ⊥
+  unfolding add
+  no-number true s z h = h
+  no-number false s z h = infinite-sum s z h
+
+  finite-addend : (w z : Float) → T (finite (add f w z)) → T (finite z)
+  unfolding add
+  finite-addend nan z h = absurd h
+  finite-addend (inf s) z h = absurd (infinite-sum s z h)
+  finite-addend (fin s m e) nan h = h
+  finite-addend (fin s m e) (inf t) h = h
+  finite-addend (fin s m e) (fin t n d) h = tt
+
+  pub finite-parts : (x y z : Float) → T (finite (add f (mul f x y) z)) → T (finite x) × T (finite y) × T (finite z)
+  unfolding add mul
+  finite-parts nan y z h = absurd h
+  finite-parts (inf s) nan z h = absurd h
+  finite-parts (inf s) (inf t) z h = absurd (infinite-sum (unlike s t) z h)
+  finite-parts (inf s) (fin t n d) z h = absurd (no-number (eqb n 0) (unlike s t) z h)
+  finite-parts (fin s m e) nan z h = absurd h
+  finite-parts (fin s m e) (inf t) z h = absurd (no-number (eqb m 0) (unlike s t) z h)
+  finite-parts (fin s m e) (fin t n d) z h = (tt, tt, finite-addend (mul f (fin s m e) (fin t n d)) z h)
+
+  -- ---- and one that is no NaN has no NaN in it
+  pub number-factors : (x y : Float) → T (not (isNan (mul f x y))) → T (not (isNan x)) × T (not (isNan y))
+  unfolding mul isNan
+  number-factors nan y h = absurd h
+  number-factors (inf s) nan h = absurd h
+  number-factors (inf s) (inf t) h = (tt, tt)
+  number-factors (inf s) (fin t n d) h = (tt, tt)
+  number-factors (fin s m e) nan h = absurd h
+  number-factors (fin s m e) (inf t) h = (tt, tt)
+  number-factors (fin s m e) (fin t n d) h = (tt, tt)
+
+  pub number-summands : (w z : Float) → T (not (isNan (add f w z))) → T (not (isNan w)) × T (not (isNan z))
+  unfolding add isNan
+  number-summands nan z h = absurd h
+  number-summands (inf s) nan h = absurd h
+  number-summands (inf s) (inf t) h = (tt, tt)
+  number-summands (inf s) (fin t n d) h = (tt, tt)
+  number-summands (fin s m e) nan h = absurd h
+  number-summands (fin s m e) (inf t) h = (tt, tt)
+  number-summands (fin s m e) (fin t n d) h = (tt, tt)

@@ -1,19 +1,16 @@
 -- A multiply-add of three f64 at a format f, by their patterns: from the exact sum of two whole numbers, cut short. This is the one fact that both forms are proved from. Assumes nothing.
-use mathlib.Core.Path.{_≡_, refl, sym, ap, ap₂, _∙_, subst}
+use mathlib.Core.Path.{_≡_, sym, ap, ap₂, _∙_, subst}
 use mathlib.Core.Logic.{_⊎_, inl, inr}
 use Prim.Native.Nat.{ℕ, suc, _+_, _-_, _*_, _%_, _^_, _≤_, _<_}
-use native.Mathlib.Nat.{le-trans, le-of-eq, lt-of-lt-of-le, mul-pos, mul-lt-mul-of-pos-right, eq-zero-or-pos, lt-of-mul-lt-mul-right}
+use native.Mathlib.Nat.{le-trans, mul-pos, eq-zero-or-pos, lt-of-mul-lt-mul-right}
 use native.Mathlib.Omega.{arith}
 use mathlib.Core.Bool.{Bool, Bool·beq, cond}
-use lib.IntN.{pos}
 use lib.Dec.{leb}
 use lib.Pow.{pow-add, pow-pos, pow-mono}
-use lib.Ieee.{Float, fin, Format, binary64, prec, low, unlike, round, sum, add, mul, ofBits}
+use lib.Ieee.{Format, binary64, prec, low, unlike, round, sum, ofBits}
 use lib.Ieee.Bits.{ofBits-toBits}
-use lib.Ieee.Exact.{HasValue, round-exact}
+use lib.Ieee.Exact.{HasValue}
 use lib.Ieee.Fits.{round-fits}
-use Rattle.ieee.proofs.ByValue.{mul-value}
-use Rattle.ieee.proofs.KeepsOrder.{round-zero}
 use Rattle.ieee.proofs.Values.{rescaled}
 use Rattle.ieee.proofs.PatternValue.{pattern-value, digits-lt, digits-full}
 use Rattle.ieee.proofs.SumBySigns.{sum-signed, sum-cancelled}
@@ -21,11 +18,10 @@ use Rattle.ieee.specs.inside.PatternParts.{fieldOf, digitsOf, powerOf}
 use Rattle.ieee.specs.inside.SumSize.{sumSize}
 use Rattle.ieee_mul_add.specs.MulAdd.{mulAdd}
 use Rattle.ieee_mul_add.specs.inside.CutSum.{productOf, addendOf, Summed}
-use Rattle.ieee_mul_add.specs.inside.QuickWays.{ExactProduct}
 use Rattle.ieee_mul_add.specs.inside.RoundedFromCut.{RoundedFrom}
 use Rattle.ieee_odd_cut.proofs.OneOddCut.{IsOddCut, is-odd-cut, cut-to-zero}
 use Rattle.ieee_odd_cut.proofs.RoundsAsUncut.{cut-pattern}
-use Rattle.ieee_mul_add.proofs.ByFractions.{mul-add-values, exact-product}
+use Rattle.ieee_mul_add.proofs.ByFractions.{mul-add-values}
 use Rattle.ieee_mul_add.proofs.DeepEnough.{deep}
 
 -- ---- the exact sum, over 2 ^ 2232
@@ -85,52 +81,6 @@ module _ (a b c : ℕ) (FA : fieldOf binary64 a < 2047) (FB : fieldOf binary64 b
     where
       join : (m n p q r : ℕ) → r ≡ p * q → m * p * (n * q) ≡ m * n * r
       join m n p q r e = let g = ap (λ (x : ℕ). m * n * x) e in omega arith
-
-  -- ---- where the product is 0, the two operations give it
-  pub zero-product : (f : Format) → digitsOf binary64 a * digitsOf binary64 b ≡ 0
-      → add f (mul f (ofBits binary64 a) (ofBits binary64 b)) (ofBits binary64 c) ≡ mulAdd f (ofBits binary64 a) (ofBits binary64 b) (ofBits binary64 c)
-  zero-product f z =
-      let p = m * 1024 * 2 ^ i in
-      let q = n * 1024 * 2 ^ (j + 64) in
-      let e : p * q ≡ 0 = none m n (2 ^ i) (2 ^ (j + 64)) z in
-      let v = mul-value f (ofBits binary64 a) (ofBits binary64 b) (leb (2 ^ 63) a) (leb (2 ^ 63) b) p (2 ^ 1084) q (2 ^ 1148) (pow-pos 1084) (pow-pos 1148) first second ∙ round-zero f s (p * q) (2 ^ 1084 * 2 ^ 1148) (mul-pos (pow-pos 1084) (pow-pos 1148)) e in
-      sym (exact-product f (ofBits binary64 a) (ofBits binary64 b) (ofBits binary64 c) (leb (2 ^ 63) a) (leb (2 ^ 63) b) t p q B (2 ^ 1084) (2 ^ 1148) (pow-pos 1084) (pow-pos 1148) first second third
-      (subst (λ (x : Float). HasValue x s (p * q) (2 ^ 1084 * 2 ^ 1148)) (sym v) (subst (λ (x : ℕ). HasValue (fin s 0 (pos 0)) s x (2 ^ 1084 * 2 ^ 1148)) (sym e) (refl, zero-value (2 ^ 1084 * 2 ^ 1148)))))
-    where
-      none : (m n x y : ℕ) → m * n ≡ 0 → m * 1024 * x * (n * 1024 * y) ≡ 0
-      none m n x y z = let g = ap (λ (u : ℕ). u * (1048576 * (x * y))) z in omega arith
-
-      zero-value : (d : ℕ) → 0 * 1 * d ≡ 0 * 1
-      zero-value d = omega arith
-
-  -- ---- where the product is an f64, the two operations give it
-  pub whole-product : ExactProduct (digitsOf binary64 a) (powerOf binary64 a) (digitsOf binary64 b) (powerOf binary64 b)
-      → add binary64 (mul binary64 (ofBits binary64 a) (ofBits binary64 b)) (ofBits binary64 c) ≡ mulAdd binary64 (ofBits binary64 a) (ofBits binary64 b) (ofBits binary64 c)
-  whole-product E =
-      let p = m * 1024 * 2 ^ i in
-      let q = n * 1024 * 2 ^ (j + 64) in
-      let h = E .e + (i + j) - 1074 in
-      let l = E .deep in
-      let u = E .below in
-      let den = 2 ^ 1084 * 2 ^ 1148 in
-      let big : E .q * 2 ^ h < 2 ^ 2098 = lt-of-lt-of-le (mul-lt-mul-of-pos-right (E .few) (pow-pos h)) (le-trans (le-of-eq (sym (pow-add 2 53 h))) (pow-mono {i = 53 + h} {j = 2098} (omega arith))) in
-      let up : 2 ^ (E .e) * (2 ^ i * 2 ^ (j + 64)) * 2 ^ 1094 ≡ 2 ^ h * den =
-      ap (λ (x : ℕ). 2 ^ (E .e) * x * 2 ^ 1094) (sym (pow-add 2 i (j + 64))) ∙ ap (λ (x : ℕ). x * 2 ^ 1094) (sym (pow-add 2 (E .e) (i + (j + 64)))) ∙ sym (pow-add 2 (E .e + (i + (j + 64))) 1094)
-      ∙ ap (λ (x : ℕ). 2 ^ x) (exponents (E .e) i j l) ∙ pow-add 2 h 2232 ∙ ap (λ (x : ℕ). 2 ^ h * x) (pow-add 2 1084 1148) in
-      let e : p * q * 2 ^ 1074 ≡ E .q * 2 ^ h * den = regroup m n (2 ^ i) (2 ^ (j + 64)) (2 ^ 1074) (2 ^ 1094) (E .q) (2 ^ (E .e)) (2 ^ h) den (pow-add 2 20 1074) (E .is) up in
-      let v = mul-value binary64 (ofBits binary64 a) (ofBits binary64 b) (leb (2 ^ 63) a) (leb (2 ^ 63) b) p (2 ^ 1084) q (2 ^ 1148) (pow-pos 1084) (pow-pos 1148) first second in
-      sym (exact-product binary64 (ofBits binary64 a) (ofBits binary64 b) (ofBits binary64 c) (leb (2 ^ 63) a) (leb (2 ^ 63) b) t p q B (2 ^ 1084) (2 ^ 1148) (pow-pos 1084) (pow-pos 1148) first second third
-      (subst (λ (x : Float). HasValue x s (p * q) den) (sym v) (round-exact binary64 s (p * q) den (E .q) h (mul-pos (pow-pos 1084) (pow-pos 1148)) (E .few) big e)))
-    where
-      exponents : (e i j : ℕ) → 1074 ≤ e + (i + j) → e + (i + (j + 64)) + 1094 ≡ e + (i + j) - 1074 + 2232
-      exponents e i j l = omega arith
-
-      regroup : (m n x y w v q e h d : ℕ) → v ≡ 1048576 * w → m * n ≡ q * e → e * (x * y) * v ≡ h * d → m * 1024 * x * (n * 1024 * y) * w ≡ q * h * d
-      regroup m n x y w v q e h d i j k =
-          let a = ap (λ (z : ℕ). z * (x * y) * (1048576 * w)) j in
-          let b = ap (λ (z : ℕ). q * z) k in
-          let c = ap (λ (z : ℕ). q * e * (x * y) * z) i in
-          omega arith
 
   -- ---- rounded at f, from the sum cut at 2 ^ y
   module _ (M0 : 0 < digitsOf binary64 a) (N0 : 0 < digitsOf binary64 b) (f : Format) (d : ℕ) (small : prec f ≤ 53) (fine : 1158 ≤ d) (base : d + low f ≡ 2232)

@@ -2,16 +2,17 @@
 use mathlib.Core.Path.{_≡_, sym, ap, _∙_}
 use mathlib.Core.Logic.{_⊎_, inl, inr}
 use Prim.Native.Nat.{ℕ, suc, _+_, _-_, _*_, _/_, _%_, _^_, _≤_, _<_}
-use native.Mathlib.Nat.{le-trans, le-of-eq, le-of-lt, lt-of-lt-of-le, lt-of-le-of-lt, mul-le-mul-right, lt-of-mul-lt-mul-right, le-add-right}
+use native.Mathlib.Nat.{le-trans, le-of-eq, le-of-lt, lt-of-lt-of-le, lt-of-le-of-lt, mul-le-mul-right, lt-of-mul-lt-mul-right, le-add-right, eq-zero-or-pos}
 use native.Mathlib.Omega.{arith}
+use mathlib.Core.Bool.{Bool}
 use lib.Count.{leadingZeros, leading-top}
 use lib.Pow.{pow-add, pow-pos, pow-mono}
-use lib.Ieee.{size}
+use lib.Ieee.{Float, Format, size}
 use lib.Ieee.Digits.{size-lt}
 use lib.Ieee.Nearest.{closest}
 use lib.Ieee.Order.{drop}
 use Rattle.ieee.proofs.Pack.{size-between}
-use Rattle.ieee_mul_add.specs.inside.RoundedFromCut.{KeptOf}
+use Rattle.ieee_mul_add.specs.inside.RoundedFromCut.{KeptOf, RoundedFrom}
 use Rattle.ieee_mul_add.specs.inside.Words.{twoWords}
 use Rattle.ieee_odd_cut.proofs.KeptOfACut.{drop-is, kept-is}
 use Rattle.ieee_odd_cut.proofs.OddCutRounds.{nearest-fourth}
@@ -106,3 +107,10 @@ raised l y h =
   where
     regroup : (l w r z : ℕ) → l * (w * r) ≡ l * z → (l * w + 0) * r ≡ (0 * w + l) * z
     regroup l w r z e = omega arith
+
+-- ---- only one float is it
+pub rounded-one : (f : Format) (d : ℕ) (s : Bool) (w y : ℕ) (r q : Float) → RoundedFrom f d s w y r → RoundedFrom f d s w y q → r ≡ q
+rounded-one f d s w y r q a b = elim (eq-zero-or-pos w) [
+  | inl z ↦ a .none z ∙ sym (b .none z)
+  | inr p ↦ a .some p ∙ sym (b .some p)
+]

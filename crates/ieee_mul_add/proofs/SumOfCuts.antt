@@ -1,12 +1,14 @@
 -- Two numbers times powers of twoWords, sumSize where one is cut to the other's power. Assumes nothing.
 use mathlib.Core.Path.{_≡_, refl, sym, ap, _∙_, subst}
+use mathlib.Core.Logic.{inl, inr}
 use Prim.Native.Nat.{ℕ, suc, _+_, _-_, _*_, _%_, _^_, _≤_, _<_}
-use native.Mathlib.Nat.{le-trans, le-of-eq, lt-of-lt-of-le, mul-le-mul-right, mul-le-mul-left, le-of-mul-le-mul-right, le-add-right, mul-one}
+use native.Mathlib.Nat.{le-trans, le-of-eq, lt-of-lt-of-le, mul-le-mul-right, mul-le-mul-left, le-of-mul-le-mul-right, le-add-right, mul-one, lt-of-mul-lt-mul-right, lt-of-le-of-lt}
 use native.Mathlib.Omega.{arith}
-use mathlib.Core.Bool.{Bool, not, _&&_}
+use mathlib.Core.Bool.{Bool, not, _&&_, cond}
 use lib.Dec.{ltb}
 use lib.Pow.{pow-add, pow-pos}
 use borrow.Author.Tests.{lt-ltb, le-ltb}
+use Rattle.ieee.proofs.Closest.{lt-or-ge}
 use Rattle.ieee.specs.inside.SumSize.{sumSize}
 use Rattle.ieee_mul_add.specs.inside.CutSum.{Summed}
 use Rattle.ieee_mul_add.specs.inside.Words.{twoWords}
@@ -58,3 +60,24 @@ module _ (alike : Bool) (p x q z : ℕ) (P : p % 2 ≡ 0) (Q : q % 2 ≡ 0) wher
 
 pub even-two : (h l : ℕ) → l % 2 ≡ 0 → twoWords h l % 2 ≡ 0
 even-two h l e = omega arith
+
+-- ---- the words of the product and of the addend
+pub high-of : (h l n : ℕ) → twoWords h l ≡ n → n < 2 ^ 126 → h < 2 ^ 62
+high-of h l n e b = lt-of-mul-lt-mul-right (2 ^ 64) (lt-of-le-of-lt (le-trans (le-add-right (h * 2 ^ 64) l) (le-of-eq e)) (lt-of-lt-of-le b (le-of-eq (pow-add 2 62 64))))
+
+pub even-low : (h l m n : ℕ) → twoWords h l ≡ m * 1024 * (n * 1024) → l % 2 ≡ 0
+even-low h l m n e = omega arith
+
+pub word-of : (o : ℕ) → twoWords (o * 512) 0 ≡ o * 512 * 2 ^ 64
+word-of o = omega arith
+
+-- ---- a sum of other names for the same numbers
+pub summed-as : (alike : Bool) (a x b z a' x' b' z' w y : ℕ) (s : Bool) → a ≡ a' → x ≡ x' → b ≡ b' → z ≡ z' → Summed alike a x b z w y s → Summed alike a' x' b' z' w y s
+summed-as alike a x b z a' x' b' z' w y s i j k l h =
+    subst (λ (e : ℕ). Summed alike a' x' b' e w y s) l (subst (λ (e : ℕ). Summed alike a' x' e z w y s) k (subst (λ (e : ℕ). Summed alike a' e b z w y s) j (subst (λ (e : ℕ). Summed alike e x b z w y s) i h)))
+
+pub larger-power : (x z y : ℕ) → y ≡ cond (ltb x z) z x → 64 ≤ x → 64 ≤ z → x ≤ 4200 → z ≤ 4200 → (64 ≤ y) × (y ≤ 4200)
+larger-power x z y e a b c d = elim (lt-or-ge x z) [
+  | inl l ↦ let i : y ≡ z = e ∙ rw (lt-ltb x z l) refl in (omega arith, omega arith)
+  | inr l ↦ let i : y ≡ x = e ∙ rw (le-ltb x z l) refl in (omega arith, omega arith)
+]

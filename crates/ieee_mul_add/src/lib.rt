@@ -396,30 +396,8 @@ fn finite_f32(a: u64, b: u64, c: u64) -> f32
     rounded_f32(r.high, r.low, r.exponent, pick(r.second, t, s))
 }
 
-// Whether a product is sure to be an f64, by the patterns: the second is a power of two, or the two have no more than 53 digits together, as a beat's 29 and the 24 of an f32.
-fn exact(x: u64, y: u64) -> bool
-    ensures { λ r. ⌜ (r ≡ true → ExactProduct (digitsOf binary64 x) (powerOf binary64 x) (digitsOf binary64 y) (powerOf binary64 y)) ⌝ }
-{
-    let s = power(x) + power(y);
-    if s < 1074 {
-        return false;
-    }
-    if 3066 < s {
-        return false;
-    }
-    let m = digits(x);
-    let n = digits(y);
-    if n % 0x10_0000_0000_0000 == 0 {
-        return true;
-    }
-    if n % 0x2000_0000 == 0 {
-        return m % 0x100_0000 == 0;
-    }
-    false
-}
-
-// a * b + c with one rounding.
-pub fn mul_add_f64(a: f64, b: f64, c: f64) -> f64
+// The same for all floats: where a factor is 0 or not finite, by the two operations; and a number plus what is not finite is that.
+fn by_words_f64(a: f64, b: f64, c: f64) -> f64
     ensures { λ r. ⌜ r ≡ mulAdd binary64 a b c ⌝ }
 {
     if a - a == 0.0 {
@@ -427,9 +405,6 @@ pub fn mul_add_f64(a: f64, b: f64, c: f64) -> f64
             if c - c == 0.0 {
                 let x = f64::to_bits(a);
                 let y = f64::to_bits(b);
-                if exact(x, y) {
-                    return a * b + c;
-                }
                 if digits(x) == 0 {
                     return a * b + c;
                 }
@@ -445,7 +420,6 @@ pub fn mul_add_f64(a: f64, b: f64, c: f64) -> f64
     a * b + c
 }
 
-// The same at f32, by words alone.
 fn by_words_f32(a: f32, b: f32, c: f32) -> f32
     ensures { λ r. ⌜ r ≡ mulAdd binary32 a b c ⌝ }
 {
@@ -469,32 +443,71 @@ fn by_words_f32(a: f32, b: f32, c: f32) -> f32
     a * b + c
 }
 
-// Whether an f64 rounds to f32 as what it was rounded from does, by its pattern: it is no half-way point, no power of two and not below the least normal f32.
-fn harmless(b: u64) -> bool
-    ensures { λ r. ⌜ (r ≡ true → Harmless b) ⌝ }
+// ---- the quick ways
+
+// Whether a product of so many digits as `exact` allows lies in the range of f64, by the exponents' fields.
+fn mid_range(x: u64, y: u64) -> bool
+    ensures { λ r. ⌜ (r ≡ true → (1074 ≤ powerOf binary64 x + powerOf binary64 y) × (powerOf binary64 x + powerOf binary64 y ≤ 3066)) ⌝ }
 {
-    if b % 0x2000_0000 == 0x1000_0000 {
+    let fields = x % 0x8000_0000_0000_0000 / 0x10_0000_0000_0000
+        + y % 0x8000_0000_0000_0000 / 0x10_0000_0000_0000;
+    if fields < 1076 {
         return false;
     }
-    if b % 0x10_0000_0000_0000 == 0 {
-        return false;
-    }
-    897 <= b % 0x8000_0000_0000_0000 / 0x10_0000_0000_0000
+    fields <= 3067
 }
 
-// The same at f32: by way of f64, where rounding twice does no harm.
+// Whether a product is sure to be an f64, by the patterns: the second is a power of two, or it has 24 digits, as an f32 has, and the first 29.
+fn exact(x: u64, y: u64) -> bool
+    ensures { λ r. ⌜ (r ≡ true → ExactProduct (digitsOf binary64 x) (powerOf binary64 x) (digitsOf binary64 y) (powerOf binary64 y)) ⌝ }
+{
+    if y % 0x10_0000_0000_0000 == 0 {
+        return mid_range(x, y);
+    }
+    if y % 0x2000_0000 == 0 {
+        if x % 0x100_0000 == 0 {
+            return mid_range(x, y);
+        }
+    }
+    false
+}
+
+// a * b + c with one rounding. Where the product is sure to be exact, one rounding is what the two operations make.
+pub fn mul_add_f64(a: f64, b: f64, c: f64) -> f64
+    ensures { λ r. ⌜ r ≡ mulAdd binary64 a b c ⌝ }
+{
+    let product = a * b;
+    if product == product {
+        if exact(f64::to_bits(a), f64::to_bits(b)) {
+            return product + c;
+        }
+    }
+    by_words_f64(a, b, c)
+}
+
+// Whether an f64 rounds to f32 as what it was rounded from does, by its pattern: it is no half-way point of f32, no power of two and not below the least normal f32.
+fn harmless(pattern: u64) -> bool
+    ensures { λ r. ⌜ (r ≡ true → Harmless pattern) ⌝ }
+{
+    if pattern % 0x2000_0000 == 0x1000_0000 {
+        return false;
+    }
+    if pattern % 0x10_0000_0000_0000 == 0 {
+        return false;
+    }
+    897 <= pattern % 0x8000_0000_0000_0000 / 0x10_0000_0000_0000
+}
+
+// The same at f32. A product of two f32 is an f64, so the sum is rounded to f64 once, and then to f32 where that does no harm.
 pub fn mul_add_f32(a: f32, b: f32, c: f32) -> f32
     ensures { λ r. ⌜ r ≡ mulAdd binary32 a b c ⌝ }
 {
-    if a - a == 0.0 {
-        if b - b == 0.0 {
-            if c - c == 0.0 {
-                let r = mul_add_f64(a as f64, b as f64, c as f64);
-                if r - r == 0.0 {
-                    if harmless(f64::to_bits(r)) {
-                        return ieee::narrow_f64(r);
-                    }
-                }
+    let twice = a * b + c;
+    if twice == twice {
+        let r = (a as f64) * (b as f64) + (c as f64);
+        if r - r == 0.0 {
+            if harmless(f64::to_bits(r)) {
+                return ieee::narrow_f64(r);
             }
         }
     }

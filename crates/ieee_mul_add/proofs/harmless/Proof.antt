@@ -1,4 +1,4 @@
-use Rattle.ieee_mul_add.proofs.Steps.{never}
+use Rattle.ieee_mul_add.proofs.ExactProducts.{never}
 use Rattle.ieee_mul_add.proofs.harmless.Statement.{statement}
 use borrow.Author.Needs.{needs}
 use Rattle.ieee_mul_add.proofs.harmless.Tie as tie

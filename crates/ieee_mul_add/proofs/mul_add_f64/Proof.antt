@@ -1,128 +1,45 @@
--- `ieee_mul_add::mul_add_f64` meets its contract: between numbers by their patterns, and by the two operations where a factor is 0 or something is not finite. Assumes nothing.
-use mathlib.Core.Path.{sym, ap, _∙_, subst}
+use mathlib.Core.Path.{sym, subst}
 use mathlib.Core.Bool.{not}
-use Prim.Native.Nat.{ℕ, _*_}
-use native.Mathlib.Nat.{zero-mul, mul-zero}
 use lib.Dec.{T}
-use lib.Ieee.{binary64, fits, isNan, toBits, ofBits}
-use lib.Ieee.Scale.{finite}
+use lib.Ieee.{binary64, isNan, mul}
 use borrow.Author.Needs.{needs}
-use Rattle.ieee.proofs.FiniteTest.{finite-of-test, number-of-test}
-use Rattle.ieee.specs.inside.PatternParts.{digitsOf}
-use Rattle.ieee_mul_add.proofs.ByFractions.{other-sum, other-product}
-use Rattle.ieee_mul_add.proofs.Steps.{finite-bits, by-patterns, zero-of, whole-of, not-finite, not-first, not-second, above-zero}
+use Rattle.ieee.proofs.Values.{number-of-eq}
+use Rattle.ieee_mul_add.proofs.ByFractions.{number-factors}
+use Rattle.ieee_mul_add.proofs.ExactProducts.{two-operations}
 use Rattle.ieee_mul_add.proofs.mul_add_f64.Statement.{statement}
 use Rattle.ieee_mul_add.proofs.mul_add_f64.Tie as tie
 
-fits-a : (t : tie.Then3) → T (fits binary64 (t .before .before .before .args .a))
-fits-a t = subst T (sym (t .before .before .before .good .0 .1)) tt
+-- a product that equals itself is no NaN, and so are its factors
+numbers : (c : tie.Then1) → T (not (isNan (c .before .args .a))) × T (not (isNan (c .before .args .b)))
+numbers c = let a = c .before .args in number-factors binary64 (a .a) (a .b) (number-of-eq (mul binary64 (a .a) (a .b)) (c .if1 .taken))
 
-finite-a : (t : tie.Then3) → T (finite (t .before .before .before .args .a))
-unfolding ofBits
-finite-a t = finite-of-test binary64 (t .before .before .before .args .a) (t .before .before .if1 .taken)
+float-to-bits-exact : tie.Need-float-to-bits-exact
+float-to-bits-exact c = numbers c .0
 
-number-a : (t : tie.Then3) → T (not (isNan (t .before .before .before .args .a)))
-unfolding ofBits
-number-a t = number-of-test binary64 (t .before .before .before .args .a) (t .before .before .if1 .taken)
-
-fits-b : (t : tie.Then3) → T (fits binary64 (t .before .before .before .args .b))
-fits-b t = subst T (sym (t .before .before .before .good .1 .0 .1)) tt
-
-finite-b : (t : tie.Then3) → T (finite (t .before .before .before .args .b))
-unfolding ofBits
-finite-b t = finite-of-test binary64 (t .before .before .before .args .b) (t .before .if2 .taken)
-
-number-b : (t : tie.Then3) → T (not (isNan (t .before .before .before .args .b)))
-unfolding ofBits
-number-b t = number-of-test binary64 (t .before .before .before .args .b) (t .before .if2 .taken)
-
-fits-c : (t : tie.Then3) → T (fits binary64 (t .before .before .before .args .c))
-fits-c t = subst T (sym (t .before .before .before .good .1 .1 .0 .1)) tt
-
-finite-c : (t : tie.Then3) → T (finite (t .before .before .before .args .c))
-unfolding ofBits
-finite-c t = finite-of-test binary64 (t .before .before .before .args .c) (t .if3 .taken)
-
-number-c : (t : tie.Then3) → T (not (isNan (t .before .before .before .args .c)))
-unfolding ofBits
-number-c t = number-of-test binary64 (t .before .before .before .args .c) (t .if3 .taken)
-
-float-to-bits-x : tie.Need-float-to-bits-x
-float-to-bits-x c = number-a c
-
-float-to-bits-y : tie.Need-float-to-bits-y
-float-to-bits-y c = number-b c
+float-to-bits-exact-2 : tie.Need-float-to-bits-exact-2
+float-to-bits-exact-2 c = numbers c .1
 
 exact-requires : tie.Need-exact-requires
 exact-requires c κs = search needs
 
 returns : tie.Need-returns
 returns c =
-    let t = c .before .before in
-    whole-of (t .before .before .before .args .a) (t .before .before .before .args .b) (t .before .before .before .args .c) (fits-a t) (fits-b t) (fits-c t) (finite-a t) (finite-b t) (finite-c t) (c .before .exact .ensures (c .if4 .taken))
+    let s = c .before .before .before in
+    two-operations (s .args .a) (s .args .b) (s .args .c) (subst T (sym (s .good .0 .1)) tt) (subst T (sym (s .good .1 .0 .1)) tt) (c .before .exact .ensures (c .if2 .taken))
 
-digits-requires : tie.Need-digits-requires
-digits-requires c κs = search needs
+by-words-f64-requires : tie.Need-by-words-f64-requires
+by-words-f64-requires c κs = search needs
 
 returns-2 : tie.Need-returns-2
-returns-2 c =
-    let t = c .before .before .before .before in
-    zero-of (t .before .before .before .args .a) (t .before .before .before .args .b) (t .before .before .before .args .c) (fits-a t) (fits-b t) (fits-c t) (finite-a t) (finite-b t) (finite-c t) binary64 (ap (λ (x : ℕ). x * digitsOf binary64 (toBits binary64 (t .before .before .before .args .b))) (sym (c .before .digits .ensures) ∙ c .if5 .taken) ∙ zero-mul (digitsOf binary64 (toBits binary64 (t .before .before .before .args .b))))
-
-digits-requires-2 : tie.Need-digits-requires-2
-digits-requires-2 c κs = search needs
-
-returns-3 : tie.Need-returns-3
-returns-3 c =
-    let t = c .before .before .before .before .before .before in
-    zero-of (t .before .before .before .args .a) (t .before .before .before .args .b) (t .before .before .before .args .c) (fits-a t) (fits-b t) (fits-c t) (finite-a t) (finite-b t) (finite-c t) binary64 (ap (λ (x : ℕ). digitsOf binary64 (toBits binary64 (t .before .before .before .args .a)) * x) (sym (c .before .digits2 .ensures) ∙ c .if6 .taken) ∙ mul-zero (digitsOf binary64 (toBits binary64 (t .before .before .before .args .a))))
-
-float-to-bits-finite-f64 : tie.Need-float-to-bits-finite-f64
-float-to-bits-finite-f64 c = let t = c .before .before .before .before .before .before in number-c t
-
-finite-f64-requires : tie.Need-finite-f64-requires
-finite-f64-requires c κs =
-    let t = c .before .before .before .before .before .before in
-    (finite-bits (t .before .before .before .args .a) (fits-a t) (finite-a t), finite-bits (t .before .before .before .args .b) (fits-b t) (finite-b t), finite-bits (t .before .before .before .args .c) (fits-c t) (finite-c t), above-zero (digitsOf binary64 (toBits binary64 (t .before .before .before .args .a))) (λ z. c .before .before .if5 .left (c .before .before .before .digits .ensures ∙ z)), above-zero (digitsOf binary64 (toBits binary64 (t .before .before .before .args .b))) (λ z. c .if6 .left (c .before .digits2 .ensures ∙ z)))
-
-returns-4 : tie.Need-returns-4
-returns-4 c =
-    let t = c .before .before .before .before .before .before .before in
-    c .finite-f64 .ensures ∙ by-patterns (t .before .before .before .args .a) (t .before .before .before .args .b) (t .before .before .before .args .c) (fits-a t) (fits-b t) (fits-c t) (finite-a t) (finite-b t) (finite-c t) binary64
-
-returns-5 : tie.Need-returns-5
-unfolding ofBits
-returns-5 c =
-    let s = c .before .before .before in
-    other-sum binary64 (s .args .a) (s .args .b) (s .args .c) (finite-of-test binary64 (s .args .a) (c .before .before .if1 .taken)) (finite-of-test binary64 (s .args .b) (c .before .if2 .taken)) (not-finite binary64 (s .args .c) (c .if3 .left))
-
-returns-6 : tie.Need-returns-6
-unfolding ofBits
-returns-6 c =
-    let s = c .before .before in
-    other-product binary64 (s .args .a) (s .args .b) (s .args .c) (not-second (finite (s .args .a)) (finite (s .args .b)) (not-finite binary64 (s .args .b) (c .if2 .left)))
-
-returns-7 : tie.Need-returns-7
-unfolding ofBits
-returns-7 c =
-    let s = c .before in
-    other-product binary64 (s .args .a) (s .args .b) (s .args .c) (not-first (finite (s .args .a)) (finite (s .args .b)) (not-finite binary64 (s .args .a) (c .if1 .left)))
+returns-2 c = search needs
 
 pub mul-add-f64-spec : {M : Type 1} → statement M
 mul-add-f64-spec =
     tie.close
     (tie.spec
-    float-to-bits-x
-    float-to-bits-y
+    float-to-bits-exact
+    float-to-bits-exact-2
     exact-requires
     returns
-    digits-requires
-    returns-2
-    digits-requires-2
-    returns-3
-    float-to-bits-finite-f64
-    finite-f64-requires
-    returns-4
-    returns-5
-    returns-6
-    returns-7)
+    by-words-f64-requires
+    returns-2)

@@ -4,7 +4,7 @@ use Prim.Native.Nat.{_+_}
 use native.Mathlib.Nat.{zero-add}
 use native.Mathlib.Omega.{arith}
 use lib.Ieee.{binary32, ofBits}
-use Rattle.ieee_mul_add.proofs.Steps.{no-nan}
+use Rattle.ieee_mul_add.proofs.ByFloats.{no-nan}
 use Rattle.ieee_mul_add.proofs.signed_f32.Statement.{statement}
 use borrow.Author.Needs.{needs}
 use Rattle.ieee_mul_add.proofs.signed_f32.Tie as tie

@@ -7,7 +7,7 @@ use Rattle.ieee.specs.inside.PatternParts.{digitsOf, powerOf}
 use Rattle.ieee_mul_add.specs.inside.CutSum.{productOf, addendOf}
 use Rattle.ieee_mul_add.specs.inside.Words.{twoWords, wordsOf}
 use Rattle.ieee_mul_add.proofs.DeepEnough.{product-lt}
-use Rattle.ieee_mul_add.proofs.Steps.{high-of, even-low, word-of, summed-as}
+use Rattle.ieee_mul_add.proofs.SumOfCuts.{high-of, even-low, word-of, summed-as}
 use Rattle.ieee_mul_add.proofs.summed_bits.Statement.{statement}
 use borrow.Author.Needs.{needs}
 use Rattle.ieee_mul_add.proofs.summed_bits.Tie as tie

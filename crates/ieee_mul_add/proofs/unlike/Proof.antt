@@ -1,6 +1,16 @@
-use Rattle.ieee_mul_add.proofs.Steps.{unlike-minus, unlike-plus}
+use mathlib.Core.Path.{_≡_, refl}
+use mathlib.Core.Bool.{Bool, true, false, not}
+use lib.Ieee.{unlike}
 use Rattle.ieee_mul_add.proofs.unlike.Statement.{statement}
 use Rattle.ieee_mul_add.proofs.unlike.Tie as tie
+
+unlike-minus : (t : Bool) → not t ≡ unlike true t
+unlike-minus true = refl
+unlike-minus false = refl
+
+unlike-plus : (t : Bool) → t ≡ unlike false t
+unlike-plus true = refl
+unlike-plus false = refl
 
 returns : tie.Need-returns
 returns c = rw (c .if1 .taken) (unlike-minus (c .before .args .t))
