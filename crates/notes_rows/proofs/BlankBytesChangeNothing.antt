@@ -9,25 +9,30 @@ use lib.Dec.{eqb}
 use lib.Ieee.{Float}
 use borrow.Author.Tests.{ne-eqb}
 use Rattle.picks.specs.Pick.{pick}
-use Rattle.notes_rows.specs.Measures.{lineFeed, comma, isBlank, oneIf, firstMeasure, laterMeasures, measures, measureRows, rowsOf}
+use Rattle.notes_rows.specs.Measures.{lineFeed, comma, isBlank, oneIf, firstPart, laterParts, measures, parts}
+use Rattle.notes_rows.specs.inside.Counting.{rowsFromHere}
+use Rattle.notes_rows.proofs.RowsByteByByte.{rows-byte-by-byte}
 use Rattle.notes_rows.specs.RowBeats.{measureBeats, beatsFrom, rowsToBeats}
 
 -- ---- the beats go by how many rows each measure has
-counts : Bool → List ℕ → List ℕ
-counts begun bytes = measureRows begun (firstMeasure bytes) ∷ map rowsOf (laterMeasures bytes)
+abbrev rowsIn : List ℕ → ℕ
+rowsIn measure = rowsFromHere false measure
 
-by-counts : (measure : ℕ) (some other : List (List ℕ)) → map rowsOf some ≡ map rowsOf other → beatsFrom measure some ≡ beatsFrom measure other
+counts : Bool → List ℕ → List ℕ
+counts begun bytes = rowsFromHere begun (firstPart comma bytes) ∷ map rowsIn (laterParts comma bytes)
+
+by-counts : (measure : ℕ) (some other : List (List ℕ)) → map rowsIn some ≡ map rowsIn other → beatsFrom measure some ≡ beatsFrom measure other
 unfolding beatsFrom
 by-counts measure [] [] same = refl
 by-counts measure [] (x ∷ other) same = let z : _≡_ {A = ℕ} 0 1 = cc in absurd (omega arith)
 by-counts measure (x ∷ some) [] same = let z : _≡_ {A = ℕ} 0 1 = cc in absurd (omega arith)
 by-counts measure (x ∷ some) (y ∷ other) same =
-    let first : rowsOf x ≡ rowsOf y = cc in
-    let rest : map rowsOf some ≡ map rowsOf other = cc in
-    ap₂ (λ (n : ℕ) (l : List Float). measureBeats measure n ++ l) first (by-counts (suc measure) some other rest)
+    let first : rowsIn x ≡ rowsIn y = cc in
+    let rest : map rowsIn some ≡ map rowsIn other = cc in
+    ap₂ (λ (n : ℕ) (l : List Float). measureBeats measure n ++ l) (rows-byte-by-byte x ∙ first ∙ sym (rows-byte-by-byte y)) (by-counts (suc measure) some other rest)
 
 same-beats : (some other : List ℕ) → counts false some ≡ counts false other → rowsToBeats some ≡ rowsToBeats other
-unfolding rowsToBeats measures rowsOf counts
+unfolding rowsToBeats parts counts
 same-beats some other same = by-counts 0 (measures some) (measures other) same
 
 -- ---- byte by byte
@@ -45,17 +50,17 @@ after begun byte bytes =
     pick (eqb byte comma) (oneIf begun ∷ counts false bytes) (pick (eqb byte lineFeed) (more (oneIf begun) (counts false bytes)) (counts (pick (isBlank byte) begun true) bytes))
 
 step : (begun : Bool) (byte : ℕ) (bytes : List ℕ) → counts begun (byte ∷ bytes) ≡ after begun byte bytes
-unfolding counts after more firstMeasure laterMeasures measureRows rowsOf
+unfolding counts after more firstPart laterParts rowsFromHere
 step begun byte bytes = go (eqb byte comma) (eqb byte lineFeed)
   where
     go : (ends feed : Bool)
-        → measureRows begun (pick ends [] (byte ∷ firstMeasure bytes)) ∷ map rowsOf (pick ends (firstMeasure bytes ∷ laterMeasures bytes) (laterMeasures bytes))
+        → rowsFromHere begun (pick ends [] (byte ∷ firstPart comma bytes)) ∷ map rowsIn (pick ends (firstPart comma bytes ∷ laterParts comma bytes) (laterParts comma bytes))
         ≡ pick ends (oneIf begun ∷ counts false bytes) (pick (eqb byte lineFeed) (more (oneIf begun) (counts false bytes)) (counts (pick (isBlank byte) begun true) bytes))
     go true feed = refl
     go false feed = inner (eqb byte lineFeed)
       where
         inner : (t : Bool)
-            → pick t (oneIf begun + measureRows false (firstMeasure bytes)) (measureRows (pick (isBlank byte) begun true) (firstMeasure bytes)) ∷ map rowsOf (laterMeasures bytes)
+            → pick t (oneIf begun + rowsFromHere false (firstPart comma bytes)) (rowsFromHere (pick (isBlank byte) begun true) (firstPart comma bytes)) ∷ map rowsIn (laterParts comma bytes)
             ≡ pick t (more (oneIf begun) (counts false bytes)) (counts (pick (isBlank byte) begun true) bytes)
         inner true = refl
         inner false = refl
@@ -114,7 +119,7 @@ module _ (front back : List ℕ) where
       false)
 
 pub feed-at-the-end : (front : List ℕ) → rowsToBeats (front ++ lineFeed ∷ []) ≡ rowsToBeats front
-unfolding after more counts firstMeasure laterMeasures measureRows
+unfolding after more counts firstPart laterParts rowsFromHere
 feed-at-the-end front =
     same-beats (front ++ lineFeed ∷ []) (front ++ [])
     (alike-behind front (lineFeed ∷ []) [] (λ begun. step begun lineFeed [] ∙ ap (λ (n : ℕ). n ∷ []) (omega arith)) false)

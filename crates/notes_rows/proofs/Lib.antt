@@ -1,3 +1,4 @@
+pub mod RowsByteByByte
 pub mod FewRows
 pub mod CountingRows
 pub mod MeasureByMeasure
@@ -9,6 +10,6 @@ pub mod OneOutcome
 pub mod RowUnits
 pub mod BeatsNeverFall
 pub mod BlankBytesChangeNothing
-pub mod MeasuresAreTheData
+pub mod PartsAreTheData
 pub mod RowInItsMeasure
 pub mod OneRoundingMatters

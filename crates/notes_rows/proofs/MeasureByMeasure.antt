@@ -9,20 +9,20 @@ use lib.ListN.{length, drop, length-drop}
 use lib.Seq.{drop-drop}
 use borrow.Author.Tests.{leb-true, leb-false, le-leb, lt-leb}
 use Rattle.picks.specs.Pick.{pick}
-use Rattle.notes_rows.specs.Measures.{comma, firstMeasure, laterMeasures, measures, allRows}
+use Rattle.notes_rows.specs.Measures.{comma, firstPart, laterParts, measures, allRows, parts}
 use Rattle.notes_rows.specs.declared.Measure.{Measure}
-use Rattle.notes_rows.specs.inside.Counting.{measuresFrom, MeasureCounted}
+use Rattle.notes_rows.specs.inside.Counting.{measuresFrom, MeasureCounted, measureAt}
 use Rattle.notes_rows.proofs.FewRows.{first-short}
 
-later-measures : (bytes : List ℕ) → laterMeasures bytes ≡ measuresFrom (suc (length (firstMeasure bytes))) bytes
-unfolding firstMeasure laterMeasures measures measuresFrom
+later-measures : (bytes : List ℕ) → laterParts comma bytes ≡ measuresFrom (suc (length (firstPart comma bytes))) bytes
+unfolding firstPart laterParts parts measuresFrom
 later-measures [] = refl
 later-measures (byte ∷ bytes) = go (eqb byte comma) (later-measures bytes)
   where
-    go : (ends : Bool) → laterMeasures bytes ≡ measuresFrom (suc (length (firstMeasure bytes))) bytes
-        → pick ends (firstMeasure bytes ∷ laterMeasures bytes) (laterMeasures bytes) ≡ measuresFrom (suc (length (pick ends [] (byte ∷ firstMeasure bytes)))) (byte ∷ bytes)
+    go : (ends : Bool) → laterParts comma bytes ≡ measuresFrom (suc (length (firstPart comma bytes))) bytes
+        → pick ends (firstPart comma bytes ∷ laterParts comma bytes) (laterParts comma bytes) ≡ measuresFrom (suc (length (pick ends [] (byte ∷ firstPart comma bytes)))) (byte ∷ bytes)
     go true h = rw (le-leb 1 (suc (length bytes)) (omega arith))
-    go false h = rw (leb·suc-suc (suc (length (firstMeasure bytes))) (length bytes)) h
+    go false h = rw (leb·suc-suc (suc (length (firstPart comma bytes))) (length bytes)) h
 
 shifted : (place q n : ℕ) → place ≤ n → leb (place + q) n ≡ leb q (n - place)
 shifted place q n h = go (leb q (n - place)) refl
@@ -40,13 +40,13 @@ module _ (noteData : List ℕ) (place : ℕ) (within : place ≤ length noteData
     pub ends-within : measure .end ≤ length noteData
     ends-within = omega (arith, counted .end, first-short (drop place noteData), length-drop place noteData)
 
-    pub measure-after-measure : measuresFrom place noteData ≡ firstMeasure (drop place noteData) ∷ measuresFrom (measure .end + 1) noteData
-    unfolding measuresFrom measures
+    pub measure-after-measure : measuresFrom place noteData ≡ measureAt place noteData ∷ measuresFrom (measure .end + 1) noteData
+    unfolding measuresFrom parts
     measure-after-measure =
         let part = drop place noteData in
-        let behind : measuresFrom (measure .end + 1) noteData ≡ laterMeasures part =
-        ap (λ (n : ℕ). measuresFrom n noteData) (omega (arith, counted .end)) ∙ from-part (suc (length (firstMeasure part))) ∙ sym (later-measures part) in
-        rw (le-leb place (length noteData) within) (ap (_∷_ (firstMeasure part)) (sym behind))
+        let behind : measuresFrom (measure .end + 1) noteData ≡ laterParts comma part =
+        ap (λ (n : ℕ). measuresFrom n noteData) (omega (arith, counted .end)) ∙ from-part (suc (length (firstPart comma part))) ∙ sym (later-measures part) in
+        rw (le-leb place (length noteData) within) (ap (_∷_ (firstPart comma part)) (sym behind))
 
     pub rows-after-rows : allRows (measuresFrom place noteData) ≡ measure .rows + allRows (measuresFrom (measure .end + 1) noteData)
     unfolding allRows

@@ -11,7 +11,7 @@ use borrow.Rule.Slice.PartMut.{putMid}
 use Rattle.order.specs.Order.{laid}
 use Rattle.order.proofs.LaidOverFront.{laid-length, laid-more}
 use Rattle.notes_rows.specs.declared.Measure.{Measure}
-use Rattle.notes_rows.specs.Measures.{rowsOf, allRows, measures, firstMeasure}
+use Rattle.notes_rows.specs.Measures.{allRows, measures}
 use Rattle.notes_rows.specs.RowBeats.{measureBeats, beatsFrom, rowsToBeats}
 use Rattle.notes_rows.specs.inside.Counting.{measuresFrom, MeasureCounted}
 use Rattle.notes_rows.proofs.MeasureByMeasure.{measure-after-measure, rows-after-rows, ends-within, none-behind, all-at-first}

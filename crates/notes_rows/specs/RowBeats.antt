@@ -16,17 +16,19 @@ use Rattle.notes_rows.specs.Measures.{rowsOf, measures}
 
 -- ---- a row
 
--- a whole number as an f32, and 4, the beats of a measure
+-- a whole number as an f32
 abbrev pub asF32 : ℕ → Float
 asF32 n = ofInt binary32 (pos n)
 
+-- 4, the beats of a measure
 abbrev pub four32 : Float
 four32 = ofBits binary32 0x4080_0000
 
--- the beat that a measure begins at, and from a row to the next
+-- the beat that a measure begins at
 abbrev pub measureStart : ℕ → Float
 measureStart measure = mul binary32 (asF32 measure) four32
 
+-- the beats from a row to the next
 abbrev pub rowStep : ℕ → Float
 rowStep rows = div binary32 four32 (asF32 rows)
 
@@ -36,7 +38,7 @@ beatOfRow measure rows row = mulAdd binary32 (asF32 row) (rowStep rows) (measure
 
 -- ---- all rows
 
--- as many rows as are left, from one on
+-- so many rows, from a row on
 unfoldable pub rowsFrom : (row left : ℕ) → List ℕ
 rowsFrom row zero = []
 rowsFrom row (suc left) = row ∷ rowsFrom (suc row) left

@@ -18,7 +18,7 @@ const COMMA: u8 = 44;
 
 // ---- counting
 
-// Whether a byte says nothing of its row: a tab, a line feed, a form feed, a carriage return or a space.
+// Whether a byte is blank: a tab, a line feed, a form feed, a carriage return or a space.
 fn is_blank(byte: u8) -> bool
     ensures { λ r. ⌜ r ≡ isBlank byte ⌝ }
 {
@@ -37,7 +37,7 @@ fn is_blank(byte: u8) -> bool
     byte == 32
 }
 
-// How many rows end with one that is begun, or is not.
+// 1 for a row that is begun: one of its bytes is not blank.
 fn one_if(begun: bool) -> usize
     ensures { λ r. ⌜ r ≡ oneIf begun ⌝ }
 {
@@ -50,7 +50,7 @@ struct Measure {
     end: usize,
 }
 
-// The measure that begins at a place.
+// The measure that begins at a place. A row counts where it ends.
 fn count_measure_rows(note_data: &[u8], place: usize) -> Measure
     requires { ⌜ place ≤ length (now «note_data») ⌝ }
     ensures { λ r. ⌜ MeasureCounted (now («note_data» .entry)) place r ⌝ }
