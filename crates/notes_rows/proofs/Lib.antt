@@ -13,3 +13,4 @@ pub mod BlankBytesChangeNothing
 pub mod PartsAreTheData
 pub mod RowInItsMeasure
 pub mod OneRoundingMatters
+pub mod MeasuresBeforeIt
