@@ -31,9 +31,11 @@ abbrev pub minusBit : Float → Bool
 minusBit x = leb (2 ^ 63) (bitsOf x)
 
 module _ (x : Float) (F : T (fits binary64 x)) (X : T (finite x)) where
+  -- its exponent's field is not all ones
   pub finite-bits : fieldOf binary64 (bitsOf x) < 2047
   finite-bits = finite-field binary64 (bitsOf x) (subst (λ (y : Float). T (finite y)) (sym (ofBits-toBits binary64 x F)) X)
 
+  -- it is its digits times its power of two, in units of the smallest f64
   pub float-value : HasValue x (minusBit x) (digitsOf binary64 (bitsOf x) * 2 ^ powerOf binary64 (bitsOf x)) (2 ^ 1074)
   float-value = subst (λ (y : Float). HasValue y (minusBit x) (digitsOf binary64 (bitsOf x) * 2 ^ powerOf binary64 (bitsOf x)) (2 ^ 1074)) (ofBits-toBits binary64 x F) (pattern-value binary64 (bitsOf x) finite-bits)
 
@@ -47,6 +49,7 @@ pub record AllFinite (x y z : Float) : Type 0 where
   pub finite-z : T (finite z)
 
 module _ (f : Format) (x y z : Float) (K : AllFinite x y z) where
+  -- a multiply-add of the three is that of what their patterns stand for
   pub by-patterns : mulAdd f (ofBits binary64 (bitsOf x)) (ofBits binary64 (bitsOf y)) (ofBits binary64 (bitsOf z)) ≡ mulAdd f x y z
   by-patterns =
       ap (λ (v : Float). mulAdd f v (ofBits binary64 (bitsOf y)) (ofBits binary64 (bitsOf z))) (ofBits-toBits binary64 x (K .fits-x))
@@ -65,9 +68,11 @@ module _ (f : Format) (x y z : Float) (K : AllFinite x y z) where
       nothing : (m n i j : ℕ) → m * n ≡ 0 → m * i * (n * j) ≡ 0
       nothing m n i j e = let g = ap (λ (k : ℕ). k * (i * j)) e in omega arith
 
+  -- the first
   pub zero-first : (m : ℕ) → m ≡ digitsOf binary64 (bitsOf x) → m ≡ 0 → add f (mul f x y) z ≡ mulAdd f x y z
   zero-first m e h = zero-digits (ap (λ (k : ℕ). k * digitsOf binary64 (bitsOf y)) (sym e ∙ h) ∙ zero-mul (digitsOf binary64 (bitsOf y)))
 
+  -- the second
   pub zero-second : (n : ℕ) → n ≡ digitsOf binary64 (bitsOf y) → n ≡ 0 → add f (mul f x y) z ≡ mulAdd f x y z
   zero-second n e h = zero-digits (ap (λ (k : ℕ). digitsOf binary64 (bitsOf x) * k) (sym e ∙ h) ∙ mul-zero (digitsOf binary64 (bitsOf x)))
 
@@ -84,6 +89,7 @@ module _ (f : Format) (x y z : Float) (K : AllFinite x y z) where
 pub not-finite : (f : Format) (x : Float) → eq (sub f x x) plusZero ≡ false → T (not (finite x))
 not-finite f x h = subst (λ (t : Bool). T (not t)) (sym h ∙ finite-test f x) tt
 
+-- the tests are nested, so one that fails leaves not all finite
 pub not-first : (a b : Bool) → T (not a) → T (not (a && b))
 not-first true b h = absurd h
 not-first false b h = tt

@@ -57,6 +57,7 @@ module _ (f : Format) where
 
   -- ---- where the product is exact, or 0, it is the two operations
   module _ (x y z : Float) (s t : Bool) (a b c d : ℕ) (C : 0 < c) (D : 0 < d) (v : HasValue x s a c) (w : HasValue y t b d) where
+    -- a product that the format holds is added as it is
     pub exact-product : T (finite z) → HasValue (mul f x y) (unlike s t) (a * b) (c * d) → add f (mul f x y) z ≡ mulAdd f x y z
     exact-product Z h = go z Z
       where
@@ -79,6 +80,7 @@ module _ (f : Format) where
             (rescaled (fin u o g) u p e (p * (c * d)) (c * d * e) E (beside p e (c * d)) (refl, refl))
             ∙ sym (mul-add-fractions x y (fin u o g) s t u a b p c d e C D E v w (refl, refl))
 
+    -- and so is a product that is 0
     pub zero-product : T (finite z) → a * b ≡ 0 → add f (mul f x y) z ≡ mulAdd f x y z
     zero-product Z e =
         let n = mul-value f x y s t a c b d C D v w ∙ round-zero f (unlike s t) (a * b) (c * d) (mul-pos C D) e in
@@ -103,6 +105,7 @@ module _ (f : Format) where
   picked true u z = refl
   picked false u z = refl
 
+  -- nor is a product with what is not finite ever rounded
   pub other-product : (x y z : Float) → T (not (finite x && finite y)) → add f (mul f x y) z ≡ mulAdd f x y z
   unfolding mulAdd mul add
   other-product nan y z h = refl
@@ -136,6 +139,7 @@ module _ (f : Format) where
   finite-addend (fin s m e) (inf t) h = h
   finite-addend (fin s m e) (fin t n d) h = tt
 
+  -- so all three were finite
   pub finite-parts : (x y z : Float) → T (finite (add f (mul f x y) z)) → T (finite x) × T (finite y) × T (finite z)
   unfolding add mul
   finite-parts nan y z h = absurd h
@@ -157,6 +161,7 @@ module _ (f : Format) where
   number-factors (fin s m e) (inf t) h = (tt, tt)
   number-factors (fin s m e) (fin t n d) h = (tt, tt)
 
+  -- of a sum
   pub number-summands : (w z : Float) → T (not (isNan (add f w z))) → T (not (isNan w)) × T (not (isNan z))
   unfolding add isNan
   number-summands nan z h = absurd h

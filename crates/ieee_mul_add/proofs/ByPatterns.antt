@@ -22,10 +22,11 @@ use Rattle.ieee_mul_add.specs.inside.RoundedFromCut.{RoundedFrom}
 use Rattle.ieee_odd_cut.proofs.OneOddCut.{IsOddCut, is-odd-cut, cut-to-zero}
 use Rattle.ieee_odd_cut.proofs.RoundsAsUncut.{cut-pattern}
 use Rattle.ieee_mul_add.proofs.ByFractions.{mul-add-values}
-use Rattle.ieee_mul_add.proofs.DeepEnough.{deep}
+use Rattle.ieee_mul_add.proofs.DeepEnough.{deep-enough}
 
 -- ---- the exact sum, over 2 ^ 2232
 module _ (a b c : ℕ) (FA : fieldOf binary64 a < 2047) (FB : fieldOf binary64 b < 2047) (FC : fieldOf binary64 c < 2047) where
+  -- m, n, o are the digits and i, j, k the powers of the three; s is the sign of the product and t that of the addend; A and B are the two as whole numbers over 2 ^ 2232
   abbrev m : ℕ
   m = digitsOf binary64 a
 
@@ -56,6 +57,7 @@ module _ (a b c : ℕ) (FA : fieldOf binary64 a < 2047) (FB : fieldOf binary64 b
   abbrev B : ℕ
   B = addendOf o * 2 ^ (k + 1085)
 
+  -- the three numbers over bottoms that make it 2 ^ 2232
   first : HasValue (ofBits binary64 a) (leb (2 ^ 63) a) (m * 1024 * 2 ^ i) (2 ^ 1084)
   first = rescaled (ofBits binary64 a) (leb (2 ^ 63) a) (m * 2 ^ i) (2 ^ 1074) (m * 1024 * 2 ^ i) (2 ^ 1084) (pow-pos 1074) (move m (2 ^ i) (2 ^ 1074) (2 ^ 1084) (pow-add 2 1074 10)) (pattern-value binary64 a FA)
     where
@@ -74,6 +76,7 @@ module _ (a b c : ℕ) (FA : fieldOf binary64 a < 2047) (FB : fieldOf binary64 b
       move : (o p w r pr u v : ℕ) → pr ≡ p * r → v ≡ u * (512 * (w * r)) → o * 512 * w * pr * u ≡ o * p * v
       move o p w r pr u v d e = let q = ap (λ (x : ℕ). o * p * x) e in let g = ap (λ (x : ℕ). o * 512 * w * x * u) d in omega arith
 
+  -- the exact sum is a whole number over 2 ^ 2232, and the multiply-add is that, rounded
   pub exact-sum : (f : Format) → mulAdd f (ofBits binary64 a) (ofBits binary64 b) (ofBits binary64 c) ≡ sum f s A t B (2 ^ 2232)
   exact-sum f =
       mul-add-values f (ofBits binary64 a) (ofBits binary64 b) (ofBits binary64 c) (leb (2 ^ 63) a) (leb (2 ^ 63) b) t (m * 1024 * 2 ^ i) (n * 1024 * 2 ^ (j + 64)) B (2 ^ 1084) (2 ^ 1148) (pow-pos 1084) (pow-pos 1148) first second third
@@ -95,7 +98,7 @@ module _ (a b c : ℕ) (FA : fieldOf binary64 a < 2047) (FB : fieldOf binary64 b
     odd = subst (λ (x : ℕ). IsOddCut N (2 ^ y) x) (sym (S .cut)) (is-odd-cut N (2 ^ y) (pow-pos y))
 
     enough : (w * 2 ^ y ≡ N) ⊎ ((y + 2 ≤ d) ⊎ (2 ^ (suc (prec f) + y) ≤ N))
-    enough = elim (deep m n o i j k (digits-lt binary64 a) (digits-lt binary64 b) (digits-lt binary64 c) M0 N0 (digits-full binary64 a) (digits-full binary64 b) (digits-full binary64 c) alike w y (S .at) odd) [
+    enough = elim (deep-enough m n o i j k (digits-lt binary64 a) (digits-lt binary64 b) (digits-lt binary64 c) M0 N0 (digits-full binary64 a) (digits-full binary64 b) (digits-full binary64 c) alike w y (S .at) odd) [
       | inl e ↦ inl e
       | inr (inl l) ↦ inr (inl (le-trans l fine))
       | inr (inr l) ↦ inr (inr (le-trans (pow-mono {i = suc (prec f) + y} {j = 54 + y} (omega arith)) l))
@@ -111,8 +114,9 @@ module _ (a b c : ℕ) (FA : fieldOf binary64 a < 2047) (FB : fieldOf binary64 b
         at : (v % 2 ≡ 1) × (v * g < x + g) × (x < v * g + g) → x ≡ 0 → v * g < 1 * g
         at h z = omega arith
 
-    pub rounded : RoundedFrom f d (cond larger t s) w y (mulAdd f (ofBits binary64 a) (ofBits binary64 b) (ofBits binary64 c))
-    rounded =
+    -- what is rounded from the cut is the multiply-add
+    pub rounded-from-cut : RoundedFrom f d (cond larger t s) w y (mulAdd f (ofBits binary64 a) (ofBits binary64 b) (ofBits binary64 c))
+    rounded-from-cut =
         record {
           none = λ z. exact-sum f ∙ sum-cancelled f s t A B (2 ^ 2232) (pow-pos 2232) A0 (cut-to-zero N (2 ^ y) w odd z);
           some = λ p.

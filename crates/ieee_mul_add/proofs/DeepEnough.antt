@@ -15,14 +15,17 @@ use Rattle.ieee.specs.inside.SumSize.{sumSize}
 use Rattle.ieee_mul_add.specs.inside.CutSum.{productOf, addendOf}
 use Rattle.ieee_odd_cut.proofs.OneOddCut.{IsOddCut, only-odd-cut}
 
--- ---- two sizes sumSize
-joined-mul : (alike : Bool) (a b d : ℕ) → 0 < d → sumSize alike (a * d) (b * d) ≡ sumSize alike a b * d
-joined-mul true a b d D = sym (add-mul a b d)
-joined-mul false a b d D = elim (lt-or-ge a b) [
+-- ---- two sizes added
+
+-- with a factor in both
+sum-scaled : (alike : Bool) (a b d : ℕ) → 0 < d → sumSize alike (a * d) (b * d) ≡ sumSize alike a b * d
+sum-scaled true a b d D = sym (add-mul a b d)
+sum-scaled false a b d D = elim (lt-or-ge a b) [
   | inl l ↦ rw (lt-ltb a b l, lt-ltb (a * d) (b * d) (mul-lt-mul-of-pos-right l D)) (sym (sub-mul b a d))
   | inr l ↦ rw (le-ltb a b l, le-ltb (a * d) (b * d) (mul-le-mul-right d l)) (sym (sub-mul a b d))
 ]
 
+-- where one is at least twice t and the other at most t, the sum is at least t
 far-first : (alike : Bool) (t a b : ℕ) → t + t ≤ a → b ≤ t → t ≤ sumSize alike a b
 far-first true t a b h l = omega arith
 far-first false t a b h l = elim (lt-or-ge a b) [ inl g ↦ rw (lt-ltb a b g) (omega arith) | inr g ↦ rw (le-ltb a b g) (omega arith) ]
@@ -31,6 +34,7 @@ far-second : (alike : Bool) (t a b : ℕ) → a ≤ t → t + t ≤ b → t ≤ 
 far-second true t a b h l = omega arith
 far-second false t a b h l = elim (lt-or-ge a b) [ inl g ↦ rw (lt-ltb a b g) (omega arith) | inr g ↦ rw (le-ltb a b g) (omega arith) ]
 
+-- a multiple of d is cut by d without loss
 exact-cut : (k d w : ℕ) → 0 < d → IsOddCut (k * d) d w → w * d ≡ k * d
 exact-cut k d w D O = ap (λ (x : ℕ). x * d) (sym (only-odd-cut (k * d) d w D O) ∙ only-odd-cut (k * d) d k D (inl refl))
 
@@ -42,10 +46,11 @@ double e = let i = pow-add 2 1 e in omega arith
 below-power : (n s x t : ℕ) → n < 2 ^ s → s + x ≤ t → n * 2 ^ x ≤ 2 ^ t
 below-power n s x t h l = le-trans (mul-le-mul-right (2 ^ x) (le-of-lt h)) (le-trans (le-of-eq (sym (pow-add 2 s x))) (pow-mono l))
 
+-- a number from 2 ^ s on, times 2 ^ x, is at least 2 ^ t
 above-power : (n s x t : ℕ) → 2 ^ s ≤ n → t ≤ s + x → 2 ^ t ≤ n * 2 ^ x
 above-power n s x t h l = le-trans (pow-mono l) (le-trans (le-of-eq (pow-add 2 s x)) (mul-le-mul-right (2 ^ x) h))
 
--- ---- the two sizes
+-- ---- the two sizes, in two words each with room above: below 2 ^ 126
 pub product-lt : (m n : ℕ) → m < 2 ^ 53 → n < 2 ^ 53 → productOf m n < 2 ^ 126
 product-lt m n M N = lt-of-le-of-lt (mul-le-mul-left (m * 1024) (le-of-lt n-lt)) (lt-of-lt-of-le (mul-lt-mul-of-pos-right m-lt (pow-pos 63)) (le-of-eq (sym (pow-add 2 63 63))))
   where
@@ -61,6 +66,7 @@ addend-lt o O = lt-of-lt-of-le (mul-lt-mul-of-pos-right o-lt (pow-pos 64)) (le-o
     o-lt : o * 512 < 2 ^ 62
     o-lt = omega arith
 
+-- and how large they are where the digits are full
 addend-ge : (o : ℕ) → 2 ^ 52 ≤ o → 2 ^ 125 ≤ addendOf o
 addend-ge o h = let l : 2 ^ 61 ≤ o * 512 = omega arith in le-trans (le-of-eq (pow-add 2 61 64)) (mul-le-mul-right (2 ^ 64) l)
 
@@ -81,16 +87,18 @@ module _ (m n o i j k : ℕ) (M : m < 2 ^ 53) (N : n < 2 ^ 53) (O : o < 2 ^ 53) 
   abbrev B : ℕ
   B = addendOf o * 2 ^ Z
 
-  abbrev Goal : Bool → ℕ → ℕ → Type 0
-  Goal alike w y = (w * 2 ^ y ≡ sumSize alike A B) ⊎ ((y + 2 ≤ 1158) ⊎ (2 ^ (54 + y) ≤ sumSize alike A B))
+  -- the cut loses nothing, or lies two places below the smallest f64, or 54 places below the leading digit
+  abbrev DeepCut : Bool → ℕ → ℕ → Type 0
+  DeepCut alike w y = (w * 2 ^ y ≡ sumSize alike A B) ⊎ ((y + 2 ≤ 1158) ⊎ (2 ^ (54 + y) ≤ sumSize alike A B))
 
   -- both are multiples of 2 ^ y
-  whole : (alike : Bool) (w y a b : ℕ) → A ≡ a * 2 ^ y → B ≡ b * 2 ^ y → IsOddCut (sumSize alike A B) (2 ^ y) w → Goal alike w y
+  whole : (alike : Bool) (w y a b : ℕ) → A ≡ a * 2 ^ y → B ≡ b * 2 ^ y → IsOddCut (sumSize alike A B) (2 ^ y) w → DeepCut alike w y
   whole alike w y a b e g h =
       let c = sumSize alike a b in
-      let q : sumSize alike A B ≡ c * 2 ^ y = ap₂ (sumSize alike) e g ∙ joined-mul alike a b (2 ^ y) (pow-pos y) in
+      let q : sumSize alike A B ≡ c * 2 ^ y = ap₂ (sumSize alike) e g ∙ sum-scaled alike a b (2 ^ y) (pow-pos y) in
       inl (exact-cut c (2 ^ y) w (pow-pos y) (subst (λ (x : ℕ). IsOddCut x (2 ^ y) w) q h) ∙ sym q)
 
+  -- the product is a multiple of 2 ^ Z where that is no more than 20 places up, and the addend of 2 ^ X where that is no more than 73: so much room is below their digits
   short-product : (e : ℕ) → e + Z ≡ X + 20 → A ≡ m * n * 2 ^ e * 2 ^ Z
   short-product e h =
       let a = pow-add 2 e Z in
@@ -112,13 +120,14 @@ module _ (m n o i j k : ℕ) (M : m < 2 ^ 53) (N : n < 2 ^ 53) (O : o < 2 ^ 53) 
       regroup : (o z e x : ℕ) → o * (e * x) ≡ o * (z * 2 ^ 73) → o * 512 * 2 ^ 64 * z ≡ o * e * x
       regroup o z e x q = omega arith
 
-  pub deep : (alike : Bool) (w y : ℕ) → y ≡ cond (ltb X Z) Z X → IsOddCut (sumSize alike A B) (2 ^ y) w → Goal alike w y
-  deep alike w y e h = elim (lt-or-ge X Z) [
+  -- the cut at the larger power loses nothing, or lies two places below the smallest value, or 54 places below the leading digit
+  pub deep-enough : (alike : Bool) (w y : ℕ) → y ≡ cond (ltb X Z) Z X → IsOddCut (sumSize alike A B) (2 ^ y) w → DeepCut alike w y
+  deep-enough alike w y e h = elim (lt-or-ge X Z) [
     | inl l ↦ below l (e ∙ rw (lt-ltb X Z l) refl)
     | inr l ↦ above l (e ∙ rw (le-ltb X Z l) refl)
   ]
     where
-      below : X < Z → y ≡ Z → Goal alike w y
+      below : X < Z → y ≡ Z → DeepCut alike w y
       below l e = elim (lt-or-ge (X + 20) Z) [
         | inr near ↦
             let a = X + 20 - Z in
@@ -141,7 +150,7 @@ module _ (m n o i j k : ℕ) (M : m < 2 ^ 53) (N : n < 2 ^ 53) (O : o < 2 ^ 53) 
         | inr p ↦ product-ge m n N0 (full-m p)
       ]
 
-      above : Z ≤ X → y ≡ X → Goal alike w y
+      above : Z ≤ X → y ≡ X → DeepCut alike w y
       above l e = elim (lt-or-ge (Z + 73) X) [
         | inr near ↦
             let a = Z + 73 - X in

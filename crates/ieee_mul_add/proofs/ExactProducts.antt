@@ -22,27 +22,13 @@ use Rattle.ieee_mul_add.specs.inside.QuickWays.{ExactProduct}
 use Rattle.ieee_mul_add.proofs.ByFloats.{bitsOf, minusBit, float-value}
 use Rattle.ieee_mul_add.proofs.ByFractions.{exact-product, other-sum, other-product}
 
--- ---- the digits of a pattern end in as many zeros as the pattern does
-pub digits-end : (b : ℕ) → b % 2 ^ 52 ≡ 0 → digitsOf binary64 b % 2 ^ 52 ≡ 0
-digits-end b h = go (eqb (fieldOf binary64 b) 0)
+-- ---- the digits of a pattern are a multiple of d where the pattern's own, with a leading digit and without, are
+pub digits-end : (b d : ℕ) → b % 2 ^ 52 % d ≡ 0 → (2 ^ 52 + b % 2 ^ 52) % d ≡ 0 → digitsOf binary64 b % d ≡ 0
+digits-end b d without with-one = go (eqb (fieldOf binary64 b) 0)
   where
-    go : (i : Bool) → cond i (b % 2 ^ 52) (2 ^ 52 + b % 2 ^ 52) % 2 ^ 52 ≡ 0
-    go true = omega arith
-    go false = omega arith
-
-pub digits-end-29 : (b : ℕ) → b % 2 ^ 29 ≡ 0 → digitsOf binary64 b % 2 ^ 29 ≡ 0
-digits-end-29 b h = go (eqb (fieldOf binary64 b) 0)
-  where
-    go : (i : Bool) → cond i (b % 2 ^ 52) (2 ^ 52 + b % 2 ^ 52) % 2 ^ 29 ≡ 0
-    go true = omega arith
-    go false = omega arith
-
-pub digits-end-24 : (b : ℕ) → b % 2 ^ 24 ≡ 0 → digitsOf binary64 b % 2 ^ 24 ≡ 0
-digits-end-24 b h = go (eqb (fieldOf binary64 b) 0)
-  where
-    go : (i : Bool) → cond i (b % 2 ^ 52) (2 ^ 52 + b % 2 ^ 52) % 2 ^ 24 ≡ 0
-    go true = omega arith
-    go false = omega arith
+    go : (i : Bool) → cond i (b % 2 ^ 52) (2 ^ 52 + b % 2 ^ 52) % d ≡ 0
+    go true = without
+    go false = with-one
 
 -- ---- the powers of two, by the fields
 pub mid-powers : (a b : ℕ) → 1076 ≤ a + b → a + b ≤ 3067 → (1074 ≤ a - 1 + (b - 1)) × (a - 1 + (b - 1) ≤ 3066)
@@ -83,11 +69,13 @@ module _ (m i n j : ℕ) (M : m < 2 ^ 53) (N : n < 2 ^ 53) (l : 1074 ≤ i + j) 
         below = omega arith;
       }
 
+-- no f64 has more than 53 digits
 pub few-digits : (b : ℕ) → digitsOf binary64 b < 2 ^ 53
 few-digits b = digits-lt binary64 b
 
 -- ---- an exact product by its value
 module _ (x y : Float) (s t : Bool) (m i n j : ℕ) (v : HasValue x s (m * 2 ^ i) (2 ^ 1074)) (w : HasValue y t (n * 2 ^ j) (2 ^ 1074)) where
+  -- it is rounded to itself
   pub exact-value : ExactProduct m i n j → HasValue (mul binary64 x y) (unlike s t) (m * 2 ^ i * (n * 2 ^ j)) (2 ^ 1074 * 2 ^ 1074)
   exact-value E =
       let h = E .e + (i + j) - 1074 in
@@ -148,6 +136,7 @@ module _ (x y z : Float) (F : T (fits binary64 x)) (G : T (fits binary64 y)) whe
 
 -- ---- two f32 have a product that is an f64
 module _ (x y z : Float) (F : T (fits binary32 x)) (G : T (fits binary32 y)) (X : T (finite x)) (Y : T (finite y)) (Z : T (finite z)) where
+  -- 24 digits and 24 are no more than 53, and no exponent of f32 is near the ends of f64
   pub two-operations-f32 : add binary64 (mul binary64 x y) z ≡ mulAdd binary64 x y z
   two-operations-f32 =
       let U = in-units binary32 x (X, F) in
@@ -177,5 +166,6 @@ module _ (x y z : Float) (F : T (fits binary32 x)) (G : T (fits binary32 y)) (X 
       apart : (m n i j u h : ℕ) → i * j * u ≡ h → m * n * h ≡ m * i * (n * j) * u
       apart m n i j u h p = let a = ap (λ (k : ℕ). m * n * k) p in omega arith
 
+-- false is not true
 pub never : {A : Type 0} → false ≡ true → A
 never h = absurd (subst (λ (b : Bool). T (not b)) h tt)

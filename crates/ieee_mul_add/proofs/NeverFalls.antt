@@ -12,7 +12,7 @@ use lib.Ieee.Scale.{finite}
 use Rattle.ieee.specs.Nearest.{Fraction}
 use Rattle.ieee.proofs.SumBySigns.{rounded-keeps-order}
 use Rattle.ieee_mul_add.specs.MulAdd.{mulAdd, exactly}
-use Rattle.ieee_mul_add.proofs.InIeeesWords.{rounded-once, bottom-above}
+use Rattle.ieee_mul_add.proofs.AsIeeeSays.{rounded-once, bottom-above}
 use Rattle.ieee_mul_add.proofs.ByFractions.{mul-add-fractions}
 
 module _ (f : Format) where

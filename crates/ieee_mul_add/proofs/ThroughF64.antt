@@ -39,13 +39,14 @@ module _ (s t : Bool) (a b c : ℕ) (C : 0 < c) where
       none : (b : ℕ) → 897 ≤ b % 2 ^ 63 / 2 ^ 52 → b % 2 ^ 63 ≡ 0 → ⊥
       none b h g = omega arith
 
-pub once : (x y z : Float) → T (finite x) → T (finite y) → T (finite z) → Harmless (toBits binary64 (mulAdd binary64 x y z)) → narrow (mulAdd binary64 x y z) ≡ mulAdd binary32 x y z
+-- so a multiply-add at binary32 is the one at binary64, narrowed, where that does no harm
+pub narrowed-multiply-add : (x y z : Float) → T (finite x) → T (finite y) → T (finite z) → Harmless (toBits binary64 (mulAdd binary64 x y z)) → narrow (mulAdd binary64 x y z) ≡ mulAdd binary32 x y z
 unfolding mulAdd fractionPlus
-once nan y z X Y Z H = absurd X
-once (inf s) y z X Y Z H = absurd X
-once (fin s m e) nan z X Y Z H = absurd Y
-once (fin s m e) (inf t) z X Y Z H = absurd Y
-once (fin s m e) (fin t n d) nan X Y Z H = absurd Z
-once (fin s m e) (fin t n d) (inf u) X Y Z H = absurd Z
-once (fin s m e) (fin t n d) (fin u p g) X Y Z H =
+narrowed-multiply-add nan y z X Y Z H = absurd X
+narrowed-multiply-add (inf s) y z X Y Z H = absurd X
+narrowed-multiply-add (fin s m e) nan z X Y Z H = absurd Y
+narrowed-multiply-add (fin s m e) (inf t) z X Y Z H = absurd Y
+narrowed-multiply-add (fin s m e) (fin t n d) nan X Y Z H = absurd Z
+narrowed-multiply-add (fin s m e) (fin t n d) (inf u) X Y Z H = absurd Z
+narrowed-multiply-add (fin s m e) (fin t n d) (fin u p g) X Y Z H =
     sum-once (unlike s t) u (m * up e * (n * up d) * down g) (p * up g * (down e * down d)) (down e * down d * down g) (mul-pos (mul-pos (down-pos e) (down-pos d)) (down-pos g)) H

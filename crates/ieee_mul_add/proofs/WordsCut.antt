@@ -1,4 +1,4 @@
--- Two words cut short, in numbers. Assumes nothing.
+-- Two words cut short by so many places: what the code makes of them is their odd cut. Assumes nothing.
 use mathlib.Core.Path.{_≡_, refl, sym, ap, ap₂, _∙_, subst}
 use mathlib.Core.Logic.{inl, inr}
 use Prim.Native.Nat.{ℕ, _+_, _-_, _*_, _/_, _%_, _^_, _≤_, _<_}
@@ -6,10 +6,9 @@ use native.Mathlib.Nat.{mod-lt, div-add-mod', mul-lt-mul-of-pos-right, mod-eq-of
 use native.Mathlib.Omega.{arith}
 use lib.Arith.{digits-mod}
 use lib.Pow.{pow-add, pow-pos, pow-mono, pow-lt, high, low}
-use borrow.Author.Tests.{ne-eqb}
 use Rattle.ieee.proofs.Closest.{lt-or-ge}
 use Rattle.ieee_mul_add.specs.inside.Words.{twoWords}
-use Rattle.ieee_odd_cut.proofs.OneOddCut.{IsOddCut, only-odd-cut, cut-twice}
+use Rattle.ieee_odd_cut.proofs.OneOddCut.{made-lost, IsOddCut, only-odd-cut, cut-twice}
 use Rattle.ieee_odd_cut.specs.OddCut.{madeOdd, oddCut}
 
 -- `1 << d` at 64 bits
@@ -19,10 +18,6 @@ one-shl d h = ap (λ (x : ℕ). x % 2 ^ 64) (one-mul (2 ^ d)) ∙ mod-eq-of-lt (
 made-exact : (q : ℕ) → madeOdd q 0 ≡ q
 unfolding madeOdd
 made-exact q = refl
-
-pub made-lost : (q r : ℕ) → 0 < r → madeOdd q r ≡ q / 2 * 2 + 1
-unfolding madeOdd
-made-lost q r h = rw (ne-eqb r 0 (λ e. omega arith)) refl
 
 module _ (h l d : ℕ) (D : 0 < d) (E : d < 64) where
   abbrev A : ℕ
@@ -84,6 +79,7 @@ module _ (h l d : ℕ) (D : 0 < d) (E : d < 64) where
         ]
   ]
 
+  -- the code's two words are the odd cut
   pub below-cut : (m : ℕ) → m ≡ madeOdd (h * B % 2 ^ 64 + l / A) (l % (1 * 2 ^ d % 2 ^ 64)) → twoWords (h / A) m ≡ oddCut (twoWords h l) A
   below-cut m e =
       sym (only-odd-cut (twoWords h l) A (twoWords (h / A) m) (pow-pos d)
@@ -97,19 +93,23 @@ word-cut h l L = ap₂ madeOdd (high h 64 L) (low h 64 L)
 even-pow : (k : ℕ) → 0 < k → 2 ^ k % 2 ≡ 0
 even-pow k K = let e : 2 ^ k ≡ 2 ^ (k - 1) * 2 = ap (λ (x : ℕ). 2 ^ x) (omega arith) ∙ pow-add 2 (k - 1) 1 in omega arith
 
+-- past a word: the rest of the cut is one of the first word, marked
 pub past-word : (h l d : ℕ) → l < 2 ^ 64 → 64 < d → oddCut (twoWords h l) (2 ^ d) ≡ oddCut (madeOdd h l) (2 ^ (d - 64))
 past-word h l d L D =
     ap (oddCut (twoWords h l)) (ap (λ (x : ℕ). 2 ^ x) (omega arith) ∙ pow-add 2 64 (d - 64))
     ∙ sym (cut-twice (twoWords h l) (2 ^ 64) (2 ^ (d - 64)) (pow-pos 64) (pow-pos (d - 64)) (even-pow (d - 64) (omega arith)))
     ∙ ap (λ (x : ℕ). oddCut x (2 ^ (d - 64))) (word-cut h l L)
 
+-- past both words only the mark is left
 pub far-cut : (x k : ℕ) → x < 2 ^ 64 → 64 ≤ k → oddCut x (2 ^ k) ≡ madeOdd 0 x
 unfolding oddCut
 far-cut x k X K = let l = lt-of-lt-of-le X (pow-mono K) in ap₂ madeOdd (div-eq-of-lt l) (mod-eq-of-lt l)
 
+-- by no places: the number itself
 pub no-cut : (x : ℕ) → oddCut x (2 ^ 0) ≡ x
 unfolding oddCut madeOdd
 no-cut x = only-odd-cut x 1 x (omega arith) (inl (mul-one x))
 
+-- a first word of 0
 pub zero-two : (x : ℕ) → twoWords 0 x ≡ x
 zero-two x = omega arith

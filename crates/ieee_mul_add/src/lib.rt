@@ -1,5 +1,10 @@
-// a * b + c with one rounding, at f64 and at f32. The exact sum is a whole number of two words, cut short with a mark for what was lost (rounding to odd), and is rounded from there.
-// Where the product needs no rounding, the two operations give the same, and are taken.
+// a * b + c with one rounding, at f64 and at f32: what IEEE 754 calls fusedMultiplyAdd, and Rust mul_add.
+//
+// Where the product needs no rounding, one rounding is what the two operations make, and they are taken. Otherwise the exact sum is made as a whole number, once for both widths:
+//   the product's digits are two words, moved up by 20 places, and the addend's two words, moved up by 73; each is times a power of two, in units of 2^-2232;
+//   the one with the lower power is cut to the other's, rounded to odd, so that what is lost leaves a mark; then the two are added, or one is taken from the other;
+//   from there the format's digits are kept, rounded by two more of them; the pattern is the places dropped and the digits kept, and no case of its own is asked for by a carry, a subnormal or an overflow.
+// The room below the digits is what makes every cut deep enough for both roundings to be one.
 ghost use mathlib.Core.Path.{_≡_};
 ghost use mathlib.Core.Bool.{true, false, cond, not, _&&_};
 ghost use Prim.Native.Nat.{_+_, _-_, _*_, _^_, _≤_, _<_, _%_};

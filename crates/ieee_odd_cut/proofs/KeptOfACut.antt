@@ -13,9 +13,11 @@ use Rattle.ieee_odd_cut.proofs.OneOddCut.{is-odd-cut}
 use Rattle.ieee_odd_cut.specs.OddCut.{oddCut}
 
 module _ (p d x u s : ℕ) (U : 0 < u) where
+  -- how many places are dropped of u * 2 ^ x / 2 ^ d, where p digits are kept
   pub drop-is : drop p (u * 2 ^ x) (2 ^ d) ≡ size u + x - d - p
   drop-is = let a = size-shr (u * 2 ^ x) d in let b = size-shl u x U in omega arith
 
+  -- the digits kept, by u cut to quarters of the last of them
   pub kept-is : 2 ≤ s → d + drop p (u * 2 ^ x) (2 ^ d) ≡ x + s → kept p (u * 2 ^ x) (2 ^ d) ≡ closest (oddCut u (2 ^ (s - 2))) 4
   kept-is S e =
       let k = drop p (u * 2 ^ x) (2 ^ d) in

@@ -1,8 +1,8 @@
 -- An odd cut added to an even number at its place, or taken from it, is the odd cut of the exact sum. Assumes nothing.
-use mathlib.Core.Path.{_≡_, sym, ap, _∙_}
+use mathlib.Core.Path.{_≡_, refl, sym, ap, _∙_, subst₂}
 use mathlib.Core.Logic.{inl, inr}
 use Prim.Native.Nat.{ℕ, _+_, _-_, _*_, _%_, _≤_, _<_}
-use native.Mathlib.Nat.{mul-le-mul-right, add-mul, le-of-lt}
+use native.Mathlib.Nat.{add-comm, mul-le-mul-right, add-mul, le-of-lt}
 use native.Mathlib.Omega.{arith}
 use mathlib.Core.Bool.{Bool, true, false}
 use lib.Dec.{ltb}
@@ -11,26 +11,62 @@ use Rattle.ieee.proofs.Closest.{lt-or-ge}
 use Rattle.ieee.specs.inside.SumSize.{sumSize}
 use Rattle.ieee_odd_cut.proofs.OneOddCut.{IsOddCut}
 
--- ---- beside an even number of d
-module _ (e x d w : ℕ) (D : 0 < d) (E : e % 2 ≡ 0) (h : IsOddCut x d w) where
-  plus-at : IsOddCut x d w → IsOddCut (e * d + x) d (e + w)
-  plus-at (inl i) = inl (omega arith)
-  plus-at (inr i) = inr (omega arith, omega arith, omega arith)
+-- ---- a sum of sizes does not ask which comes first
+swapped : (alike : Bool) (a b : ℕ) → sumSize alike a b ≡ sumSize alike b a
+swapped true a b = add-comm a b
+swapped false a b = elim (lt-or-ge a b) [
+  | inl l ↦ rw (lt-ltb a b l, le-ltb b a (le-of-lt l)) refl
+  | inr l ↦ elim (lt-or-ge b a) [ inl g ↦ rw (le-ltb a b l, lt-ltb b a g) refl | inr g ↦ rw (le-ltb a b l, le-ltb b a g) (omega arith) ]
+]
 
-  -- which is larger
-  pub cut-le : x ≤ e * d → w ≤ e
-  cut-le l = go h
+-- ---- w is the odd cut of x by d, and stands beside an even number e, which is e * d
+module _ (e x d w : ℕ) (D : 0 < d) (E : e % 2 ≡ 0) (h : IsOddCut x d w) where
+  -- the cut is on the side of e on which x is of e * d
+  not-above : x ≤ e * d → w ≤ e
+  not-above l = go h
     where
       go : IsOddCut x d w → w ≤ e
       go (inl i) = elim (lt-or-ge e w) [ inl g ↦ let m = mul-le-mul-right d g in absurd (omega arith) | inr g ↦ g ]
       go (inr i) = elim (lt-or-ge e w) [ inl g ↦ let m = mul-le-mul-right d g in absurd (omega arith) | inr g ↦ g ]
 
-  pub cut-gt : e * d < x → e < w
-  cut-gt l = go h
+  above : e * d < x → e < w
+  above l = go h
     where
       go : IsOddCut x d w → e < w
       go (inl i) = elim (lt-or-ge e w) [ inl g ↦ g | inr g ↦ let m = mul-le-mul-right d g in absurd (omega arith) ]
       go (inr i) = elim (lt-or-ge e w) [ inl g ↦ g | inr g ↦ let t : w + 1 ≤ e = omega arith in let m = mul-le-mul-right d t in absurd (omega arith) ]
+
+  below : x < e * d → w < e
+  below l = go h
+    where
+      go : IsOddCut x d w → w < e
+      go (inl i) = elim (lt-or-ge w e) [ inl g ↦ g | inr g ↦ let m = mul-le-mul-right d g in absurd (omega arith) ]
+      go (inr i) = elim (lt-or-ge w e) [ inl g ↦ g | inr g ↦ let t : e + 1 ≤ w = omega arith in let m = mul-le-mul-right d t in absurd (omega arith) ]
+
+  not-below : e * d ≤ x → e ≤ w
+  not-below l = go h
+    where
+      go : IsOddCut x d w → e ≤ w
+      go (inl i) = elim (lt-or-ge w e) [ inl g ↦ let m = mul-le-mul-right d g in absurd (omega arith) | inr g ↦ g ]
+      go (inr i) = elim (lt-or-ge w e) [ inl g ↦ let m = mul-le-mul-right d g in absurd (omega arith) | inr g ↦ g ]
+
+  -- so the cuts compare as the numbers do
+  pub second-less : ltb e w ≡ ltb (e * d) x
+  second-less = elim (lt-or-ge (e * d) x) [
+    | inl l ↦ lt-ltb e w (above l) ∙ sym (lt-ltb (e * d) x l)
+    | inr l ↦ le-ltb e w (not-above l) ∙ sym (le-ltb (e * d) x l)
+  ]
+
+  pub first-less : ltb w e ≡ ltb x (e * d)
+  first-less = elim (lt-or-ge x (e * d)) [
+    | inl l ↦ lt-ltb w e (below l) ∙ sym (lt-ltb x (e * d) l)
+    | inr l ↦ le-ltb w e (not-below l) ∙ sym (le-ltb x (e * d) l)
+  ]
+
+  -- added to the even number, taken from it, and less it
+  plus-at : IsOddCut x d w → IsOddCut (e * d + x) d (e + w)
+  plus-at (inl i) = inl (omega arith)
+  plus-at (inr i) = inr (omega arith, omega arith, omega arith)
 
   minus-at : IsOddCut x d w → x ≤ e * d → w ≤ e → IsOddCut (e * d - x) d (e - w)
   minus-at (inl i) l g = let m : (e - w) * d + w * d ≡ e * d = sym (add-mul (e - w) w d) ∙ ap (λ (t : ℕ). t * d) (omega arith) in inl (omega arith)
@@ -40,51 +76,13 @@ module _ (e x d w : ℕ) (D : 0 < d) (E : e % 2 ≡ 0) (h : IsOddCut x d w) wher
   less-at (inl i) l g = let m : (w - e) * d + e * d ≡ w * d = sym (add-mul (w - e) e d) ∙ ap (λ (t : ℕ). t * d) (omega arith) in inl (omega arith)
   less-at (inr i) l g = let m : (w - e) * d + e * d ≡ w * d = sym (add-mul (w - e) e d) ∙ ap (λ (t : ℕ). t * d) (omega arith) in inr (omega arith, omega arith, omega arith)
 
+  -- so the sum of the two, of whatever signs, is cut as it should be
   pub second-cut-adds : (alike : Bool) → IsOddCut (sumSize alike (e * d) x) d (sumSize alike e w)
   second-cut-adds true = plus-at h
   second-cut-adds false = elim (lt-or-ge (e * d) x) [
-    | inl l ↦ rw (lt-ltb (e * d) x l, lt-ltb e w (cut-gt l)) (less-at h l (cut-gt l))
-    | inr l ↦ rw (le-ltb (e * d) x l, le-ltb e w (cut-le l)) (minus-at h l (cut-le l))
+    | inl l ↦ rw (lt-ltb (e * d) x l, lt-ltb e w (above l)) (less-at h l (above l))
+    | inr l ↦ rw (le-ltb (e * d) x l, le-ltb e w (not-above l)) (minus-at h l (not-above l))
   ]
-
-  pub second-less : ltb e w ≡ ltb (e * d) x
-  second-less = elim (lt-or-ge (e * d) x) [
-    | inl l ↦ lt-ltb e w (cut-gt l) ∙ sym (lt-ltb (e * d) x l)
-    | inr l ↦ le-ltb e w (cut-le l) ∙ sym (le-ltb (e * d) x l)
-  ]
-
-  -- and the other way round
-  pub lt-cut : x < e * d → w < e
-  lt-cut l = go h
-    where
-      go : IsOddCut x d w → w < e
-      go (inl i) = elim (lt-or-ge w e) [ inl g ↦ g | inr g ↦ let m = mul-le-mul-right d g in absurd (omega arith) ]
-      go (inr i) = elim (lt-or-ge w e) [ inl g ↦ g | inr g ↦ let t : e + 1 ≤ w = omega arith in let m = mul-le-mul-right d t in absurd (omega arith) ]
-
-  pub ge-cut : e * d ≤ x → e ≤ w
-  ge-cut l = go h
-    where
-      go : IsOddCut x d w → e ≤ w
-      go (inl i) = elim (lt-or-ge w e) [ inl g ↦ let m = mul-le-mul-right d g in absurd (omega arith) | inr g ↦ g ]
-      go (inr i) = elim (lt-or-ge w e) [ inl g ↦ let m = mul-le-mul-right d g in absurd (omega arith) | inr g ↦ g ]
-
-  more-at : IsOddCut x d w → e * d ≤ x → e ≤ w → IsOddCut (x - e * d) d (w - e)
-  more-at (inl i) l g = let m : (w - e) * d + e * d ≡ w * d = sym (add-mul (w - e) e d) ∙ ap (λ (t : ℕ). t * d) (omega arith) in inl (omega arith)
-  more-at (inr i) l g = let m : (w - e) * d + e * d ≡ w * d = sym (add-mul (w - e) e d) ∙ ap (λ (t : ℕ). t * d) (omega arith) in inr (omega arith, omega arith, omega arith)
-
-  plus-at' : IsOddCut x d w → IsOddCut (x + e * d) d (w + e)
-  plus-at' (inl i) = inl (omega arith)
-  plus-at' (inr i) = inr (omega arith, omega arith, omega arith)
 
   pub first-cut-adds : (alike : Bool) → IsOddCut (sumSize alike x (e * d)) d (sumSize alike w e)
-  first-cut-adds true = plus-at' h
-  first-cut-adds false = elim (lt-or-ge x (e * d)) [
-    | inl l ↦ rw (lt-ltb x (e * d) l, lt-ltb w e (lt-cut l)) (minus-at h (le-of-lt l) (le-of-lt (lt-cut l)))
-    | inr l ↦ rw (le-ltb x (e * d) l, le-ltb w e (ge-cut l)) (more-at h l (ge-cut l))
-  ]
-
-  pub first-less : ltb w e ≡ ltb x (e * d)
-  first-less = elim (lt-or-ge x (e * d)) [
-    | inl l ↦ lt-ltb w e (lt-cut l) ∙ sym (lt-ltb x (e * d) l)
-    | inr l ↦ le-ltb w e (ge-cut l) ∙ sym (le-ltb x (e * d) l)
-  ]
+  first-cut-adds alike = subst₂ (λ (n v : ℕ). IsOddCut n d v) (swapped alike (e * d) x) (swapped alike e w) (second-cut-adds alike)

@@ -67,6 +67,7 @@ nearest-by x d w c n D C (inr h) N =
     let m2 = mul-le-mul-right d l2 in
     record { near = omega arith; tie = λ t. absurd (omega arith) }
 
+-- so the whole number nearest to x / (d * 4 c) is that nearest to w / 4 c
 pub same-nearest : (x d w c : ℕ) → 0 < d → 0 < c → IsOddCut x d w → closest x (d * (4 * c)) ≡ closest w (4 * c)
 same-nearest x d w c D C h =
     let K : 0 < 4 * c = omega arith in

@@ -13,7 +13,8 @@ abbrev pub IsOddCut : ℕ → ℕ → ℕ → Type 0
 IsOddCut x d w = (w * d ≡ x) ⊎ ((w % 2 ≡ 1) × (w * d < x + d) × (x < w * d + d))
 
 -- ---- `oddCut` is the one that is
-made-lost : (q r : ℕ) → 0 < r → madeOdd q r ≡ q / 2 * 2 + 1
+-- where something is left over
+pub made-lost : (q r : ℕ) → 0 < r → madeOdd q r ≡ q / 2 * 2 + 1
 unfolding madeOdd
 made-lost q r h = rw (ne-eqb r 0 (λ e. omega arith)) refl
 
@@ -29,6 +30,7 @@ odd-step q d r x w e R L h = elim (lt-or-ge (q % 2) 1) [
       inr (omega arith, omega arith, omega arith)
 ]
 
+-- `oddCut` is one
 pub is-odd-cut : (x d : ℕ) → 0 < d → IsOddCut x d (oddCut x d)
 unfolding oddCut madeOdd
 is-odd-cut x d D = elim (eq-zero-or-pos (x % d)) [
@@ -46,6 +48,7 @@ not-two x d w v D (inl e) (inr g) l = let m = mul-le-mul-right d l in omega arit
 not-two x d w v D (inr g) (inl e) l = let m = mul-le-mul-right d l in omega arith
 not-two x d w v D (inr g) (inr h) l = let two : w + 2 ≤ v = omega arith in let m = mul-le-mul-right d two in omega arith
 
+-- and there is no other
 pub only-odd-cut : (x d w : ℕ) → 0 < d → IsOddCut x d w → oddCut x d ≡ w
 only-odd-cut x d w D h = elim (tri (oddCut x d) w) [
   | inl l ↦ absurd (pos-case l)
@@ -64,6 +67,7 @@ scaled-cut x d w c C (inr h) =
     let b = mul-lt-mul-of-pos-right (h .2) C in
     inr (h .0, omega arith, omega arith)
 
+-- so `oddCut` does not see the factor
 pub cut-scaled : (x d c : ℕ) → 0 < d → 0 < c → oddCut (x * c) (d * c) ≡ oddCut x d
 cut-scaled x d c D C = only-odd-cut (x * c) (d * c) (oddCut x d) (mul-pos D C) (scaled-cut x d (oddCut x d) c C (is-odd-cut x d D))
 
@@ -71,6 +75,7 @@ cut-scaled x d c D C = only-odd-cut (x * c) (d * c) (oddCut x d) (mul-pos D C) (
 even-product : (v b : ℕ) → b % 2 ≡ 0 → v * b % 2 ≡ 0
 even-product v b B = let h : b ≡ b / 2 * 2 = omega arith in let i = ap (λ (t : ℕ). v * t) h in let j : v * (b / 2 * 2) ≡ v * (b / 2) * 2 = omega arith in omega arith
 
+-- a cut of a cut is the cut by the product
 pub cut-twice-is : (x a w b v : ℕ) → 0 < a → b % 2 ≡ 0 → IsOddCut x a w → IsOddCut w b v → IsOddCut x (a * b) v
 cut-twice-is x a w b v A B (inl e) (inl g) = let i = ap (λ (t : ℕ). t * a) g in inl (omega arith)
 cut-twice-is x a w b v A B (inl e) (inr g) =
@@ -83,6 +88,7 @@ cut-twice-is x a w b v A B (inr h) (inr g) =
     let m2 = mul-le-mul-right a (g .2) in
     inr (g .0, omega arith, omega arith)
 
+-- of `oddCut` itself
 pub cut-twice : (x a b : ℕ) → 0 < a → 0 < b → b % 2 ≡ 0 → oddCut (oddCut x a) b ≡ oddCut x (a * b)
 cut-twice x a b A B E =
     sym (only-odd-cut x (a * b) (oddCut (oddCut x a) b) (mul-pos A B) (cut-twice-is x a (oddCut x a) b (oddCut (oddCut x a) b) A E (is-odd-cut x a A) (is-odd-cut (oddCut x a) b B)))

@@ -95,6 +95,7 @@ module _ (f : Format) (s : Bool) (d y N w : ℕ) (O : IsOddCut N (2 ^ y) w) wher
   same (inl e) = ap packed (sym e)
   same (inr D) = ap (λ (x : ℕ). x * hid f + kept (prec f) N (2 ^ d)) (same-drop (prec f) d y N w O D) ∙ ap (λ (x : ℕ). drop (prec f) (w * 2 ^ y) (2 ^ d) * hid f + x) (same-kept (prec f) d y N w O D)
 
+  -- the one fact that both widths rest on: a cut that loses nothing, or lies deep enough, gives the pattern that the exact number gives
   pub cut-pattern : (w * 2 ^ y ≡ N) ⊎ Deep (prec f) d y N w O
       → toBits f (round f s N (2 ^ (d + low f))) ≡ cond s (top f) 0 + min (drop (prec f) (w * 2 ^ y) (2 ^ d) * hid f + kept (prec f) (w * 2 ^ y) (2 ^ d)) (ones f * hid f)
   cut-pattern h =

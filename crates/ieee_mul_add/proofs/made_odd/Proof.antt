@@ -1,7 +1,7 @@
 use mathlib.Core.Path.{sym, ap}
 use native.Mathlib.Omega.{arith}
 use Rattle.ieee_odd_cut.specs.OddCut.{madeOdd}
-use Rattle.ieee_mul_add.proofs.WordsCut.{made-lost}
+use Rattle.ieee_odd_cut.proofs.OneOddCut.{made-lost}
 use Rattle.ieee_mul_add.proofs.made_odd.Statement.{statement}
 use borrow.Author.Needs.{needs}
 use Rattle.ieee_mul_add.proofs.made_odd.Tie as tie

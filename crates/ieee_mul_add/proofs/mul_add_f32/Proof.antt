@@ -11,7 +11,7 @@ use Rattle.ieee.proofs.FiniteTest.{finite-of-test, number-of-test}
 use Rattle.ieee.proofs.Values.{number-of-eq}
 use Rattle.ieee_mul_add.proofs.ByFractions.{finite-parts, number-factors, number-summands}
 use Rattle.ieee_mul_add.proofs.ExactProducts.{two-operations-f32}
-use Rattle.ieee_mul_add.proofs.ThroughF64.{once}
+use Rattle.ieee_mul_add.proofs.ThroughF64.{narrowed-multiply-add}
 use Rattle.ieee_mul_add.proofs.mul_add_f32.Statement.{statement}
 use Rattle.ieee_mul_add.proofs.mul_add_f32.Tie as tie
 
@@ -71,7 +71,7 @@ returns c =
     let s = start t in
     let all = finite-parts binary64 (s .args .a) (s .args .b) (s .args .c) (finite-wide t) in
     let e = two-operations-f32 (s .args .a) (s .args .b) (s .args .c) (fits-a s) (fits-b s) (all .0) (all .1) (all .2) in
-    c .narrow-f64 .ensures ∙ ap narrow e ∙ once (s .args .a) (s .args .b) (s .args .c) (all .0) (all .1) (all .2) (subst (λ (x : Float). Harmless (toBits binary64 x)) e (h .harmless .ensures (c .before .if3 .taken)))
+    c .narrow-f64 .ensures ∙ ap narrow e ∙ narrowed-multiply-add (s .args .a) (s .args .b) (s .args .c) (all .0) (all .1) (all .2) (subst (λ (x : Float). Harmless (toBits binary64 x)) e (h .harmless .ensures (c .before .if3 .taken)))
 
 by-words-f32-requires : tie.Need-by-words-f32-requires
 by-words-f32-requires c κs = search needs

@@ -1,24 +1,27 @@
--- What IEEE 754-2019 says of fusedMultiplyAdd (5.4.1, 4.3.1, 6.1 to 6.3, 7.2), clause by clause, over the format. The exact x * y + z is rounded once, to the nearest value, a tie to the even one;
--- of an exact zero the sign; infinities and NaN; then that the factors may change places, that a factor of 1 leaves an ordinary sum, and that the format holds the result. Assumes nothing.
-use mathlib.Core.Path.{_≡_, refl, sym, ap, ap₂, _∙_, subst, subst₂}
+-- `mulAdd` is what IEEE 754 asks of fusedMultiplyAdd, clause by clause, and nothing else is (specs/AsIeeeSays.antt); over the format.
+-- Besides: the factors may change places, a factor of 1 leaves an ordinary sum, and the format holds the result. Assumes nothing.
+use mathlib.Core.Path.{_≡_, refl, sym, ap, ap₂, _∙_, subst}
+use mathlib.Core.Logic.{inl, inr}
 use Prim.Native.Nat.{ℕ, zero, suc, _+_, _*_, _<_}
-use native.Mathlib.Nat.{mul-comm, mul-pos, mul-zero, zero-mul}
+use native.Mathlib.Nat.{mul-comm, mul-pos, mul-zero, zero-mul, eq-zero-or-pos}
 use native.Mathlib.Omega.{arith}
 use mathlib.Core.Bool.{Bool, true, false, not, _&&_, Bool·beq, cond}
-use lib.IntN.{ℤ, pos, negℤ, natAbs, _+ℤ_, _*ℤ_}
+use lib.IntN.{ℤ, pos, negsuc, negℤ, natAbs, _+ℤ_, _*ℤ_}
 use lib.Dec.{T, ltb, eqb}
 use lib.Ieee.{Float, nan, inf, fin, Format, up, down, unlike, round, sum, add, fits}
 use lib.Ieee.Fits.{round-fits, cond-fits, nan-fits, inf-fits, add-fits, down-pos}
 use lib.Ieee.Scale.{finite}
 use borrow.Author.Tests.{ne-eqb}
 use Rattle.ieee.specs.Rounding.{signed}
-use Rattle.ieee.specs.Nearest.{Fraction, NearestValue, Overflows, signOf, TiesToEven}
+use Rattle.ieee.specs.Nearest.{Fraction, signOf, TiesToEven}
 use Rattle.ieee.proofs.Distance.{signed-mul}
-use Rattle.ieee.proofs.NearestValue.{round-nearest, round-ties-to-even}
-use Rattle.ieee.proofs.SignedSizes.{negative, natAbs-signed}
+use Rattle.ieee.proofs.NearestValue.{round-ties-to-even}
+use Rattle.ieee.proofs.NearestValueUnique.{round-is-only}
+use Rattle.ieee.proofs.SignedSizes.{negative, natAbs-signed, signed-is}
 use Rattle.ieee.proofs.SumBySigns.{RoundsTo, sum-rounds, exact-zero-sum}
 use Rattle.ieee.proofs.SumByValue.{sum-same}
 use Rattle.ieee_mul_add.specs.MulAdd.{fractionPlus, mulAdd, exactly}
+use Rattle.ieee_mul_add.specs.AsIeeeSays.{FusedMultiplyAdd}
 
 -- ---- a product by its sign and its size
 pub signed-product : (s t : Bool) (a b : ℕ) → signed s a *ℤ signed t b ≡ signed (unlike s t) (a * b)
@@ -43,6 +46,17 @@ signed-product true true (suc a) (suc b) = refl
 exact-top : (s t u : Bool) (a b p c g : ℕ) → signed s a *ℤ signed t b *ℤ pos g +ℤ signed u p *ℤ pos c ≡ signed (unlike s t) (a * b * g) +ℤ signed u (p * c)
 exact-top s t u a b p c g = ap₂ _+ℤ_ (ap (λ (q : ℤ). q *ℤ pos g) (signed-product s t a b) ∙ signed-mul (unlike s t) (a * b) g) (signed-mul u p c)
 
+-- a number that is not 0 has one sign and one size
+one-sign : (v s : Bool) (m n : ℕ) → 0 < n → signed v m ≡ signed s n → (v ≡ s) × (m ≡ n)
+one-sign v s m n N e =
+    let k : m ≡ n = sym (natAbs-signed v m) ∙ ap natAbs e ∙ natAbs-signed s n in
+    (sym (sign-of v m (subst (λ (i : ℕ). 0 < i) (sym k) N)) ∙ ap negative e ∙ sign-of s n N, k)
+  where
+    sign-of : (s : Bool) (n : ℕ) → 0 < n → negative (signed s n) ≡ s
+    sign-of false n h = refl
+    sign-of true zero h = absurd (omega arith)
+    sign-of true (suc n) h = refl
+
 module _ (f : Format) where
   -- ---- between numbers: x * y + z as if exact, and rounded once
   pub rounded-once : (x y z : Float) → T (finite x) → T (finite y) → T (finite z) → RoundsTo f (exactly x y z .top) (exactly x y z .bottom) (mulAdd f x y z)
@@ -58,6 +72,7 @@ module _ (f : Format) where
       let c = down e * down d in
       subst (λ (q : ℤ). RoundsTo f q (c * down g) (sum f (unlike s t) (a * down g) u (p * up g * c) (c * down g))) (sym (exact-top s t u (m * up e) (n * up d) (p * up g) c (down g))) (sum-rounds f (unlike s t) u (a * down g) (p * up g * c) (c * down g))
 
+  -- what it is rounded from is a fraction
   pub bottom-above : (x y z : Float) → T (finite x) → T (finite y) → T (finite z) → 0 < exactly x y z .bottom
   bottom-above nan y z X Y Z = absurd X
   bottom-above (inf s) y z X Y Z = absurd X
@@ -67,31 +82,13 @@ module _ (f : Format) where
   bottom-above (fin s m e) (fin t n d) (inf u) X Y Z = absurd Z
   bottom-above (fin s m e) (fin t n d) (fin u p g) X Y Z = mul-pos (mul-pos (down-pos e) (down-pos d)) (down-pos g)
 
-  module _ (x y z : Float) (X : T (finite x)) (Y : T (finite y)) (Z : T (finite z)) where
-    abbrev E : Fraction
-    E = exactly x y z
-
-    -- ---- the value of the format that is nearest to the exact sum, where that does not overflow
-    pub nearest : ¬ Overflows f (natAbs (E .top)) (E .bottom) → NearestValue f E (mulAdd f x y z)
-    nearest small =
-        let h = rounded-once x y z X Y Z in
-        let n = ap natAbs (sym (h .3)) ∙ natAbs-signed (h .0) (h .1) in
-        subst₂ (λ (q : Float) (top : ℤ). NearestValue f (record { top = top; bottom = E .bottom }) q) (sym (h .2)) (h .3)
-        (round-nearest f (h .0) (h .1) (E .bottom) (bottom-above x y z X Y Z) (λ o. small (subst (λ (k : ℕ). Overflows f k (E .bottom)) (sym n) o)))
-
-    -- ---- roundTiesToEven, whole, where the exact sum is not 0: nearest, a tie to the even one, the infinity where it overflows, and its sign
-    pub ties-to-even : 0 < natAbs (E .top) → TiesToEven f (negative (E .top)) (natAbs (E .top)) (E .bottom) (mulAdd f x y z)
-    ties-to-even some =
-        let h = rounded-once x y z X Y Z in
-        let n = ap natAbs (sym (h .3)) ∙ natAbs-signed (h .0) (h .1) in
-        let s = ap negative (sym (h .3)) ∙ sign-of-signed (h .0) (h .1) (subst (λ (k : ℕ). 0 < k) n some) in
-        subst (λ (q : Float). TiesToEven f (negative (E .top)) (natAbs (E .top)) (E .bottom) q) (sym (h .2))
-        (subst₂ (λ (v : Bool) (k : ℕ). TiesToEven f v k (E .bottom) (round f (h .0) (h .1) (E .bottom))) (sym s) (sym n) (round-ties-to-even f (h .0) (h .1) (E .bottom) (bottom-above x y z X Y Z)))
-      where
-        sign-of-signed : (s : Bool) (n : ℕ) → 0 < n → negative (signed s n) ≡ s
-        sign-of-signed false n h = refl
-        sign-of-signed true zero h = absurd (omega arith)
-        sign-of-signed true (suc n) h = refl
+  -- the nearest value, a tie to the even one, the infinity where it overflows, and the sign: all of roundTiesToEven, of an exact sum that is not 0
+  pub ties-to-even : (x y z : Float) → T (finite x) → T (finite y) → T (finite z) → (s : Bool) (n : ℕ) → 0 < n → exactly x y z .top ≡ signed s n → TiesToEven f s n (exactly x y z .bottom) (mulAdd f x y z)
+  ties-to-even x y z X Y Z s n N e =
+      let h = rounded-once x y z X Y Z in
+      let c = exactly x y z .bottom in
+      let same = one-sign (h .0) s (h .1) n N (h .3 ∙ e) in
+      subst (λ (r : Float). TiesToEven f s n c r) (sym (h .2 ∙ ap₂ (λ (v : Bool) (k : ℕ). round f v k c) (same .0) (same .1))) (round-ties-to-even f s n c (bottom-above x y z X Y Z))
 
   -- ---- the sign of an exact zero: -0 where the product and what is added are both negative, and +0 otherwise, so where the two cancel
   pub exact-zero : (x y z : Float) → T (finite x) → T (finite y) → T (finite z) → exactly x y z .top ≡ pos 0 → mulAdd f x y z ≡ fin (unlike (signOf x) (signOf y) && signOf z) 0 (pos 0)
@@ -147,6 +144,10 @@ module _ (f : Format) where
   unfolding mulAdd
   infinity-times-number s t n e z N = rw (ne-eqb n 0 (λ o. omega arith)) refl
 
+  pub number-times-infinity : (s t : Bool) (n : ℕ) (e : ℤ) (z : Float) → 0 < n → mulAdd f (fin s n e) (inf t) z ≡ add f (inf (unlike s t)) z
+  unfolding mulAdd
+  number-times-infinity s t n e z N = rw (ne-eqb n 0 (λ o. omega arith)) refl
+
   pub infinity-times-infinity : (s t : Bool) (z : Float) → mulAdd f (inf s) (inf t) z ≡ add f (inf (unlike s t)) z
   unfolding mulAdd
   infinity-times-infinity s t z = refl
@@ -168,6 +169,67 @@ module _ (f : Format) where
   infinity-added (fin s m e) nan u X Y = absurd Y
   infinity-added (fin s m e) (inf t) u X Y = absurd Y
   infinity-added (fin s m e) (fin t n d) u X Y = refl
+
+  -- ---- so it is all that IEEE 754 asks
+  pub mul-add-as-ieee-says : FusedMultiplyAdd f (mulAdd f)
+  mul-add-as-ieee-says =
+      record {
+        ties-to-even = ties-to-even;
+        exact-zero = exact-zero;
+        nan-first = nan-first;
+        nan-second = nan-second;
+        nan-added = nan-added;
+        zero-times-infinity = zero-times-infinity;
+        infinity-times-zero = infinity-times-zero;
+        number-times-infinity = number-times-infinity;
+        infinity-times-number = infinity-times-number;
+        infinity-times-infinity = infinity-times-infinity;
+        infinity-added = infinity-added;
+      }
+
+  -- ---- and nothing else is
+  module _ (of : Float → Float → Float → Float) (K : FusedMultiplyAdd f of) where
+    abbrev E : Float → Float → Float → Fraction
+    E x y z = exactly x y z
+
+    between-numbers : (x y z : Float) → T (finite x) → T (finite y) → T (finite z) → of x y z ≡ mulAdd f x y z
+    between-numbers x y z X Y Z = elim (eq-zero-or-pos (natAbs (E x y z .top))) [
+      | inl o ↦ let e = nothing (E x y z .top) o in K .exact-zero x y z X Y Z e ∙ sym (exact-zero x y z X Y Z e)
+      | inr N ↦
+          let s = negative (E x y z .top) in
+          let n = natAbs (E x y z .top) in
+          let c = E x y z .bottom in
+          let e = sym (signed-is (E x y z .top)) in
+          round-is-only f s n c (of x y z) (bottom-above x y z X Y Z) (K .ties-to-even x y z X Y Z s n N e)
+          ∙ sym (round-is-only f s n c (mulAdd f x y z) (bottom-above x y z X Y Z) (ties-to-even x y z X Y Z s n N e))
+    ]
+      where
+        nothing : (i : ℤ) → natAbs i ≡ 0 → i ≡ pos 0
+        nothing (pos n) o = ap pos o
+        nothing (negsuc n) o = absurd (omega arith)
+
+    times-infinity : (s t : Bool) (n : ℕ) (e : ℤ) (z : Float) → of (fin s n e) (inf t) z ≡ mulAdd f (fin s n e) (inf t) z
+    times-infinity s t n e z = elim (eq-zero-or-pos n) [
+      | inl o ↦ subst (λ (k : ℕ). of (fin s k e) (inf t) z ≡ mulAdd f (fin s k e) (inf t) z) (sym o) (K .zero-times-infinity s t e z ∙ sym (zero-times-infinity s t e z))
+      | inr N ↦ K .number-times-infinity s t n e z N ∙ sym (number-times-infinity s t n e z N)
+    ]
+
+    infinity-times : (s t : Bool) (n : ℕ) (e : ℤ) (z : Float) → of (inf s) (fin t n e) z ≡ mulAdd f (inf s) (fin t n e) z
+    infinity-times s t n e z = elim (eq-zero-or-pos n) [
+      | inl o ↦ subst (λ (k : ℕ). of (inf s) (fin t k e) z ≡ mulAdd f (inf s) (fin t k e) z) (sym o) (K .infinity-times-zero s t e z ∙ sym (infinity-times-zero s t e z))
+      | inr N ↦ K .infinity-times-number s t n e z N ∙ sym (infinity-times-number s t n e z N)
+    ]
+
+    pub only-mul-add : (x y z : Float) → of x y z ≡ mulAdd f x y z
+    only-mul-add nan y z = K .nan-first y z ∙ sym (nan-first y z)
+    only-mul-add (inf s) nan z = K .nan-second (inf s) z ∙ sym (nan-second (inf s) z)
+    only-mul-add (inf s) (inf t) z = K .infinity-times-infinity s t z ∙ sym (infinity-times-infinity s t z)
+    only-mul-add (inf s) (fin t n d) z = infinity-times s t n d z
+    only-mul-add (fin s m e) nan z = K .nan-second (fin s m e) z ∙ sym (nan-second (fin s m e) z)
+    only-mul-add (fin s m e) (inf t) z = times-infinity s t m e z
+    only-mul-add (fin s m e) (fin t n d) nan = K .nan-added (fin s m e) (fin t n d) ∙ sym (nan-added (fin s m e) (fin t n d))
+    only-mul-add (fin s m e) (fin t n d) (inf u) = K .infinity-added (fin s m e) (fin t n d) u tt tt ∙ sym (infinity-added (fin s m e) (fin t n d) u tt tt)
+    only-mul-add (fin s m e) (fin t n d) (fin u p g) = between-numbers (fin s m e) (fin t n d) (fin u p g) tt tt tt
 
   -- ---- the factors change places
   unlike-swap : (s t : Bool) → unlike s t ≡ unlike t s
