@@ -27,7 +27,9 @@ add-t12 : tie.Need-add-t12 Inv-loop μ-loop
 add-t12 c = omega (arith, rows-fit (c .before .before .before .before .loop .inv) (c .one-if .ensures))
 
 returns : tie.Need-returns Inv-loop μ-loop
-returns c = at-comma (c .before .before .before .before .loop .inv) (c .before .before .before .loop-test .taken) (c .one-if .ensures) (c .before .if1 .taken)
+returns c =
+    let turn = c .before .before .before in
+    at-comma (turn .before .loop .inv) (turn .loop-test .taken) (c .one-if .ensures) (c .before .if1 .taken)
 
 add-i : tie.Need-add-i Inv-loop μ-loop
 add-i c = search needs
@@ -42,7 +44,10 @@ loop-less : tie.Need-loop-less Inv-loop μ-loop
 loop-less c = search needs
 
 loop-again : tie.Need-loop-again Inv-loop μ-loop
-loop-again c = at-line-feed (c .before .before .before .before .before .loop .inv) (c .before .before .before .before .loop-test .taken) (c .before .before .if1 .left) (c .one-if2 .ensures) (c .before .if2 .taken)
+loop-again c =
+    let inside = c .before .before in
+    let turn = inside .before .before in
+    at-line-feed (turn .before .loop .inv) (turn .loop-test .taken) (inside .if1 .left) (c .one-if2 .ensures) (c .before .if2 .taken)
 
 is-blank-requires : tie.Need-is-blank-requires Inv-loop μ-loop
 is-blank-requires c κs = search needs
@@ -51,13 +56,23 @@ loop-less-2 : tie.Need-loop-less-2 Inv-loop μ-loop
 loop-less-2 c = search needs
 
 loop-again-2 : tie.Need-loop-again-2 Inv-loop μ-loop
-loop-again-2 c = at-blank (c .before .before .before .before .before .before .loop .inv) (c .before .before .before .before .before .loop-test .taken) (c .before .before .before .if1 .left) (c .before .before .if2 .left) (sym (c .before .is-blank .ensures) ∙ c .if3 .taken)
+loop-again-2 c =
+    let asked = c .before in
+    let no-feed = asked .before in
+    let inside = no-feed .before in
+    let turn = inside .before .before in
+    at-blank (turn .before .loop .inv) (turn .loop-test .taken) (inside .if1 .left) (no-feed .if2 .left) (sym (asked .is-blank .ensures) ∙ c .if3 .taken)
 
 loop-less-3 : tie.Need-loop-less-3 Inv-loop μ-loop
 loop-less-3 c = search needs
 
 loop-again-3 : tie.Need-loop-again-3 Inv-loop μ-loop
-loop-again-3 c = at-other (c .before .before .before .before .before .before .loop .inv) (c .before .before .before .before .before .loop-test .taken) (c .before .before .before .if1 .left) (c .before .before .if2 .left) (sym (c .before .is-blank .ensures) ∙ c .if3 .left)
+loop-again-3 c =
+    let asked = c .before in
+    let no-feed = asked .before in
+    let inside = no-feed .before in
+    let turn = inside .before .before in
+    at-other (turn .before .loop .inv) (turn .loop-test .taken) (inside .if1 .left) (no-feed .if2 .left) (sym (asked .is-blank .ensures) ∙ c .if3 .left)
 
 one-if-requires-3 : tie.Need-one-if-requires-3 Inv-loop μ-loop
 one-if-requires-3 c κs = search needs

@@ -24,16 +24,30 @@ count-measure-rows-requires : tie.Need-count-measure-rows-requires Inv-loop μ-l
 count-measure-rows-requires c κs = search needs
 
 add-rows : tie.Need-add-rows Inv-loop μ-loop
-add-rows c = omega (arith, rows-after-rows _ _ (c .before .before .loop-test .taken) (c .before .count-measure-rows .ensures), c .before .before .before .loop .inv .1, all-rows-few (c .before .before .before .before .before .args .note-data .now))
+add-rows c =
+    let counted = c .before in
+    let turn = counted .before in
+    let loop = turn .before in
+    omega (arith, rows-after-rows _ _ (turn .loop-test .taken) (counted .count-measure-rows .ensures), loop .loop .inv .1, all-rows-few (loop .before .before .args .note-data .now))
 
 add-place : tie.Need-add-place Inv-loop μ-loop
-add-place c = omega (arith, ends-within _ _ (c .before .before .before .loop-test .taken) (c .before .before .count-measure-rows .ensures))
+add-place c =
+    let counted = c .before .before in
+    let turn = counted .before in
+    omega (arith, ends-within _ _ (turn .loop-test .taken) (counted .count-measure-rows .ensures))
 
 loop-less : tie.Need-loop-less Inv-loop μ-loop
-loop-less c = omega (arith, ends-within _ _ (c .before .before .before .loop-test .taken) (c .before .before .count-measure-rows .ensures), c .before .before .count-measure-rows .ensures .end)
+loop-less c =
+    let counted = c .before .before in
+    let turn = counted .before in
+    omega (arith, ends-within _ _ (turn .loop-test .taken) (counted .count-measure-rows .ensures), counted .count-measure-rows .ensures .end)
 
 loop-again : tie.Need-loop-again Inv-loop μ-loop
-loop-again c = (omega (arith, ends-within _ _ (c .before .before .before .loop-test .taken) (c .before .before .count-measure-rows .ensures)), omega (arith, rows-after-rows _ _ (c .before .before .before .loop-test .taken) (c .before .before .count-measure-rows .ensures), c .before .before .before .before .loop .inv .1))
+loop-again c =
+    let counted = c .before .before in
+    let turn = counted .before in
+    let loop = turn .before in
+    (omega (arith, ends-within _ _ (turn .loop-test .taken) (counted .count-measure-rows .ensures)), omega (arith, rows-after-rows _ _ (turn .loop-test .taken) (counted .count-measure-rows .ensures), loop .loop .inv .1))
 
 returns : tie.Need-returns Inv-loop μ-loop
 unfolding allRows

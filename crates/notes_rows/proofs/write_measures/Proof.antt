@@ -23,44 +23,82 @@ count-measure-rows-requires c κs = search needs
 
 mul-write-measure : tie.Need-mul-write-measure Inv-loop μ-loop
 mul-write-measure c =
-    let room = measure-fits (c .before .before .before .before .before .pre .1) (c .before .before .loop .inv) (c .before .loop-test .taken) (c .count-measure-rows .ensures) in
-    let same = same-room (c .before .before .before .before .before .pre .1) (c .before .before .loop .inv) in
+    let turn = c .before in
+    let loop = turn .before in
+    let start = loop .before .before .before in
+    let room = measure-fits (start .pre .1) (loop .loop .inv) (turn .loop-test .taken) (c .count-measure-rows .ensures) in
+    let same = same-room (start .pre .1) (loop .loop .inv) in
     search needs
 
 sub-write-measure : tie.Need-sub-write-measure Inv-loop μ-loop
 sub-write-measure c =
-    let room = measure-fits (c .before .before .before .before .before .pre .1) (c .before .before .loop .inv) (c .before .loop-test .taken) (c .count-measure-rows .ensures) in
+    let turn = c .before in
+    let loop = turn .before in
+    let start = loop .before .before .before in
+    let room = measure-fits (start .pre .1) (loop .loop .inv) (turn .loop-test .taken) (c .count-measure-rows .ensures) in
     search needs
 
 part-write-measure-start : tie.Need-part-write-measure-start Inv-loop μ-loop
 part-write-measure-start c =
-    let room = measure-fits (c .before .before .before .before .before .pre .1) (c .before .before .loop .inv) (c .before .loop-test .taken) (c .count-measure-rows .ensures) in
+    let turn = c .before in
+    let loop = turn .before in
+    let start = loop .before .before .before in
+    let room = measure-fits (start .pre .1) (loop .loop .inv) (turn .loop-test .taken) (c .count-measure-rows .ensures) in
     search needs
 
 part-write-measure-end : tie.Need-part-write-measure-end Inv-loop μ-loop
 part-write-measure-end c =
-    let room = measure-fits (c .before .before .before .before .before .pre .1) (c .before .before .loop .inv) (c .before .loop-test .taken) (c .count-measure-rows .ensures) in
+    let turn = c .before in
+    let loop = turn .before in
+    let start = loop .before .before .before in
+    let room = measure-fits (start .pre .1) (loop .loop .inv) (turn .loop-test .taken) (c .count-measure-rows .ensures) in
     search needs
 
 write-measure-requires : tie.Need-write-measure-requires Inv-loop μ-loop
 write-measure-requires c κs =
-    let room = measure-fits (c .before .before .before .before .before .before .pre .1) (c .before .before .before .loop .inv) (c .before .before .loop-test .taken) (c .before .count-measure-rows .ensures) in
-    (omega (arith, c .before .before .before .loop .inv .each-a-place), omega (arith, c .before .count-measure-rows .ensures .rows, first-rows-few (drop (c .before .before .before .loop .place) (c .before .before .before .before .before .before .args .note-data .now)), length-drop (c .before .before .before .loop .place) (c .before .before .before .before .before .before .args .note-data .now)), simp (length-take, length-drop) (omega arith))
+    let counted = c .before in
+    let turn = counted .before in
+    let loop = turn .before in
+    let start = loop .before .before .before in
+    let room = measure-fits (start .pre .1) (loop .loop .inv) (turn .loop-test .taken) (counted .count-measure-rows .ensures) in
+    let bytes = start .args .note-data .now in
+    let place = loop .loop .place in (
+      omega (arith, loop .loop .inv .each-a-place),
+      omega (arith, counted .count-measure-rows .ensures .rows, first-rows-few (drop place bytes), length-drop place bytes),
+      simp (length-take, length-drop) (omega arith),
+    )
 
 add-index : tie.Need-add-index Inv-loop μ-loop
 add-index c = omega (arith, c .before .before .before .before .before .before .loop .inv .each-a-place)
 
 add-written : tie.Need-add-written Inv-loop μ-loop
-add-written c = omega (arith, measure-fits (c .before .before .before .before .before .before .before .before .before .before .pre .1) (c .before .before .before .before .before .before .before .loop .inv) (c .before .before .before .before .before .before .loop-test .taken) (c .before .before .before .before .before .count-measure-rows .ensures), same-room (c .before .before .before .before .before .before .before .before .before .before .pre .1) (c .before .before .before .before .before .before .before .loop .inv))
+add-written c =
+    let counted = c .before .before .before .before .before in
+    let turn = counted .before in
+    let loop = turn .before in
+    let start = loop .before .before .before in
+    omega (arith, measure-fits (start .pre .1) (loop .loop .inv) (turn .loop-test .taken) (counted .count-measure-rows .ensures), same-room (start .pre .1) (loop .loop .inv))
 
 add-place : tie.Need-add-place Inv-loop μ-loop
-add-place c = omega (arith, ends-within _ _ (c .before .before .before .before .before .before .before .loop-test .taken) (c .before .before .before .before .before .before .count-measure-rows .ensures))
+add-place c =
+    let counted = c .before .before .before .before .before .before in
+    let turn = counted .before in
+    omega (arith, ends-within _ _ (turn .loop-test .taken) (counted .count-measure-rows .ensures))
 
 loop-less : tie.Need-loop-less Inv-loop μ-loop
-loop-less c = omega (arith, ends-within _ _ (c .before .before .before .before .before .before .before .loop-test .taken) (c .before .before .before .before .before .before .count-measure-rows .ensures), c .before .before .before .before .before .before .count-measure-rows .ensures .end)
+loop-less c =
+    let counted = c .before .before .before .before .before .before in
+    let turn = counted .before in
+    omega (arith, ends-within _ _ (turn .loop-test .taken) (counted .count-measure-rows .ensures), counted .count-measure-rows .ensures .end)
 
 loop-again : tie.Need-loop-again Inv-loop μ-loop
-loop-again c = measure-written (c .before .before .before .before .before .before .before .before .before .before .before .pre .1) (c .before .before .before .before .before .before .before .before .loop .inv) (c .before .before .before .before .before .before .before .loop-test .taken) (c .before .before .before .before .before .before .count-measure-rows .ensures) (c .before .before .before .before .write-measure .ensures)
+loop-again c =
+    let written = c .before .before .before .before in
+    let counted = written .before .before in
+    let turn = counted .before in
+    let loop = turn .before in
+    let start = loop .before .before .before in
+    measure-written (start .pre .1) (loop .loop .inv) (turn .loop-test .taken) (counted .count-measure-rows .ensures) (written .write-measure .ensures)
 
 same-length : tie.Need-same-length Inv-loop μ-loop
 same-length c = same-room (c .before .before .before .before .pre .1) (c .before .loop .inv)
