@@ -18,6 +18,7 @@ use Rattle.notes_rows.specs.RowBeats.{measureBeats, beatsFrom, rowsToBea
 abbrev rowsIn : List ℕ → ℕ
 rowsIn measure = rowsFromHere false measure
 
+-- the rows of the measure at hand and of each behind it
 counts : Bool → List ℕ → List ℕ
 counts begun bytes = rowsFromHere begun (firstPart comma bytes) ∷ map rowsIn (laterParts comma bytes)
 
@@ -36,6 +37,8 @@ unfolding rowsToBeats parts counts
 same-beats some other same = by-counts 0 (measures some) (measures other) same
 
 -- ---- byte by byte
+
+-- n rows more in the measure at hand
 more : ℕ → List ℕ → List ℕ
 more n [] = []
 more n (rows ∷ rest) = (n + rows) ∷ rest
@@ -45,19 +48,20 @@ unfolding more
 none-more [] = refl
 none-more (rows ∷ rest) = ap (λ (n : ℕ). n ∷ rest) (omega arith)
 
+-- the counts from a byte on, by those behind it
 after : Bool → ℕ → List ℕ → List ℕ
 after begun byte bytes =
     pick (eqb byte comma) (oneIf begun ∷ counts false bytes) (pick (eqb byte lineFeed) (more (oneIf begun) (counts false bytes)) (counts (pick (isBlank byte) begun true) bytes))
 
 step : (begun : Bool) (byte : ℕ) (bytes : List ℕ) → counts begun (byte ∷ bytes) ≡ after begun byte bytes
 unfolding counts after more firstPart laterParts rowsFromHere
-step begun byte bytes = go (eqb byte comma) (eqb byte lineFeed)
+step begun byte bytes = go (eqb byte comma)
   where
-    go : (ends feed : Bool)
+    go : (ends : Bool)
         → rowsFromHere begun (pick ends [] (byte ∷ firstPart comma bytes)) ∷ map rowsIn (pick ends (firstPart comma bytes ∷ laterParts comma bytes) (laterParts comma bytes))
         ≡ pick ends (oneIf begun ∷ counts false bytes) (pick (eqb byte lineFeed) (more (oneIf begun) (counts false bytes)) (counts (pick (isBlank byte) begun true) bytes))
-    go true feed = refl
-    go false feed = inner (eqb byte lineFeed)
+    go true = refl
+    go false = inner (eqb byte lineFeed)
       where
         inner : (t : Bool)
             → pick t (oneIf begun + rowsFromHere false (firstPart comma bytes)) (rowsFromHere (pick (isBlank byte) begun true) (firstPart comma bytes)) ∷ map rowsIn (laterParts comma bytes)

@@ -1,16 +1,13 @@
 -- A loop that counts the rows of one measure: what holds where it begins, after each byte, at a comma and at the data's end. Assumes nothing.
-use Prim.Native.Nat.{ℕ, suc, _+_, _≤_, _<_}
+use Prim.Native.Nat.{ℕ, _+_, _≤_, _<_}
 use mathlib.Core.Bool.{Bool, true, false}
 use mathlib.Core.List.{List, [], _∷_}
-use mathlib.Core.Path.{_≡_, refl, sym, ap, _∙_}
+use mathlib.Core.Path.{_≡_, refl}
 use native.Mathlib.Numerals.{add-one}
 use native.Mathlib.Omega.{arith}
-use lib.Dec.{eqb}
 use lib.ListN.{length, drop, getD, length-drop, drop-of-length-le}
 use lib.Seq.{drop-cons}
 use borrow.Author.Tests.{eq-eqb, ne-eqb}
-use Rattle.picks.specs.Pick.{pick}
-use Rattle.notes_rows.specs.declared.Measure.{Measure}
 use Rattle.notes_rows.specs.Measures.{lineFeed, comma, isBlank, oneIf, firstPart, rowsOf}
 use Rattle.notes_rows.specs.inside.Counting.{MeasureCounted, rowsFromHere, measureAt}
 use Rattle.notes_rows.proofs.RowsByteByByte.{rows-byte-by-byte}

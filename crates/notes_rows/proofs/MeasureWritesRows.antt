@@ -1,8 +1,7 @@
 -- A measure of n rows writes n beats, and note data as many as its measures have rows. Assumes nothing.
-use Prim.Native.Nat.{ℕ, zero, suc, _+_}
+use Prim.Native.Nat.{ℕ, zero, suc}
 use mathlib.Core.List.{List, [], _∷_}
 use mathlib.Core.Path.{_≡_, refl, ap, _∙_}
-use native.Mathlib.Omega.{arith}
 use lib.ListN.{length, length-append, length-map}
 use Rattle.notes_rows.specs.Measures.{rowsOf, allRows, measures}
 use Rattle.notes_rows.specs.RowBeats.{beatOfRow, rowsFrom, measureBeats, beatsFrom, rowsToBeats}

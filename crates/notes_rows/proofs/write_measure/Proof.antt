@@ -1,6 +1,5 @@
 -- `notes_rows::write_measure` writes the beat of each row of a measure. Assumes nothing.
 use Prim.Native.Nat.{_-_}
-use lib.ListN.{length}
 use native.Mathlib.Omega.{arith}
 use borrow.Author.Needs.{needs}
 use Rattle.order.proofs.LaidOverFront.{Laying, laying-none, laying-more, laying-all}
