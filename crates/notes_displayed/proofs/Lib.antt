@@ -1,0 +1,4 @@
+pub mod OneStepOn
+pub mod WalkedTo
+pub mod ScrollsTaken
+pub mod Outcomes
