@@ -1,4 +1,5 @@
 pub mod OneStepOn
 pub mod WalkedTo
 pub mod ScrollsTaken
+pub mod CheckedIsTested
 pub mod Outcomes

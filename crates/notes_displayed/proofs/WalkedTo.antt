@@ -42,7 +42,7 @@ module _ (at : Float) where
       go : (t : Bool) → walked (movedOn shown from ratio b) b r beats ratios at ≡ lastOf (movedOn shown from ratio b) b r beats ratios (prefixFrom (movedOn shown from ratio b) b r beats ratios) (upToBeat at beats) at
           → pick t (walked (movedOn shown from ratio b) b r beats ratios at) (displayedFrom shown from ratio at)
           ≡ lastOf shown from ratio (b ∷ beats) (r ∷ ratios) (movedOn shown from ratio b ∷ prefixFrom (movedOn shown from ratio b) b r beats ratios) (pick t (suc (upToBeat at beats)) 0) at
-      go true rest = rest ∙ further (upToBeat at beats) shown from ratio (movedOn shown from ratio b) b r beats ratios _
+      go true rest = rest ∙ further (upToBeat at beats) shown from ratio (movedOn shown from ratio b) b r beats ratios (prefixFrom (movedOn shown from ratio b) b r beats ratios)
       go false rest = refl
 
   -- no scroll is passed

@@ -1,3 +1,7 @@
+-- `notes_displayed::build_scroll_prefix` refuses, or lays the whole prefix. Assumes nothing.
+use mathlib.Core.Path.{sym, _∙_}
+use Rattle.notes_displayed.proofs.ScrollsTaken.{scrolls-taken}
+use Rattle.notes_displayed.proofs.Outcomes.{prefix-refused, prefix-no-room, prefix-laid}
 use borrow.Author.Needs.{needs}
 use Rattle.notes_displayed.proofs.build_scroll_prefix.Statement.{statement}
 use Rattle.notes_displayed.proofs.build_scroll_prefix.Tie as tie

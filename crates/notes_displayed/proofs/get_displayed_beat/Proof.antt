@@ -1,3 +1,10 @@
+-- `notes_displayed::get_displayed_beat` refuses, or walks to the beat. Assumes nothing.
+use mathlib.Core.Path.{_≡_, sym, _∙_}
+use lib.Ieee.{ofBits}
+use borrow.Author.Tests.{ne-eqb}
+use Rattle.limits.proofs.NoRefusal.{lower-none}
+use Rattle.notes_displayed.specs.Answers.{displayed, displayedNumber, displayedAt}
+use Rattle.notes_displayed.proofs.ScrollsTaken.{scrolls-taken}
 use borrow.Author.Needs.{needs}
 use Rattle.notes_displayed.proofs.get_displayed_beat.Statement.{statement}
 use Rattle.notes_displayed.proofs.get_displayed_beat.Tie as tie
@@ -12,13 +19,24 @@ lower-of-requires : tie.Need-lower-of-requires
 lower-of-requires c κs = search needs
 
 walk-to-requires : tie.Need-walk-to-requires
-walk-to-requires c κs = ?
+walk-to-requires c κs = 
+    let lowest = c .before in
+    let scrolls = lowest .before .before in
+    scrolls-taken (sym (scrolls .scrolls-number .ensures) ∙ lower-none _ _ (sym (lowest .lower-of .ensures) ∙ c .if1 .taken) .0) .0 .even
 
 returns : tie.Need-returns
-returns c = ?
+unfolding displayedAt displayedNumber displayed
+returns c = 
+    let lowest = c .before .before in
+    let scrolls = lowest .before .before in
+    rw (← scrolls .scrolls-number .ensures, ← lowest .before .beat-number .ensures, ← lowest .lower-of .ensures, c .before .if1 .taken, ← c .walk-to .ensures)
 
 returns-2 : tie.Need-returns-2
-returns-2 c = ?
+unfolding displayedAt displayedNumber displayed ofBits
+returns-2 c = 
+    let lowest = c .before in
+    let scrolls = lowest .before .before in
+    rw (← scrolls .scrolls-number .ensures, ← lowest .before .beat-number .ensures, ← lowest .lower-of .ensures, ne-eqb _ 0 (c .if1 .left))
 
 pub get-displayed-beat-spec : {M : Type 1} → statement M
 get-displayed-beat-spec =

@@ -20,7 +20,7 @@ returns c = search needs
 
 returns-2 : tie.Need-returns-2
 unfolding div ofBits
-returns-2 c = sym (List·getD-eq-default (c .before .args .column .now) nan (c .if1 .left))
+returns-2 c = sym (List·getD-eq-default (c .before .before .args .column .now) nan (c .if1 .left))
 
 pub number-at-f32-spec : {M : Type 1} → statement M
 number-at-f32-spec =

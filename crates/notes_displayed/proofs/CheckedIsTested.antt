@@ -1,0 +1,46 @@
+-- Scrolls that are taken, and their prefix in the front of any room: the call that goes by the prefix answers what the call that tests all answers. Assumes nothing.
+use Prim.Native.Nat.{ℕ, suc, _+_, _-_, _≤_, _<_}
+use mathlib.Core.Path.{_≡_, refl, sym, ap, _∙_}
+use mathlib.Core.Bool.{Bool, true, false}
+use mathlib.Core.List.{List, [], _∷_}
+use native.Mathlib.Omega.{arith}
+use lib.Dec.{eqb}
+use lib.ListN.{length, getD, List·getD-append}
+use lib.Ieee.{Float, nan, le}
+use borrow.Author.Tests.{eqb-false}
+use Rattle.picks.specs.Pick.{pick}
+use Rattle.limits.proofs.NoRefusal.{none-lower}
+use Rattle.order.specs.Order.{laid}
+use Rattle.order_search.specs.Searching.{placeOf, keyUpTo}
+use Rattle.notes_displayed.specs.Scrolls.{scrollPrefix, upToBeat, displayedFrom, behindScrolls, displayedBeat, displayedBy}
+use Rattle.notes_displayed.specs.Answers.{scrollsNumber, displayedNumber, displayed, displayedAt, checkedAt}
+use Rattle.notes_displayed.proofs.OneStepOn.{prefix-length}
+use Rattle.notes_displayed.proofs.ScrollsTaken.{scrolls-taken}
+
+-- how many scrolls there are up to a beat, at the most
+pub up-to-few : (at : Float) (beats : List Float) → upToBeat at beats ≤ length beats
+unfolding upToBeat
+up-to-few at [] = omega arith
+up-to-few at (b ∷ beats) = go (le b at) (up-to-few at beats)
+  where
+    go : (t : Bool) → upToBeat at beats ≤ length beats → pick t (suc (upToBeat at beats)) 0 ≤ length (b ∷ beats)
+    go true h = omega arith
+    go false h = omega arith
+
+-- only the front of the prefix is read
+front-read : (beats ratios prefix room : List Float) (n : ℕ) (at : Float) → n ≤ length prefix → behindScrolls beats ratios (laid prefix room) n at ≡ behindScrolls beats ratios prefix n at
+unfolding behindScrolls laid
+front-read beats ratios prefix room n at few = go (eqb n 0) (eqb-false n 0)
+  where
+    go : (t : Bool) → (t ≡ false → n ≡ 0 → ⊥)
+        → pick t at (displayedFrom (getD (laid prefix room) (n - 1) nan) (getD beats (n - 1) nan) (getD ratios (n - 1) nan) at) ≡ pick t at (displayedFrom (getD prefix (n - 1) nan) (getD beats (n - 1) nan) (getD ratios (n - 1) nan) at)
+    unfolding laid
+    go true h = refl
+    go false h = let some = h refl in let inside : n - 1 < length prefix = omega (arith, few, λ (z : n ≡ 0). some z) in rw (List·getD-append prefix _ nan (n - 1) inside)
+
+module _ (beats ratios room : List Float) (taken : scrollsNumber beats ratios ≡ 0) (at : Float) (found : placeOf (keyUpTo at) beats ≡ upToBeat at beats) where
+  pub checked-is-tested-if : checkedAt beats ratios (laid (scrollPrefix beats ratios) room) at ≡ displayedAt beats ratios at
+  unfolding checkedAt displayedAt displayedNumber displayedBy displayedBeat
+  checked-is-tested-if =
+      let even = scrolls-taken taken .0 .even in
+      rw (found, taken, none-lower, front-read beats ratios (scrollPrefix beats ratios) room (upToBeat at beats) at (omega (arith, up-to-few at beats, prefix-length beats ratios even)))
