@@ -1,5 +1,5 @@
 -- Scrolls that are taken, and their prefix in the front of any room: the call that goes by the prefix answers what the call that tests all answers. Assumes nothing.
-use Prim.Native.Nat.{ℕ, suc, _+_, _-_, _≤_, _<_}
+use Prim.Native.Nat.{ℕ, zero, suc, _+_, _-_, _≤_, _<_}
 use mathlib.Core.Path.{_≡_, refl, sym, ap, _∙_}
 use mathlib.Core.Bool.{Bool, true, false}
 use mathlib.Core.List.{List, [], _∷_}
@@ -11,7 +11,8 @@ use borrow.Author.Tests.{eqb-false}
 use Rattle.picks.specs.Pick.{pick}
 use Rattle.limits.proofs.NoRefusal.{none-lower}
 use Rattle.order.specs.Order.{laid}
-use Rattle.order_search.specs.Searching.{placeOf, keyUpTo}
+use Rattle.order_search.specs.Search.{placeOf, SplitBy}
+use Rattle.order_search.specs.F32UpTo.{f32UpTo}
 use Rattle.notes_displayed.specs.Scrolls.{scrollPrefix, upToBeat, displayedFrom, behindScrolls, displayedBeat, displayedBy}
 use Rattle.notes_displayed.specs.Answers.{scrollsNumber, displayedNumber, displayed, displayedAt, checkedAt}
 use Rattle.notes_displayed.proofs.OneStepOn.{prefix-length}
@@ -27,6 +28,17 @@ up-to-few at (b ∷ beats) = go (le b at) (up-to-few at beats)
     go true h = omega arith
     go false h = omega arith
 
+-- where a list is split by a beat, the entries before are those that are counted
+pub split-counts : (at : Float) (beats : List Float) (n : ℕ) → SplitBy at beats n → n ≡ upToBeat at beats
+unfolding upToBeat
+split-counts at [] n s = omega (arith, s .within)
+split-counts at (b ∷ beats) zero s = rw (s .after 0 (omega arith) (omega arith))
+split-counts at (b ∷ beats) (suc n) s = rw (s .before 0 (omega arith)) (ap suc (split-counts at beats n (record {
+  within = omega (arith, s .within);
+  before = λ i h. s .before (suc i) (omega arith);
+  after = λ i h l. s .after (suc i) (omega arith) (omega arith);
+})))
+
 -- only the front of the prefix is read
 front-read : (beats ratios prefix room : List Float) (n : ℕ) (at : Float) → n ≤ length prefix → behindScrolls beats ratios (laid prefix room) n at ≡ behindScrolls beats ratios prefix n at
 unfolding behindScrolls laid
@@ -34,11 +46,10 @@ front-read beats ratios prefix room n at few = go (eqb n 0) (eqb-false n 0)
   where
     go : (t : Bool) → (t ≡ false → n ≡ 0 → ⊥)
         → pick t at (displayedFrom (getD (laid prefix room) (n - 1) nan) (getD beats (n - 1) nan) (getD ratios (n - 1) nan) at) ≡ pick t at (displayedFrom (getD prefix (n - 1) nan) (getD beats (n - 1) nan) (getD ratios (n - 1) nan) at)
-    unfolding laid
     go true h = refl
-    go false h = let some = h refl in let inside : n - 1 < length prefix = omega (arith, few, λ (z : n ≡ 0). some z) in rw (List·getD-append prefix _ nan (n - 1) inside)
+    go false h = let inside : n - 1 < length prefix = omega (arith, few, h refl) in rw (List·getD-append prefix _ nan (n - 1) inside)
 
-module _ (beats ratios room : List Float) (taken : scrollsNumber beats ratios ≡ 0) (at : Float) (found : placeOf (keyUpTo at) beats ≡ upToBeat at beats) where
+module _ (beats ratios room : List Float) (taken : scrollsNumber beats ratios ≡ 0) (at : Float) (found : placeOf (f32UpTo at) beats ≡ upToBeat at beats) where
   pub checked-is-tested-if : checkedAt beats ratios (laid (scrollPrefix beats ratios) room) at ≡ displayedAt beats ratios at
   unfolding checkedAt displayedAt displayedNumber displayedBy displayedBeat
   checked-is-tested-if =

@@ -9,7 +9,8 @@ use lib.Ieee.{Float, nan, fin, binary64, le, add, sub, mul}
 use Rattle.ieee.specs.Constants.{plusZero}
 use Rattle.ieee_mul_add.specs.MulAdd.{mulAdd}
 use Rattle.picks.specs.Pick.{pick}
-use Rattle.order_search.specs.Searching.{placeOf, keyUpTo}
+use Rattle.order_search.specs.Search.{placeOf}
+use Rattle.order_search.specs.F32UpTo.{f32UpTo}
 
 -- ---- the prefix: how far the display has moved at each scroll
 
@@ -51,4 +52,4 @@ displayedBeat beats ratios at = behindScrolls beats ratios (scrollPrefix beats r
 
 -- by a search for the last scroll, whatever the order of the beats, and by any prefix
 unfoldable pub displayedBy : (beats ratios prefix : List Float) → Float → Float
-displayedBy beats ratios prefix at = behindScrolls beats ratios prefix (placeOf (keyUpTo at) beats) at
+displayedBy beats ratios prefix at = behindScrolls beats ratios prefix (placeOf (f32UpTo at) beats) at

@@ -181,7 +181,7 @@ fn number_at_f32(column: &[f32], place: usize) -> f64
 fn find(scroll_beats: &[f32], scroll_ratios: &[f32], prefix: &[f64], beat: f64) -> f64
     ensures { λ r. ⌜ r ≡ displayedBy (now («scroll_beats» .entry)) (now («scroll_ratios» .entry)) (now (prefix .entry)) beat ⌝ }
 {
-    let count = order_search::place_of(scroll_beats, order_search::key_up_to(beat));
+    let count = order_search::place_of(scroll_beats, order_search::f32_up_to(beat));
     if count == 0 {
         return beat;
     }
@@ -199,14 +199,15 @@ fn find(scroll_beats: &[f32], scroll_ratios: &[f32], prefix: &[f64], beat: f64) 
 pub fn get_displayed_beat_checked(scroll_beats: &[f32], scroll_ratios: &[f32], prefix: &[f64], beat: f64) -> Displayed
     ensures { λ r. ⌜ r ≡ checkedAt (now («scroll_beats» .entry)) (now («scroll_ratios» .entry)) (now (prefix .entry)) beat ⌝ }
 {
-    if clock_tests::beat_number(beat) == limits::TAKEN {
+    let number = clock_tests::beat_number(beat);
+    if number == limits::TAKEN {
         return Displayed {
             number: limits::TAKEN,
             beat: find(scroll_beats, scroll_ratios, prefix, beat),
         };
     }
     Displayed {
-        number: limits::BAD_BEAT,
+        number: number,
         beat: 0.0,
     }
 }

@@ -6,15 +6,15 @@ use borrow.Author.Needs.{needs}
 use Rattle.notes_displayed.proofs.find.Statement.{statement}
 use Rattle.notes_displayed.proofs.find.Tie as tie
 
-key-up-to-requires : tie.Need-key-up-to-requires
-key-up-to-requires c κs = search needs
+f32-up-to-requires : tie.Need-f32-up-to-requires
+f32-up-to-requires c κs = search needs
 
 place-of-requires : tie.Need-place-of-requires
 place-of-requires c κs = search needs
 
 returns : tie.Need-returns
 unfolding displayedBy behindScrolls
-returns c = rw (← c .before .before .key-up-to .ensures, ← c .before .place-of .ensures, c .if1 .taken)
+returns c = rw (← c .before .before .f32-up-to .ensures, ← c .before .place-of .ensures, c .if1 .taken)
 
 sub-last : tie.Need-sub-last
 sub-last c = search needs
@@ -40,13 +40,13 @@ returns-2 c =
     let some = shown .before in
     let place = some .before in
     c .displayed-from .ensures
-    ∙ rw (← place .before .key-up-to .ensures, ← place .place-of .ensures, ne-eqb (place .place-of .result) 0 (some .if1 .left), ← shown .number-at .ensures, ← from .number-at-f32 .ensures, ← ratio .number-at-f322 .ensures)
+    ∙ rw (← place .before .f32-up-to .ensures, ← place .place-of .ensures, ne-eqb (place .place-of .result) 0 (some .if1 .left), ← shown .number-at .ensures, ← from .number-at-f32 .ensures, ← ratio .number-at-f322 .ensures)
 
 pub find-spec : {M : Type 1} → statement M
 find-spec =
     tie.close
     (tie.spec
-    key-up-to-requires
+    f32-up-to-requires
     place-of-requires
     returns
     sub-last
