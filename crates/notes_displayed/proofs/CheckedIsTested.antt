@@ -4,15 +4,18 @@ use mathlib.Core.Path.{_≡_, refl, sym, ap, _∙_}
 use mathlib.Core.Bool.{Bool, true, false}
 use mathlib.Core.List.{List, [], _∷_}
 use native.Mathlib.Omega.{arith}
-use lib.Dec.{eqb}
+use lib.Dec.{T, eqb}
 use lib.ListN.{length, getD, List·getD-append}
-use lib.Ieee.{Float, nan, le}
-use borrow.Author.Tests.{eqb-false}
+use lib.Ieee.{Float, nan, binary32, fits, le}
+use borrow.Author.Tests.{eqb-true, eqb-false}
+use Rattle.ieee.specs.Constants.{plusZero}
 use Rattle.picks.specs.Pick.{pick}
 use Rattle.limits.proofs.NoRefusal.{none-lower}
 use Rattle.order.specs.Order.{laid}
 use Rattle.order_search.specs.Search.{placeOf, SplitBy}
 use Rattle.order_search.specs.F32UpTo.{f32UpTo}
+use Rattle.clock_tests.specs.TimingNumbers.{beatNumber}
+use Rattle.notes_displayed.specs.declared.Displayed.{Displayed}
 use Rattle.notes_displayed.specs.Scrolls.{scrollPrefix, upToBeat, displayedFrom, behindScrolls, displayedBeat, displayedBy}
 use Rattle.notes_displayed.specs.Answers.{scrollsNumber, displayedNumber, displayed, displayedAt, checkedAt}
 use Rattle.notes_displayed.proofs.OneStepOn.{prefix-length}
@@ -49,9 +52,24 @@ front-read beats ratios prefix room n at few = go (eqb n 0) (eqb-false n 0)
     go true h = refl
     go false h = let inside : n - 1 < length prefix = omega (arith, few, h refl) in rw (List·getD-append prefix _ nan (n - 1) inside)
 
-module _ (beats ratios room : List Float) (taken : scrollsNumber beats ratios ≡ 0) (at : Float) (found : placeOf (f32UpTo at) beats ≡ upToBeat at beats) where
-  pub checked-is-tested-if : checkedAt beats ratios (laid (scrollPrefix beats ratios) room) at ≡ displayedAt beats ratios at
+-- a refusal hides the position
+taken-alone : (number : ℕ) (one other : Float) → (number ≡ 0 → one ≡ other) → displayed number one ≡ displayed number other
+unfolding displayed
+taken-alone number one other same = go (eqb number 0) (eqb-true number 0)
+  where
+    go : (t : Bool) → (t ≡ true → number ≡ 0) → _≡_ {A = Displayed} (record { number = number; beat = pick t one plusZero }) (record { number = number; beat = pick t other plusZero })
+    go true h = rw (same (h refl))
+    go false h = refl
+
+module _ (beats ratios room : List Float) (f32 : (i : ℕ) → T (fits binary32 (getD beats i nan))) (taken : scrollsNumber beats ratios ≡ 0) where
+  -- the search finds as many as are counted
+  found : (at : Float) → beatNumber at ≡ 0 → placeOf (f32UpTo at) beats ≡ upToBeat at beats
+  found at allowed = ?
+
+  pub displayed-checked-is-tested : (at : Float) → checkedAt beats ratios (laid (scrollPrefix beats ratios) room) at ≡ displayedAt beats ratios at
   unfolding checkedAt displayedAt displayedNumber displayedBy displayedBeat
-  checked-is-tested-if =
+  displayed-checked-is-tested at =
       let even = scrolls-taken taken .0 .even in
-      rw (found, taken, none-lower, front-read beats ratios (scrollPrefix beats ratios) room (upToBeat at beats) at (omega (arith, up-to-few at beats, prefix-length beats ratios even)))
+      let few : upToBeat at beats ≤ length (scrollPrefix beats ratios) = omega (arith, up-to-few at beats, prefix-length beats ratios even) in
+      rw (taken, none-lower)
+      (taken-alone (beatNumber at) _ _ (λ allowed. rw (found at allowed) (front-read beats ratios (scrollPrefix beats ratios) room (upToBeat at beats) at few)))

@@ -1,15 +1,17 @@
 -- A refusal leaves the rooms as they were, and a call that is taken lays all of its result over their fronts. Assumes nothing.
 use Prim.Native.Nat.{ℕ, _≤_, _<_, min}
 use mathlib.Core.Path.{_≡_, refl, sym, ap, _∙_}
-use mathlib.Core.List.{List}
+use mathlib.Core.List.{List, [], _∷_}
 use native.Mathlib.Omega.{arith}
 use lib.ListN.{length}
 use lib.Ieee.{Float}
 use Rattle.order.specs.Order.{laid}
 use Rattle.columns.specs.declared.Outcome.{Outcome}
+use Rattle.columns.specs.Each.{laidEach}
 use Rattle.columns.specs.Laying.{roomNumber, refusedBy, given}
 use Rattle.columns.proofs.Rooms.{nothing-given, number-of-tests, number-no-room, number-taken}
 use Rattle.columns.proofs.EachOverFront.{each-over-front}
+use Rattle.notes_displayed.specs.declared.Displayed.{Displayed}
 use Rattle.notes_displayed.specs.Scrolls.{scrollPrefix}
 use Rattle.notes_displayed.specs.Answers.{scrollsNumber, displayedAt, PrefixLaid, BeatsDisplayed}
 use Rattle.notes_displayed.specs.inside.Steps.{AllDisplayed}
@@ -50,4 +52,19 @@ module _ (scrollBeats scrollRatios beats : List Float) (numbers : List ℕ) (pos
     count = refl;
     numbersAre = all .numbersAre ∙ each-over-front (λ (at : Float). displayedAt scrollBeats scrollRatios at .number) beats numbers (omega arith);
     positionsAre = all .positionsAre ∙ each-over-front (λ (at : Float). displayedAt scrollBeats scrollRatios at .beat) beats positions (omega arith);
+  }
+
+-- ---- all beats, by another call that answers the same
+each-same : {B : Type 0} (f g : Float → B) → ((at : Float) → f at ≡ g at) → (beats : List Float) (old : List B) → laidEach f beats old ≡ laidEach g beats old
+unfolding laidEach
+each-same f g same [] old = refl
+each-same f g same (at ∷ beats) [] = refl
+each-same f g same (at ∷ beats) (x ∷ old) = rw (same at, each-same f g same beats old)
+
+module _ {scrollBeats scrollRatios beats : List Float} {numbers numbersNew : List ℕ} {positions positionsNew : List Float} (answer : Float → Displayed) (same : (at : Float) → answer at ≡ displayedAt scrollBeats scrollRatios at) where
+  pub all-displayed : numbersNew ≡ laidEach (λ (at : Float). answer at .number) beats numbers → positionsNew ≡ laidEach (λ (at : Float). answer at .beat) beats positions
+      → AllDisplayed scrollBeats scrollRatios beats numbers numbersNew positions positionsNew
+  all-displayed n p = record {
+    numbersAre = n ∙ each-same (λ (at : Float). answer at .number) (λ (at : Float). displayedAt scrollBeats scrollRatios at .number) (λ at. ap (λ (d : Displayed). d .number) (same at)) beats numbers;
+    positionsAre = p ∙ each-same (λ (at : Float). answer at .beat) (λ (at : Float). displayedAt scrollBeats scrollRatios at .beat) (λ at. ap (λ (d : Displayed). d .beat) (same at)) beats positions;
   }

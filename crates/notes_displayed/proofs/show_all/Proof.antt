@@ -1,5 +1,6 @@
 -- `notes_displayed::show_all` lends an array for the prefix. Assumes nothing.
-use mathlib.Core.Path.{sym}
+use Prim.Native.Nat.{ℕ, _≤_}
+use mathlib.Core.Path.{_≡_, sym}
 use native.Mathlib.Omega.{arith}
 use lib.Seq.{length-take-le}
 use Rattle.notes_displayed.proofs.ScrollsTaken.{scrolls-taken}
@@ -13,10 +14,13 @@ array-borrow-prefix-prefix c = let start = c .before .before .before .before .be
 slice-aggregate-show-by : tie.Need-slice-aggregate-show-by
 slice-aggregate-show-by c = let start = c .before .before .before .before .before .before in sym (length-take-le _ _ (scrolls-taken (start .pre .0) .0 .few))
 
+at-most : {m n : ℕ} → m ≡ n → m ≤ n
+at-most e = omega arith
+
 show-by-requires : tie.Need-show-by-requires
 show-by-requires c κs = 
     let start = c .before .before .before .before .before .before .before .before in
-    (start .pre .0, omega (arith, length-take-le _ _ (scrolls-taken (start .pre .0) .0 .few)), start .pre .1, start .pre .2)
+    (start .pre .0, at-most (sym (length-take-le _ _ (scrolls-taken (start .pre .0) .0 .few))), start .pre .1, start .pre .2)
 
 same-length : tie.Need-same-length
 same-length c = search needs
