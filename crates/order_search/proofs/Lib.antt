@@ -1,0 +1,5 @@
+pub mod HowMany
+pub mod Quartered
+pub mod PlaceSplits
+pub mod PatternBelow
+pub mod F32UpToIsLe

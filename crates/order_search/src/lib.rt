@@ -46,7 +46,7 @@ fn entries_passed(column: &[f32], base: usize, size: usize, at: f32) -> usize
 }
 
 fn one_if(yes: bool) -> usize
-    ensures { λ r. ⌜ r ≡ pick yes 1 0 ⌝ }
+    ensures { λ r. ⌜ (r ≡ pick yes 1 0) × (r ≤ 1) ⌝ }
 {
     if yes { 1 } else { 0 }
 }
