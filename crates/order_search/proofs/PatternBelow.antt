@@ -118,15 +118,15 @@ module _ (x : Float) (h : T (fits binary32 x)) (l : Lowered x) where
   unfolding nextBelow
   key-below = elim (below? (toBits binary32 x) (top binary32)) [
     | inl t ↦
-      let n = toBits binary32 x - 1 in
-      let some = l .clear t .0 in
-      let own = own-pattern n (omega arith) (number-below-clear t) in
-      let key = key-clear binary32 (ofBits binary32 n) (is-number n (omega arith) (number-below-clear t)) (omega arith) in
-      rw (lt-leb (top binary32) (toBits binary32 x) t) (omega (arith, key, own, key-clear binary32 x (l .number) t))
+        let n = toBits binary32 x - 1 in
+        let some = l .clear t .0 in
+        let own = own-pattern n (omega arith) (number-below-clear t) in
+        let key = key-clear binary32 (ofBits binary32 n) (is-number n (omega arith) (number-below-clear t)) (omega arith) in
+        rw (lt-leb (top binary32) (toBits binary32 x) t) (omega (arith, key, own, key-clear binary32 x (l .number) t))
     | inr t ↦
-      let n = toBits binary32 x + 1 in
-      let small = l .set t in
-      let own = own-pattern n (omega (arith, infinity-small binary32)) (number-below-set t) in
-      let key = key-set binary32 (ofBits binary32 n) (is-number n (omega (arith, infinity-small binary32)) (number-below-set t)) (omega arith) in
-      rw (le-leb (top binary32) (toBits binary32 x) t) (omega (arith, key, own, key-set binary32 x (l .number) t, infinity-small binary32))
+        let n = toBits binary32 x + 1 in
+        let small = l .set t in
+        let own = own-pattern n (omega (arith, infinity-small binary32)) (number-below-set t) in
+        let key = key-set binary32 (ofBits binary32 n) (is-number n (omega (arith, infinity-small binary32)) (number-below-set t)) (omega arith) in
+        rw (le-leb (top binary32) (toBits binary32 x) t) (omega (arith, key, own, key-set binary32 x (l .number) t, infinity-small binary32))
   ]
