@@ -3,4 +3,5 @@ pub mod Quartered
 pub mod PlaceSplits
 pub mod FloatsInOrder
 pub mod PatternBelow
+pub mod OrderedSplits
 pub mod F32UpToIsLe
