@@ -7,19 +7,18 @@ use native.Mathlib.Omega.{arith}
 use lib.Dec.{T, eqb}
 use lib.ListN.{length, getD, List·getD-append}
 use lib.Ieee.{Float, nan, binary32, fits, le}
-use borrow.Author.Tests.{eqb-true, eqb-false}
-use Rattle.ieee.specs.Constants.{plusZero}
+use borrow.Author.Tests.{eqb-false}
 use Rattle.picks.specs.Pick.{pick}
 use Rattle.limits.proofs.NoRefusal.{none-lower}
 use Rattle.order.specs.Order.{laid}
 use Rattle.order_search.specs.Search.{placeOf, SplitBy}
 use Rattle.order_search.specs.F32UpTo.{f32UpTo}
-use Rattle.clock_tests.specs.TimingNumbers.{beatNumber}
-use Rattle.notes_displayed.specs.declared.Displayed.{Displayed}
+use Rattle.order_search.proofs.OrderedSplits.{ordered-splits}
+use Rattle.order_search.proofs.F32UpToIsLe.{f32-up-to-is-le}
 use Rattle.notes_displayed.specs.Scrolls.{scrollPrefix, upToBeat, displayedFrom, behindScrolls, displayedBeat, displayedBy}
-use Rattle.notes_displayed.specs.Answers.{scrollsNumber, displayedNumber, displayed, displayedAt, checkedAt}
+use Rattle.notes_displayed.specs.Answers.{scrollColumnsNumber, displayedNumber, displayedAt, checkedAt}
 use Rattle.notes_displayed.proofs.OneStepOn.{prefix-length}
-use Rattle.notes_displayed.proofs.ScrollsTaken.{scrolls-taken}
+use Rattle.notes_displayed.proofs.ScrollsTaken.{scrolls-taken, beats-in-order}
 
 -- how many scrolls there are up to a beat, at the most
 pub up-to-few : (at : Float) (beats : List Float) → upToBeat at beats ≤ length beats
@@ -52,24 +51,20 @@ front-read beats ratios prefix room n at few = go (eqb n 0) (eqb-false n 0)
     go true h = refl
     go false h = let inside : n - 1 < length prefix = omega (arith, few, h refl) in rw (List·getD-append prefix _ nan (n - 1) inside)
 
--- a refusal hides the position
-taken-alone : (number : ℕ) (one other : Float) → (number ≡ 0 → one ≡ other) → displayed number one ≡ displayed number other
-unfolding displayed
-taken-alone number one other same = go (eqb number 0) (eqb-true number 0)
-  where
-    go : (t : Bool) → (t ≡ true → number ≡ 0) → _≡_ {A = Displayed} (record { number = number; beat = pick t one plusZero }) (record { number = number; beat = pick t other plusZero })
-    go true h = rw (same (h refl))
-    go false h = refl
+-- f32s at or before a beat are those at or before its f32
+as-f32 : (at : Float) (beats : List Float) → ((i : ℕ) → T (fits binary32 (getD beats i nan))) → upToBeat (f32UpTo at) beats ≡ upToBeat at beats
+unfolding upToBeat
+as-f32 at [] f32 = refl
+as-f32 at (b ∷ beats) f32 = rw (f32-up-to-is-le b at (f32 0), as-f32 at beats (λ i. f32 (suc i)))
 
-module _ (beats ratios room : List Float) (f32 : (i : ℕ) → T (fits binary32 (getD beats i nan))) (taken : scrollsNumber beats ratios ≡ 0) where
+module _ (beats ratios room : List Float) (f32 : (i : ℕ) → T (fits binary32 (getD beats i nan))) (taken : scrollColumnsNumber beats ratios ≡ 0) where
   -- the search finds as many as are counted
-  found : (at : Float) → beatNumber at ≡ 0 → placeOf (f32UpTo at) beats ≡ upToBeat at beats
-  found at allowed = ?
+  found : (at : Float) → placeOf (f32UpTo at) beats ≡ upToBeat at beats
+  found at = split-counts (f32UpTo at) beats (placeOf (f32UpTo at) beats) (ordered-splits (f32UpTo at) beats (beats-in-order beats ratios taken)) ∙ as-f32 at beats f32
 
   pub displayed-checked-is-tested : (at : Float) → checkedAt beats ratios (laid (scrollPrefix beats ratios) room) at ≡ displayedAt beats ratios at
   unfolding checkedAt displayedAt displayedNumber displayedBy displayedBeat
   displayed-checked-is-tested at =
       let even = scrolls-taken taken .0 .even in
       let few : upToBeat at beats ≤ length (scrollPrefix beats ratios) = omega (arith, up-to-few at beats, prefix-length beats ratios even) in
-      rw (taken, none-lower)
-      (taken-alone (beatNumber at) _ _ (λ allowed. rw (found at allowed) (front-read beats ratios (scrollPrefix beats ratios) room (upToBeat at beats) at few)))
+      rw (taken, none-lower, found at, front-read beats ratios (scrollPrefix beats ratios) room (upToBeat at beats) at few)

@@ -13,37 +13,37 @@ use Rattle.columns.proofs.Rooms.{nothing-given, number-of-tests, number-no-room
 use Rattle.columns.proofs.EachOverFront.{each-over-front}
 use Rattle.notes_displayed.specs.declared.Displayed.{Displayed}
 use Rattle.notes_displayed.specs.Scrolls.{scrollPrefix}
-use Rattle.notes_displayed.specs.Answers.{scrollsNumber, displayedAt, PrefixLaid, BeatsDisplayed}
+use Rattle.notes_displayed.specs.Answers.{scrollColumnsNumber, displayedAt, PrefixLaid, BeatsDisplayed}
 use Rattle.notes_displayed.specs.inside.Steps.{AllDisplayed}
 
 module _ (beats ratios : List Float) (old : List Float) where
-  prefix-left-alone : (n : ℕ) → (n ≡ 0 → ⊥) → n ≡ roomNumber (scrollsNumber beats ratios) (length beats) (length old) → PrefixLaid beats ratios (refusedBy n) old old
+  prefix-left-alone : (n : ℕ) → (n ≡ 0 → ⊥) → n ≡ roomNumber (scrollColumnsNumber beats ratios) (length beats) (length old) → PrefixLaid beats ratios (refusedBy n) old old
   unfolding laid
   prefix-left-alone n h e = record { number = e; count = rw (nothing-given beats n h); prefixIs = rw (nothing-given (scrollPrefix beats ratios) n h) }
 
-  pub prefix-refused : (n : ℕ) → n ≡ scrollsNumber beats ratios → (n ≡ 0 → ⊥) → PrefixLaid beats ratios (refusedBy n) old old
+  pub prefix-refused : (n : ℕ) → n ≡ scrollColumnsNumber beats ratios → (n ≡ 0 → ⊥) → PrefixLaid beats ratios (refusedBy n) old old
   prefix-refused n e h = prefix-left-alone n h (e ∙ number-of-tests _ _ _ (λ z. h (e ∙ z)))
 
-  pub prefix-no-room : scrollsNumber beats ratios ≡ 0 → length old < length beats → PrefixLaid beats ratios (refusedBy 7) old old
+  pub prefix-no-room : scrollColumnsNumber beats ratios ≡ 0 → length old < length beats → PrefixLaid beats ratios (refusedBy 7) old old
   prefix-no-room e l = prefix-left-alone 7 (λ z. omega arith) (number-no-room _ _ _ e l)
 
-  pub prefix-laid : (new : List Float) → scrollsNumber beats ratios ≡ 0 → length beats ≤ length old → new ≡ laid (scrollPrefix beats ratios) old → PrefixLaid beats ratios (record { number = 0; count = length beats }) old new
+  pub prefix-laid : (new : List Float) → scrollColumnsNumber beats ratios ≡ 0 → length beats ≤ length old → new ≡ laid (scrollPrefix beats ratios) old → PrefixLaid beats ratios (record { number = 0; count = length beats }) old new
   unfolding given
   prefix-laid new e l is = record { number = number-taken _ _ _ e l; count = refl; prefixIs = is }
 
 module _ (scrollBeats scrollRatios beats : List Float) (numbers : List ℕ) (positions : List Float) where
-  beats-left-alone : (n : ℕ) → (n ≡ 0 → ⊥) → n ≡ roomNumber (scrollsNumber scrollBeats scrollRatios) (length beats) (min (length numbers) (length positions))
+  beats-left-alone : (n : ℕ) → (n ≡ 0 → ⊥) → n ≡ roomNumber (scrollColumnsNumber scrollBeats scrollRatios) (length beats) (min (length numbers) (length positions))
       → BeatsDisplayed scrollBeats scrollRatios beats (refusedBy n) numbers numbers positions positions
   unfolding laid
   beats-left-alone n h e = record { number = e; count = rw (nothing-given beats n h); numbersAre = rw (nothing-given beats n h); positionsAre = rw (nothing-given beats n h) }
 
-  pub beats-refused : (n : ℕ) → n ≡ scrollsNumber scrollBeats scrollRatios → (n ≡ 0 → ⊥) → BeatsDisplayed scrollBeats scrollRatios beats (refusedBy n) numbers numbers positions positions
+  pub beats-refused : (n : ℕ) → n ≡ scrollColumnsNumber scrollBeats scrollRatios → (n ≡ 0 → ⊥) → BeatsDisplayed scrollBeats scrollRatios beats (refusedBy n) numbers numbers positions positions
   beats-refused n e h = beats-left-alone n h (e ∙ number-of-tests _ _ _ (λ z. h (e ∙ z)))
 
-  pub beats-no-room : scrollsNumber scrollBeats scrollRatios ≡ 0 → min (length numbers) (length positions) < length beats → BeatsDisplayed scrollBeats scrollRatios beats (refusedBy 7) numbers numbers positions positions
+  pub beats-no-room : scrollColumnsNumber scrollBeats scrollRatios ≡ 0 → min (length numbers) (length positions) < length beats → BeatsDisplayed scrollBeats scrollRatios beats (refusedBy 7) numbers numbers positions positions
   beats-no-room e l = beats-left-alone 7 (λ z. omega arith) (number-no-room _ _ _ e l)
 
-  pub beats-displayed : (numbersNew : List ℕ) (positionsNew : List Float) → scrollsNumber scrollBeats scrollRatios ≡ 0 → length beats ≤ min (length numbers) (length positions)
+  pub beats-displayed : (numbersNew : List ℕ) (positionsNew : List Float) → scrollColumnsNumber scrollBeats scrollRatios ≡ 0 → length beats ≤ min (length numbers) (length positions)
       → AllDisplayed scrollBeats scrollRatios beats numbers numbersNew positions positionsNew
       → BeatsDisplayed scrollBeats scrollRatios beats (record { number = 0; count = length beats }) numbers numbersNew positions positionsNew
   unfolding given

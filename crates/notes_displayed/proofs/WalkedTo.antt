@@ -12,7 +12,7 @@ use lib.Ieee.{Float, nan, le}
 use borrow.Author.Tests.{eq-eqb, ne-eqb}
 use Rattle.ieee.specs.Constants.{plusZero}
 use Rattle.picks.specs.Pick.{pick}
-use Rattle.notes_displayed.specs.Scrolls.{movedOn, prefixFrom, ratioBefore, scrollPrefix, upToBeat, displayedFrom, behindScrolls, displayedBeat}
+use Rattle.notes_displayed.specs.Scrolls.{scrolledOn, prefixFrom, ratioBefore, scrollPrefix, upToBeat, displayedFrom, behindScrolls, displayedBeat}
 use Rattle.notes_displayed.specs.inside.Steps.{walked}
 
 -- the last of n entries, or what stood before them
@@ -37,12 +37,12 @@ module _ (at : Float) where
   unfolding walked prefixFrom upToBeat
   walked-is shown from ratio [] ratios even = refl
   walked-is shown from ratio (b ∷ beats) [] even = absurd (omega arith)
-  walked-is shown from ratio (b ∷ beats) (r ∷ ratios) even = go (le b at) (walked-is (movedOn shown from ratio b) b r beats ratios (omega arith))
+  walked-is shown from ratio (b ∷ beats) (r ∷ ratios) even = go (le b at) (walked-is (scrolledOn shown from ratio b) b r beats ratios (omega arith))
     where
-      go : (t : Bool) → walked (movedOn shown from ratio b) b r beats ratios at ≡ lastOf (movedOn shown from ratio b) b r beats ratios (prefixFrom (movedOn shown from ratio b) b r beats ratios) (upToBeat at beats) at
-          → pick t (walked (movedOn shown from ratio b) b r beats ratios at) (displayedFrom shown from ratio at)
-          ≡ lastOf shown from ratio (b ∷ beats) (r ∷ ratios) (movedOn shown from ratio b ∷ prefixFrom (movedOn shown from ratio b) b r beats ratios) (pick t (suc (upToBeat at beats)) 0) at
-      go true rest = rest ∙ further (upToBeat at beats) shown from ratio (movedOn shown from ratio b) b r beats ratios (prefixFrom (movedOn shown from ratio b) b r beats ratios)
+      go : (t : Bool) → walked (scrolledOn shown from ratio b) b r beats ratios at ≡ lastOf (scrolledOn shown from ratio b) b r beats ratios (prefixFrom (scrolledOn shown from ratio b) b r beats ratios) (upToBeat at beats) at
+          → pick t (walked (scrolledOn shown from ratio b) b r beats ratios at) (displayedFrom shown from ratio at)
+          ≡ lastOf shown from ratio (b ∷ beats) (r ∷ ratios) (scrolledOn shown from ratio b ∷ prefixFrom (scrolledOn shown from ratio b) b r beats ratios) (pick t (suc (upToBeat at beats)) 0) at
+      go true rest = rest ∙ further (upToBeat at beats) shown from ratio (scrolledOn shown from ratio b) b r beats ratios (prefixFrom (scrolledOn shown from ratio b) b r beats ratios)
       go false rest = refl
 
   -- no scroll is passed
@@ -56,7 +56,7 @@ module _ (at : Float) where
   none-passed shown from ratio (b ∷ beats) [] h = refl
   none-passed shown from ratio (b ∷ beats) (r ∷ ratios) h = go (le b at) h
     where
-      go : (t : Bool) → pick t (suc (upToBeat at beats)) 0 ≡ 0 → pick t (walked (movedOn shown from ratio b) b r beats ratios at) (displayedFrom shown from ratio at) ≡ displayedFrom shown from ratio at
+      go : (t : Bool) → pick t (suc (upToBeat at beats)) 0 ≡ 0 → pick t (walked (scrolledOn shown from ratio b) b r beats ratios at) (displayedFrom shown from ratio at) ≡ displayedFrom shown from ratio at
       go true h = absurd (omega arith)
       go false h = refl
 
@@ -72,7 +72,7 @@ module _ (at : Float) where
 
     module _ {shown from ratio : Float} {i : ℕ} (so-far : Walking shown from ratio i) where
       pub walk-turned : length beats ≡ length ratios → i < length beats → le (getD beats i nan) at ≡ true
-          → Walking (movedOn shown from ratio (getD beats i nan)) (getD beats i nan) (getD ratios i nan) (i + 1)
+          → Walking (scrolledOn shown from ratio (getD beats i nan)) (getD beats i nan) (getD ratios i nan) (i + 1)
       unfolding walked upToBeat
       walk-turned even more passes =
           let others : i < length ratios = omega arith in

@@ -25,12 +25,12 @@ abbrev pub scrollListNumber : (beats ratios : List Float) → ℕ
 scrollListNumber beats ratios = listNumber (rangeOf Beat) (rangeOf Value) beats ratios
 
 -- the scrolls by themselves: 1 to 4, and 5 where a beat is below the one before it; equal ones are taken
-unfoldable pub scrollsNumber : (beats ratios : List Float) → ℕ
-scrollsNumber beats ratios = pick (eqb (scrollListNumber beats ratios) 0) (pick (everyTwo notFalling beats) 0 notRising) (scrollListNumber beats ratios)
+unfoldable pub scrollColumnsNumber : (beats ratios : List Float) → ℕ
+scrollColumnsNumber beats ratios = pick (eqb (scrollListNumber beats ratios) 0) (pick (everyTwo notFalling beats) 0 notRising) (scrollListNumber beats ratios)
 
 -- and 3 for an asked beat beyond the limit; of two the lower
 unfoldable pub displayedNumber : (beats ratios : List Float) → Float → ℕ
-displayedNumber beats ratios at = lower (scrollsNumber beats ratios) (beatNumber at)
+displayedNumber beats ratios at = lower (scrollColumnsNumber beats ratios) (beatNumber at)
 
 -- ---- one beat
 
@@ -50,13 +50,13 @@ checkedAt beats ratios prefix at = displayed (beatNumber at) (displayedBy beats 
 
 -- the prefix over the front of its room
 pub record PrefixLaid (beats ratios : List Float) (outcome : Outcome) (old new : List Float) : Type 0 where
-  pub number : outcome .number ≡ roomNumber (scrollsNumber beats ratios) (length beats) (length old)
+  pub number : outcome .number ≡ roomNumber (scrollColumnsNumber beats ratios) (length beats) (length old)
   pub count : outcome .count ≡ length (given (outcome .number) beats)
   pub prefixIs : new ≡ laid (given (outcome .number) (scrollPrefix beats ratios)) old
 
 -- for each beat what the call that tests all answers
 pub record BeatsDisplayed (scrollBeats scrollRatios beats : List Float) (outcome : Outcome) (numbersOld numbersNew : List ℕ) (positionsOld positionsNew : List Float) : Type 0 where
-  pub number : outcome .number ≡ roomNumber (scrollsNumber scrollBeats scrollRatios) (length beats) (min (length numbersOld) (length positionsOld))
+  pub number : outcome .number ≡ roomNumber (scrollColumnsNumber scrollBeats scrollRatios) (length beats) (min (length numbersOld) (length positionsOld))
   pub count : outcome .count ≡ length (given (outcome .number) beats)
   pub numbersAre : numbersNew ≡ columnLaid (λ (at : Float). displayedAt scrollBeats scrollRatios at .number) (outcome .number) beats numbersOld
   pub positionsAre : positionsNew ≡ columnLaid (λ (at : Float). displayedAt scrollBeats scrollRatios at .beat) (outcome .number) beats positionsOld

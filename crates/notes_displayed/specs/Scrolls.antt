@@ -15,14 +15,14 @@ use Rattle.order_search.specs.F32UpTo.{f32UpTo}
 -- ---- the prefix: how far the display has moved at each scroll
 
 -- at a beat, by how far it had moved at an earlier one and the ratio since then: difference, product and sum are rounded, each by itself
-unfoldable pub movedOn : (shown from ratio to : Float) → Float
-movedOn shown from ratio to = add binary64 shown (mul binary64 (sub binary64 to from) ratio)
+unfoldable pub scrolledOn : (shown from ratio to : Float) → Float
+scrolledOn shown from ratio to = add binary64 shown (mul binary64 (sub binary64 to from) ratio)
 
 -- at each scroll, one after the other
 unfoldable pub prefixFrom : (shown from ratio : Float) → (beats ratios : List Float) → List Float
 prefixFrom shown from ratio [] ratios = []
 prefixFrom shown from ratio (b ∷ beats) [] = []
-prefixFrom shown from ratio (b ∷ beats) (r ∷ ratios) = movedOn shown from ratio b ∷ prefixFrom (movedOn shown from ratio b) b r beats ratios
+prefixFrom shown from ratio (b ∷ beats) (r ∷ ratios) = scrolledOn shown from ratio b ∷ prefixFrom (scrolledOn shown from ratio b) b r beats ratios
 
 -- at beat 0 nothing has moved, and before the first scroll the ratio is 1
 abbrev pub ratioBefore : Float

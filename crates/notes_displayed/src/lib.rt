@@ -9,8 +9,8 @@ ghost use Rattle.limits.specs.Numbers.{miss};
 ghost use Rattle.limits.specs.Neighbours.{everyTwo, notFalling};
 ghost use Rattle.order.specs.Order.{laid};
 ghost use Rattle.columns.specs.Each.{laidEach};
-ghost use Rattle.notes_displayed.specs.Scrolls.{movedOn, scrollPrefix, displayedFrom, displayedBeat, displayedBy};
-ghost use Rattle.notes_displayed.specs.Answers.{scrollsNumber, displayed, displayedAt, checkedAt, PrefixLaid, BeatsDisplayed};
+ghost use Rattle.notes_displayed.specs.Scrolls.{scrolledOn, scrollPrefix, displayedFrom, displayedBeat, displayedBy};
+ghost use Rattle.notes_displayed.specs.Answers.{scrollColumnsNumber, displayed, displayedAt, checkedAt, PrefixLaid, BeatsDisplayed};
 ghost use Rattle.notes_displayed.specs.inside.Steps.{AllDisplayed};
 
 // The refusal number, and where the beat is drawn; 0 after a refusal.
@@ -42,8 +42,8 @@ fn never_fall(beats: &[f32]) -> bool
 }
 
 // What the scrolls answer by themselves: 1, 2, 3 or 4, 5 where their beats fall, and 0 where they are taken.
-fn scrolls_number(scroll_beats: &[f32], scroll_ratios: &[f32]) -> u32
-    ensures { λ r. ⌜ r ≡ scrollsNumber (now («scroll_beats» .entry)) (now («scroll_ratios» .entry)) ⌝ }
+fn scroll_columns_number(scroll_beats: &[f32], scroll_ratios: &[f32]) -> u32
+    ensures { λ r. ⌜ r ≡ scrollColumnsNumber (now («scroll_beats» .entry)) (now («scroll_ratios» .entry)) ⌝ }
 {
     let number = limits_f32::list_number_f32(Kind::Beat, Kind::Value, scroll_beats, scroll_ratios);
     if number == limits::TAKEN {
@@ -58,8 +58,8 @@ fn scrolls_number(scroll_beats: &[f32], scroll_ratios: &[f32]) -> u32
 // ---- by a walk
 
 // How far the display has moved at a beat, by how far it had at an earlier one and the ratio since: three roundings.
-fn moved_on(shown: f64, from: f64, ratio: f64, to: f64) -> f64
-    ensures { λ r. ⌜ r ≡ movedOn shown from ratio to ⌝ }
+fn scrolled_on(shown: f64, from: f64, ratio: f64, to: f64) -> f64
+    ensures { λ r. ⌜ r ≡ scrolledOn shown from ratio to ⌝ }
 {
     shown + (to - from) * ratio
 }
@@ -83,7 +83,7 @@ fn walk_to(scroll_beats: &[f32], scroll_ratios: &[f32], beat: f64) -> f64
     while i < scroll_beats.len() {
         let next = std::num::f32_to_f64_with_nan(scroll_beats[i]);
         if next <= beat {
-            shown = moved_on(shown, from, ratio, next);
+            shown = scrolled_on(shown, from, ratio, next);
             from = next;
             ratio = std::num::f32_to_f64_with_nan(scroll_ratios[i]);
             i += 1;
@@ -104,7 +104,7 @@ fn walk_to(scroll_beats: &[f32], scroll_ratios: &[f32], beat: f64) -> f64
 pub fn get_displayed_beat(scroll_beats: &[f32], scroll_ratios: &[f32], beat: f64) -> Displayed
     ensures { λ r. ⌜ r ≡ displayedAt (now («scroll_beats» .entry)) (now («scroll_ratios» .entry)) beat ⌝ }
 {
-    let scrolls = scrolls_number(scroll_beats, scroll_ratios);
+    let scrolls = scroll_columns_number(scroll_beats, scroll_ratios);
     let number = limits::lower_of(scrolls, clock_tests::beat_number(beat));
     if number == limits::TAKEN {
         return Displayed {
@@ -131,7 +131,7 @@ fn lay_prefix(scroll_beats: &[f32], scroll_ratios: &[f32], prefix: &mut [f64])
     let mut i = 0;
     while i < scroll_beats.len() {
         let next = std::num::f32_to_f64_with_nan(scroll_beats[i]);
-        shown = moved_on(shown, from, ratio, next);
+        shown = scrolled_on(shown, from, ratio, next);
         prefix[i] = shown;
         from = next;
         ratio = std::num::f32_to_f64_with_nan(scroll_ratios[i]);
@@ -140,10 +140,14 @@ fn lay_prefix(scroll_beats: &[f32], scroll_ratios: &[f32], prefix: &mut [f64])
 }
 
 // Tests the scrolls once and writes what `get_displayed_beat_checked` needs of them, an entry for each. Refused with 1 to 5, then with 7 where the room is shorter.
-pub fn build_scroll_prefix(scroll_beats: &[f32], scroll_ratios: &[f32], prefix: &mut [f64]) -> Outcome
+pub fn build_scroll_prefix(
+    scroll_beats: &[f32],
+    scroll_ratios: &[f32],
+    prefix: &mut [f64],
+) -> Outcome
     ensures { λ r. ⌜ PrefixLaid (now («scroll_beats» .entry)) (now («scroll_ratios» .entry)) r (now (prefix .entry)) (now (prefix .exit)) ⌝ }
 {
-    let number = scrolls_number(scroll_beats, scroll_ratios);
+    let number = scroll_columns_number(scroll_beats, scroll_ratios);
     if number != limits::TAKEN {
         return columns::refused(number);
     }
@@ -196,7 +200,12 @@ fn find(scroll_beats: &[f32], scroll_ratios: &[f32], prefix: &[f64], beat: f64) 
 
 // The same position from scrolls that were tested once, by the prefix that `build_scroll_prefix` wrote, in a time that grows with the logarithm of their count
 // (`displayed-checked-is-tested`). Takes any lists and any prefix, and refuses only a beat beyond the limit, with 3.
-pub fn get_displayed_beat_checked(scroll_beats: &[f32], scroll_ratios: &[f32], prefix: &[f64], beat: f64) -> Displayed
+pub fn get_displayed_beat_checked(
+    scroll_beats: &[f32],
+    scroll_ratios: &[f32],
+    prefix: &[f64],
+    beat: f64,
+) -> Displayed
     ensures { λ r. ⌜ r ≡ checkedAt (now («scroll_beats» .entry)) (now («scroll_ratios» .entry)) (now (prefix .entry)) beat ⌝ }
 {
     let number = clock_tests::beat_number(beat);
@@ -245,11 +254,18 @@ fn show_by(
     numbers: &mut [u32],
     positions: &mut [f64],
 )
-    requires { ⌜ (scrollsNumber (now «scroll_beats») (now «scroll_ratios») ≡ 0) × (length (now «scroll_beats») ≤ length (now prefix)) × (length (now beats) ≤ length (now numbers)) × (length (now beats) ≤ length (now positions)) ⌝ }
+    requires { ⌜ (scrollColumnsNumber (now «scroll_beats») (now «scroll_ratios») ≡ 0) × (length (now «scroll_beats») ≤ length (now prefix)) × (length (now beats) ≤ length (now numbers)) × (length (now beats) ≤ length (now positions)) ⌝ }
     ensures { λ _. ⌜ AllDisplayed (now («scroll_beats» .entry)) (now («scroll_ratios» .entry)) (now (beats .entry)) (now (numbers .entry)) (now (numbers .exit)) (now (positions .entry)) (now (positions .exit)) ⌝ }
 {
     lay_prefix(scroll_beats, scroll_ratios, prefix);
-    show_each(scroll_beats, scroll_ratios, prefix, beats, numbers, positions);
+    show_each(
+        scroll_beats,
+        scroll_ratios,
+        prefix,
+        beats,
+        numbers,
+        positions,
+    );
 }
 
 fn show_all(
@@ -259,12 +275,19 @@ fn show_all(
     numbers: &mut [u32],
     positions: &mut [f64],
 )
-    requires { ⌜ (scrollsNumber (now «scroll_beats») (now «scroll_ratios») ≡ 0) × (length (now beats) ≤ length (now numbers)) × (length (now beats) ≤ length (now positions)) ⌝ }
+    requires { ⌜ (scrollColumnsNumber (now «scroll_beats») (now «scroll_ratios») ≡ 0) × (length (now beats) ≤ length (now numbers)) × (length (now beats) ≤ length (now positions)) ⌝ }
     ensures { λ _. ⌜ AllDisplayed (now («scroll_beats» .entry)) (now («scroll_ratios» .entry)) (now (beats .entry)) (now (numbers .entry)) (now (numbers .exit)) (now (positions .entry)) (now (positions .exit)) ⌝ }
 {
     let n = scroll_beats.len();
     let mut prefix = [0.0; limits::MOST_ENTRIES];
-    show_by(scroll_beats, scroll_ratios, &mut prefix[..n], beats, numbers, positions);
+    show_by(
+        scroll_beats,
+        scroll_ratios,
+        &mut prefix[..n],
+        beats,
+        numbers,
+        positions,
+    );
 }
 
 // For each beat what `get_displayed_beat` answers, its number and its position, over the fronts of both columns. A beat that is refused has 3 and position 0
@@ -278,7 +301,7 @@ pub fn get_displayed_beats(
 ) -> Outcome
     ensures { λ r. ⌜ BeatsDisplayed (now («scroll_beats» .entry)) (now («scroll_ratios» .entry)) (now (beats .entry)) r (now (numbers .entry)) (now (numbers .exit)) (now (positions .entry)) (now (positions .exit)) ⌝ }
 {
-    let number = scrolls_number(scroll_beats, scroll_ratios);
+    let number = scroll_columns_number(scroll_beats, scroll_ratios);
     if number != limits::TAKEN {
         return columns::refused(number);
     }

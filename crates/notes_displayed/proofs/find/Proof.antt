@@ -33,7 +33,7 @@ displayed-from-requires c κs = search needs
 
 returns-2 : tie.Need-returns-2
 unfolding displayedBy behindScrolls
-returns-2 c = 
+returns-2 c =
     let ratio = c .before in
     let from = ratio .before in
     let shown = from .before in

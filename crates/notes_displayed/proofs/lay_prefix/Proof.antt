@@ -31,8 +31,8 @@ shared-slice-read-f32-to-f64-with-nan c = search needs
 f32-to-f64-with-nan-requires : tie.Need-f32-to-f64-with-nan-requires Inv-loop μ-loop
 f32-to-f64-with-nan-requires c κs = search needs
 
-moved-on-requires : tie.Need-moved-on-requires Inv-loop μ-loop
-moved-on-requires c κs = search needs
+scrolled-on-requires : tie.Need-scrolled-on-requires Inv-loop μ-loop
+scrolled-on-requires c κs = search needs
 
 mul-prefix : tie.Need-mul-prefix Inv-loop μ-loop
 mul-prefix c = search needs
@@ -57,7 +57,7 @@ loop-less : tie.Need-loop-less Inv-loop μ-loop
 loop-less c = search needs
 
 loop-again : tie.Need-loop-again Inv-loop μ-loop
-loop-again c = 
+loop-again c =
     let moved = c .before .before in
     let widened = moved .before in
     let turn = widened .before .before in
@@ -65,7 +65,7 @@ loop-again c =
     let beats = start .args .scroll-beats .now in
     let ratios = start .args .scroll-ratios .now in
     let at = turn .before .loop in
-    rw (moved .moved-on .ensures, widened .f32-to-f64-with-nan .ensures, c .f32-to-f64-with-nan2 .ensures)
+    rw (moved .scrolled-on .ensures, widened .f32-to-f64-with-nan .ensures, c .f32-to-f64-with-nan2 .ensures)
     (laying-more (scrollPrefix beats ratios) (start .args .prefix .now) (at .prefix) (prefixFrom (at .shown) (at .from) (at .ratio) (drop (at .i) beats) (drop (at .i) ratios)) (at .i) (at .inv) _ _
     (prefix-next (at .shown) (at .from) (at .ratio) beats ratios (at .i) (turn .loop-test .taken) (start .pre .0)) (omega (arith, at .inv .size, turn .loop-test .taken, start .pre .1)))
 
@@ -74,7 +74,7 @@ same-length c = search needs
 
 returns : tie.Need-returns Inv-loop μ-loop
 unfolding prefixFrom
-returns c = 
+returns c =
     let end = c in
     let start = end .before .before .before .before .before in
     let beats = start .args .scroll-beats .now in
@@ -92,7 +92,7 @@ lay-prefix-spec =
     mul-f32-to-f64-with-nan
     shared-slice-read-f32-to-f64-with-nan
     f32-to-f64-with-nan-requires
-    moved-on-requires
+    scrolled-on-requires
     mul-prefix
     slice-write-prefix
     mul-f32-to-f64-with-nan-2

@@ -18,7 +18,7 @@ at-most : {m n : ℕ} → m ≡ n → m ≤ n
 at-most e = omega arith
 
 show-by-requires : tie.Need-show-by-requires
-show-by-requires c κs = 
+show-by-requires c κs =
     let start = c .before .before .before .before .before .before .before .before in
     (start .pre .0, at-most (sym (length-take-le _ _ (scrolls-taken (start .pre .0) .0 .few))), start .pre .1, start .pre .2)
 

@@ -25,7 +25,7 @@ same-length-3 : tie.Need-same-length-3
 same-length-3 c = search needs
 
 returns : tie.Need-returns
-returns c = 
+returns c =
     let all = c .before .before .before .before in
     let laid = all .before .before .before .before .before .before in
     let known = laid .before .before .before .before .before .before .before in

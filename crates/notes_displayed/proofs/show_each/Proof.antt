@@ -36,7 +36,7 @@ mul-numbers : tie.Need-mul-numbers Inv-loop μ-loop
 mul-numbers c = search needs
 
 slice-write-numbers : tie.Need-slice-write-numbers Inv-loop μ-loop
-slice-write-numbers c = 
+slice-write-numbers c =
     let turn = c .before .before in
     let start = turn .before .before .before .before .before .before .before .before in
     omega (arith, turn .before .loop .inv .0 .long, start .pre .0, turn .loop-test .taken)
@@ -45,7 +45,7 @@ mul-positions : tie.Need-mul-positions Inv-loop μ-loop
 mul-positions c = search needs
 
 slice-write-positions : tie.Need-slice-write-positions Inv-loop μ-loop
-slice-write-positions c = 
+slice-write-positions c =
     let turn = c .before .before in
     let start = turn .before .before .before .before .before .before .before .before in
     omega (arith, turn .before .loop .inv .1 .long, start .pre .1, turn .loop-test .taken)
@@ -57,7 +57,7 @@ loop-less : tie.Need-loop-less Inv-loop μ-loop
 loop-less c = search needs
 
 loop-again : tie.Need-loop-again Inv-loop μ-loop
-loop-again c = 
+loop-again c =
     let turn = c .before .before in
     let at = turn .before .loop in
     let shown = c .get-displayed-beat-checked .ensures in

@@ -28,8 +28,8 @@ shared-slice-read-f32-to-f64-with-nan c = search needs
 f32-to-f64-with-nan-requires : tie.Need-f32-to-f64-with-nan-requires Inv-loop μ-loop
 f32-to-f64-with-nan-requires c κs = search needs
 
-moved-on-requires : tie.Need-moved-on-requires Inv-loop μ-loop
-moved-on-requires c κs = search needs
+scrolled-on-requires : tie.Need-scrolled-on-requires Inv-loop μ-loop
+scrolled-on-requires c κs = search needs
 
 mul-f32-to-f64-with-nan-2 : tie.Need-mul-f32-to-f64-with-nan-2 Inv-loop μ-loop
 mul-f32-to-f64-with-nan-2 c = search needs
@@ -48,16 +48,16 @@ loop-less : tie.Need-loop-less Inv-loop μ-loop
 loop-less c = search needs
 
 loop-again : tie.Need-loop-again Inv-loop μ-loop
-loop-again c = 
+loop-again c =
     let moved = c .before .before in
     let widened = moved .before .before in
     let turn = widened .before .before in
     let start = turn .before .before .before .before in
-    rw (moved .moved-on .ensures, widened .f32-to-f64-with-nan .ensures, c .f32-to-f64-with-nan2 .ensures)
+    rw (moved .scrolled-on .ensures, widened .f32-to-f64-with-nan .ensures, c .f32-to-f64-with-nan2 .ensures)
     (walk-turned (start .args .beat) (start .args .scroll-beats .now) (start .args .scroll-ratios .now) (turn .before .loop .inv) (start .pre) (turn .loop-test .taken) (rw (widened .f32-to-f64-with-nan .ensures) at (moved .before .if1 .taken)))
 
 returns : tie.Need-returns Inv-loop μ-loop
-returns c = 
+returns c =
     let widened = c .before .before in
     let turn = widened .before .before in
     let start = turn .before .before .before .before in
@@ -68,7 +68,7 @@ displayed-from-requires : tie.Need-displayed-from-requires Inv-loop μ-loop
 displayed-from-requires c κs = search needs
 
 returns-2 : tie.Need-returns-2 Inv-loop μ-loop
-returns-2 c = 
+returns-2 c =
     let widened = c .before .before .before in
     let turn = widened .before .before in
     let start = turn .before .before .before .before in
@@ -76,7 +76,7 @@ returns-2 c =
     c .displayed-from .ensures ∙ walked-some (start .args .beat) (start .args .scroll-beats .now) (start .args .scroll-ratios .now) (turn .before .loop .inv) stays (start .pre) (c .before .if2 .left)
 
 returns-3 : tie.Need-returns-3 Inv-loop μ-loop
-returns-3 c = 
+returns-3 c =
     let end = c .before in
     let start = end .before .before .before .before in
     let none = all-passed (start .args .beat) (start .args .scroll-beats .now) (start .args .scroll-ratios .now) (end .before .loop .inv) (end .loop-test .left) in
@@ -86,7 +86,7 @@ displayed-from-requires-2 : tie.Need-displayed-from-requires-2 Inv-loop μ-loop
 displayed-from-requires-2 c κs = search needs
 
 returns-4 : tie.Need-returns-4 Inv-loop μ-loop
-returns-4 c = 
+returns-4 c =
     let end = c .before .before in
     let start = end .before .before .before .before in
     let none = all-passed (start .args .beat) (start .args .scroll-beats .now) (start .args .scroll-ratios .now) (end .before .loop .inv) (end .loop-test .left) in
@@ -102,7 +102,7 @@ walk-to-spec =
     mul-f32-to-f64-with-nan
     shared-slice-read-f32-to-f64-with-nan
     f32-to-f64-with-nan-requires
-    moved-on-requires
+    scrolled-on-requires
     mul-f32-to-f64-with-nan-2
     shared-slice-read-f32-to-f64-with-nan-2
     f32-to-f64-with-nan-requires-2
