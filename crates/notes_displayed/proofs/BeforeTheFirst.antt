@@ -10,7 +10,7 @@ use lib.Ieee.{Float, fin, binary64, fits, lt, le, add, sub, mul, neg, sum, round
 use lib.Ieee.Scale.{finite}
 use Rattle.ieee.specs.Constants.{plusZero}
 use Rattle.ieee.proofs.FloatOrder.{lt-not-le}
-use Rattle.notes_displayed.specs.Scrolls.{ratioBefore, upToBeat, behindScrolls, displayedBeat}
+use Rattle.notes_displayed.specs.Scrolls.{ratioBefore, reaches, upToBeat, behindScrolls, displayedBeat}
 
 pub no-scrolls : (ratios : List Float) (at : Float) → displayedBeat [] ratios at ≡ at
 unfolding displayedBeat upToBeat behindScrolls
@@ -24,5 +24,5 @@ not-up-to b at hb ha l = go (le b at) refl
     go false e = refl
 
 pub before-first : (b : Float) (beats ratios : List Float) (at : Float) → T (finite b) → T (finite at) → lt at b ≡ true → displayedBeat (b ∷ beats) ratios at ≡ at
-unfolding displayedBeat upToBeat behindScrolls
+unfolding displayedBeat upToBeat reaches behindScrolls
 before-first b beats ratios at hb ha l = rw (not-up-to b at hb ha l)

@@ -6,7 +6,7 @@ use mathlib.Core.List.{List, [], _∷_}
 use native.Mathlib.Omega.{arith}
 use lib.Dec.{T, eqb}
 use lib.ListN.{length, getD, List·getD-append}
-use lib.Ieee.{Float, nan, binary32, fits, le}
+use lib.Ieee.{Float, nan, binary32, fits}
 use borrow.Author.Tests.{eqb-false}
 use Rattle.picks.specs.Pick.{pick}
 use Rattle.limits.proofs.NoRefusal.{none-lower}
@@ -15,7 +15,7 @@ use Rattle.order_search.specs.Search.{placeOf, SplitBy}
 use Rattle.order_search.specs.F32UpTo.{f32UpTo}
 use Rattle.order_search.proofs.OrderedSplits.{ordered-splits}
 use Rattle.order_search.proofs.F32UpToIsLe.{f32-up-to-is-le}
-use Rattle.notes_displayed.specs.Scrolls.{scrollPrefix, upToBeat, displayedFrom, behindScrolls, displayedBeat, displayedBy}
+use Rattle.notes_displayed.specs.Scrolls.{scrollPrefix, reaches, upToBeat, displayedFrom, behindScrolls, displayedBeat, displayedBy}
 use Rattle.notes_displayed.specs.Answers.{scrollColumnsNumber, displayedNumber, displayedAt, checkedAt}
 use Rattle.notes_displayed.proofs.OneStepOn.{prefix-length}
 use Rattle.notes_displayed.proofs.ScrollsTaken.{scrolls-taken, beats-in-order}
@@ -24,7 +24,7 @@ use Rattle.notes_displayed.proofs.ScrollsTaken.{scrolls-taken, beats-in
 pub up-to-few : (at : Float) (beats : List Float) → upToBeat at beats ≤ length beats
 unfolding upToBeat
 up-to-few at [] = omega arith
-up-to-few at (b ∷ beats) = go (le b at) (up-to-few at beats)
+up-to-few at (b ∷ beats) = go (reaches b at) (up-to-few at beats)
   where
     go : (t : Bool) → upToBeat at beats ≤ length beats → pick t (suc (upToBeat at beats)) 0 ≤ length (b ∷ beats)
     go true h = omega arith
@@ -32,7 +32,7 @@ up-to-few at (b ∷ beats) = go (le b at) (up-to-few at beats)
 
 -- where a list is split by a beat, the entries before are those that are counted
 pub split-counts : (at : Float) (beats : List Float) (n : ℕ) → SplitBy at beats n → n ≡ upToBeat at beats
-unfolding upToBeat
+unfolding upToBeat reaches
 split-counts at [] n s = omega (arith, s .within)
 split-counts at (b ∷ beats) zero s = rw (s .after 0 (omega arith) (omega arith))
 split-counts at (b ∷ beats) (suc n) s = rw (s .before 0 (omega arith)) (ap suc (split-counts at beats n (record {
@@ -53,7 +53,7 @@ front-read beats ratios prefix room n at few = go (eqb n 0) (eqb-false n 0)
 
 -- f32s at or before a beat are those at or before its f32
 as-f32 : (at : Float) (beats : List Float) → ((i : ℕ) → T (fits binary32 (getD beats i nan))) → upToBeat (f32UpTo at) beats ≡ upToBeat at beats
-unfolding upToBeat
+unfolding upToBeat reaches
 as-f32 at [] f32 = refl
 as-f32 at (b ∷ beats) f32 = rw (f32-up-to-is-le b at (f32 0), as-f32 at beats (λ i. f32 (suc i)))
 

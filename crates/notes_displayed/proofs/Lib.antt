@@ -6,3 +6,5 @@ pub mod BeforeTheFirst
 pub mod TheLastCounts
 pub mod Outcomes
 pub mod OneOutcome
+pub mod RatioOne
+pub mod AnExample

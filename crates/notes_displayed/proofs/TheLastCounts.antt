@@ -9,7 +9,7 @@ use lib.Ieee.{Float, nan, le}
 use borrow.Author.Tests.{ne-eqb}
 use Rattle.ieee.specs.Constants.{plusZero}
 use Rattle.order_search.specs.Search.{SplitBy}
-use Rattle.notes_displayed.specs.Scrolls.{scrolledOn, prefixFrom, ratioBefore, scrollPrefix, upToBeat, displayedFrom, behindScrolls, displayedBeat}
+use Rattle.notes_displayed.specs.Scrolls.{scrolledOn, prefixFrom, ratioBefore, scrollPrefix, reaches, upToBeat, displayedFrom, behindScrolls, displayedBeat}
 use Rattle.notes_displayed.proofs.CheckedIsTested.{split-counts}
 
 -- with n + 1 scrolls at or before the beat and no more, the one at place n draws it
@@ -23,5 +23,5 @@ last-counts beats ratios at n split =
 -- two scrolls on one beat: from there on the second ratio draws, and the first has moved nothing but what a step of no length moves
 pub equal-beats-last-counts : (b first second : Float) (at : Float) → le b at ≡ true
     → displayedBeat (b ∷ b ∷ []) (first ∷ second ∷ []) at ≡ displayedFrom (scrolledOn (scrolledOn plusZero plusZero ratioBefore b) b first b) b second at
-unfolding displayedBeat behindScrolls upToBeat scrollPrefix prefixFrom
+unfolding displayedBeat behindScrolls upToBeat reaches scrollPrefix prefixFrom
 equal-beats-last-counts b first second at passes = rw passes

@@ -8,11 +8,11 @@ use native.Mathlib.Omega.{arith}
 use lib.Dec.{eqb}
 use lib.ListN.{length, drop, getD, drop-of-length-le}
 use lib.Seq.{drop-cons}
-use lib.Ieee.{Float, nan, le}
+use lib.Ieee.{Float, nan}
 use borrow.Author.Tests.{eq-eqb, ne-eqb}
 use Rattle.ieee.specs.Constants.{plusZero}
 use Rattle.picks.specs.Pick.{pick}
-use Rattle.notes_displayed.specs.Scrolls.{scrolledOn, prefixFrom, ratioBefore, scrollPrefix, upToBeat, displayedFrom, behindScrolls, displayedBeat}
+use Rattle.notes_displayed.specs.Scrolls.{scrolledOn, prefixFrom, ratioBefore, scrollPrefix, reaches, upToBeat, displayedFrom, behindScrolls, displayedBeat}
 use Rattle.notes_displayed.specs.inside.Steps.{walked}
 
 -- the last of n entries, or what stood before them
@@ -37,7 +37,7 @@ module _ (at : Float) where
   unfolding walked prefixFrom upToBeat
   walked-is shown from ratio [] ratios even = refl
   walked-is shown from ratio (b ∷ beats) [] even = absurd (omega arith)
-  walked-is shown from ratio (b ∷ beats) (r ∷ ratios) even = go (le b at) (walked-is (scrolledOn shown from ratio b) b r beats ratios (omega arith))
+  walked-is shown from ratio (b ∷ beats) (r ∷ ratios) even = go (reaches b at) (walked-is (scrolledOn shown from ratio b) b r beats ratios (omega arith))
     where
       go : (t : Bool) → walked (scrolledOn shown from ratio b) b r beats ratios at ≡ lastOf (scrolledOn shown from ratio b) b r beats ratios (prefixFrom (scrolledOn shown from ratio b) b r beats ratios) (upToBeat at beats) at
           → pick t (walked (scrolledOn shown from ratio b) b r beats ratios at) (displayedFrom shown from ratio at)
@@ -54,7 +54,7 @@ module _ (at : Float) where
   unfolding walked upToBeat
   none-passed shown from ratio [] ratios h = refl
   none-passed shown from ratio (b ∷ beats) [] h = refl
-  none-passed shown from ratio (b ∷ beats) (r ∷ ratios) h = go (le b at) h
+  none-passed shown from ratio (b ∷ beats) (r ∷ ratios) h = go (reaches b at) h
     where
       go : (t : Bool) → pick t (suc (upToBeat at beats)) 0 ≡ 0 → pick t (walked (scrolledOn shown from ratio b) b r beats ratios at) (displayedFrom shown from ratio at) ≡ displayedFrom shown from ratio at
       go true h = absurd (omega arith)
@@ -71,7 +71,7 @@ module _ (at : Float) where
     walk-begun = record { inside = omega arith; counted = omega arith; same = refl }
 
     module _ {shown from ratio : Float} {i : ℕ} (so-far : Walking shown from ratio i) where
-      pub walk-turned : length beats ≡ length ratios → i < length beats → le (getD beats i nan) at ≡ true
+      pub walk-turned : length beats ≡ length ratios → i < length beats → reaches (getD beats i nan) at ≡ true
           → Walking (scrolledOn shown from ratio (getD beats i nan)) (getD beats i nan) (getD ratios i nan) (i + 1)
       unfolding walked upToBeat
       walk-turned even more passes =
@@ -86,7 +86,7 @@ module _ (at : Float) where
           one-more = rw (add-one i, drop-cons beats i nan more, passes)
 
       -- the next one is not passed
-      pub next-stays : i < length beats → le (getD beats i nan) at ≡ false → upToBeat at (drop i beats) ≡ 0
+      pub next-stays : i < length beats → reaches (getD beats i nan) at ≡ false → upToBeat at (drop i beats) ≡ 0
       unfolding upToBeat
       next-stays more stays = rw (drop-cons beats i nan more, stays)
 

@@ -33,10 +33,14 @@ scrollPrefix beats ratios = prefixFrom plusZero plusZero ratioBefore beats ratio
 
 -- ---- a beat
 
--- how many scrolls are at or before a beat: their beats never fall, so these come first, and of equal ones all count
+-- a scroll counts from its own beat on
+unfoldable pub reaches : (scroll at : Float) → Bool
+reaches scroll at = le scroll at
+
+-- how many scrolls are at or before a beat: their beats never fall, so these come first, and of scrolls on one beat all count
 unfoldable pub upToBeat : Float → List Float → ℕ
 upToBeat at [] = 0
-upToBeat at (b ∷ beats) = pick (le b at) (suc (upToBeat at beats)) 0
+upToBeat at (b ∷ beats) = pick (reaches b at) (suc (upToBeat at beats)) 0
 
 -- behind a scroll at which the display has moved so far: the difference is rounded, and then product and sum together, once
 unfoldable pub displayedFrom : (shown from ratio at : Float) → Float

@@ -3,6 +3,7 @@ use Prim.Native.Nat.{_-_}
 use mathlib.Core.Path.{_∙_}
 use lib.ListN.{length}
 use lib.Ieee.{ofBits}
+use Rattle.notes_displayed.specs.Scrolls.{reaches}
 use Rattle.notes_displayed.proofs.WalkedTo.{Walking, walk-begun, walk-turned, next-stays, all-passed, walked-none, walked-some}
 use borrow.Author.Needs.{needs}
 use Rattle.notes_displayed.proofs.walk_to.Statement.{statement}
@@ -48,6 +49,7 @@ loop-less : tie.Need-loop-less Inv-loop μ-loop
 loop-less c = search needs
 
 loop-again : tie.Need-loop-again Inv-loop μ-loop
+unfolding reaches
 loop-again c =
     let moved = c .before .before in
     let widened = moved .before .before in
@@ -57,6 +59,7 @@ loop-again c =
     (walk-turned (start .args .beat) (start .args .scroll-beats .now) (start .args .scroll-ratios .now) (turn .before .loop .inv) (start .pre) (turn .loop-test .taken) (rw (widened .f32-to-f64-with-nan .ensures) at (moved .before .if1 .taken)))
 
 returns : tie.Need-returns Inv-loop μ-loop
+unfolding reaches
 returns c =
     let widened = c .before .before in
     let turn = widened .before .before in
@@ -68,6 +71,7 @@ displayed-from-requires : tie.Need-displayed-from-requires Inv-loop μ-loop
 displayed-from-requires c κs = search needs
 
 returns-2 : tie.Need-returns-2 Inv-loop μ-loop
+unfolding reaches
 returns-2 c =
     let widened = c .before .before .before in
     let turn = widened .before .before in
