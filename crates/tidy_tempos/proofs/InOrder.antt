@@ -1,7 +1,7 @@
 -- Whether beats never fall, from one beat on: by the test of it and the next; and beats that are numbers never fall where their keys do not. Assumes nothing.
 use Prim.Native.Nat.{ℕ, suc, _+_, _≤_, _<_}
 use mathlib.Core.Path.{_≡_, refl, sym, ap, _∙_}
-use mathlib.Core.Bool.{Bool, true, false, not, cond}
+use mathlib.Core.Bool.{Bool, true, false, not}
 use mathlib.Core.Logic.{inl, inr}
 use mathlib.Core.List.{List, [], _∷_, map}
 use native.Mathlib.Numerals.{add-one}
@@ -63,6 +63,6 @@ module _ {A : Type 0} (f : Format) (beat : A → Float) where
       (go (ltb (key next) (key x)) (in-order-by-key (next ∷ list) (ps .1)))
     where
       go : (falls : Bool) → inOrder (map beat (next ∷ list)) ≡ neverFalls key (next ∷ list)
-          → pick falls false (inOrder (map beat (next ∷ list))) ≡ cond (not falls) (neverFalls key (next ∷ list)) false
+          → pick falls false (inOrder (map beat (next ∷ list))) ≡ pick (not falls) (neverFalls key (next ∷ list)) false
       go true e = refl
       go false e = e

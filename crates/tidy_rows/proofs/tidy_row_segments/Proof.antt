@@ -4,7 +4,8 @@ use native.Mathlib.Omega.{arith}
 use lib.ListN.{length}
 use Rattle.limits.proofs.ListTaken.{list-taken}
 use Rattle.columns.proofs.Rooms.{refused-by-tests}
-use Rattle.tidy_rows_sort.proofs.Outcomes.{taken-sizes, numbered}
+use Rattle.limits.proofs.Sizes.{taken-sizes}
+use Rattle.tidy_rows_sort.proofs.Outcomes.{numbered}
 use Rattle.tidy_rows.specs.RowTidying.{tidyRows, rowsNumber}
 use borrow.Author.Needs.{needs}
 use Rattle.tidy_rows.proofs.tidy_row_segments.Statement.{statement}
