@@ -1,3 +1,4 @@
+pub mod Allowed
 pub mod RowValue
 pub mod RowOfZero
 pub mod RowOfBeat

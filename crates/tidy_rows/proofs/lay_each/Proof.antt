@@ -7,9 +7,9 @@ use lib.Ieee.{Float, nan}
 use lib.ListN.{length}
 use Rattle.columns.proofs.LaidEach.{LayingEach, begun, turned, ended}
 use Rattle.columns.proofs.EachOverFront.{each-over-front}
+use Rattle.rows.proofs.Allowed.{allowed-at}
 use Rattle.tidy_rows.specs.RowTidying.{onRow}
 use Rattle.tidy_rows.proofs.BothWays.{each-beat, each-value}
-use Rattle.tidy_rows.proofs.TakenBeats.{allowed-at}
 use borrow.Author.Needs.{needs}
 use Rattle.tidy_rows.proofs.lay_each.Statement.{statement}
 use Rattle.tidy_rows.proofs.lay_each.Tie as tie

@@ -8,7 +8,7 @@ use Rattle.order.specs.Entries.{entries}
 use Rattle.order.proofs.Columns.{length-entries, entries-getD}
 use Rattle.order.proofs.LastEntries.{repeat-few}
 use Rattle.columns.proofs.LastsLaid.{LastsLaying, lasts-none, lasts-room, lasts-turn, lasts-all}
-use Rattle.tidy_rows.proofs.TakenBeats.{allowed-at}
+use Rattle.rows.proofs.Allowed.{allowed-at}
 use Rattle.tidy_rows.specs.RowTidying.{rowKeyAt, rowKeyOf, onItsRow}
 use borrow.Author.Needs.{needs}
 use Rattle.tidy_rows.proofs.lay_lasts.Statement.{statement}
