@@ -17,8 +17,8 @@ use Rattle.limits.proofs.Every.{every-rest}
 use Rattle.limits.proofs.ListTaken.{list-taken}
 use Rattle.order.specs.Order.{Above, Rises}
 use Rattle.order.specs.Entries.{first, second}
-use Rattle.order.specs.RowKey.{rowKey}
-use Rattle.order.proofs.RowKeys.{rows-below}
+use Rattle.rows.specs.RowKey.{rowKey}
+use Rattle.rows.proofs.RowKeys.{rows-below}
 use Rattle.clock_tests.specs.TimingNumbers.{risesFrom, rises}
 use Rattle.lookup.specs.Lookups.{isBelow, rowsRise, risingNumber}
 use Rattle.assembly_rows.specs.AssembledRows.{assembledRows, assembledNumber}

@@ -21,7 +21,7 @@ use Rattle.order.specs.FloatKey.{floatKey}
 use Rattle.order.proofs.FloatKeys.{floats-below}
 use Rattle.order.proofs.OrderedList.{Each}
 use Rattle.order.proofs.EachEntry.{each-so, rises-map}
-use Rattle.tidy_rows.specs.RowTidying.{rowKeyAt, rowKeyOf}
+use Rattle.rows.specs.RowKey.{rowKeyAt, rowKeyOf}
 use Rattle.tidy_tempos.specs.TempoTidying.{beatKeyOf, fromZero, changes, tidyTempos}
 use Rattle.clock_tests.specs.TimingNumbers.{rises, startsAtZero}
 use Rattle.assembly_rows.specs.AssembledRows.{narrowedEntry}

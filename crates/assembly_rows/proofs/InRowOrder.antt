@@ -23,9 +23,8 @@ use Rattle.limits.specs.declared.Kind.the-variants.{Beat}
 use Rattle.limits.specs.Numbers.{inRange, rangeOf, allIn, mostRow}
 use Rattle.limits.proofs.Every.{every-rest}
 use Rattle.order.specs.Order.{mayPrecede, neverFalls, Above, Rises}
-use Rattle.order.specs.RowKey.{rowKey}
-use Rattle.order.proofs.RowKeys.{rows-below, rows-at-most}
-use Rattle.tidy_rows.specs.RowTidying.{rowKeyAt}
+use Rattle.rows.specs.RowKey.{rowKey, rowKeyAt}
+use Rattle.rows.proofs.RowKeys.{rows-below, rows-at-most}
 use Rattle.limits.specs.Neighbours.{neighbours, everyTwo, notFalling}
 use Rattle.rows.proofs.Allowed.{taken-allowed, allowed-finite}
 

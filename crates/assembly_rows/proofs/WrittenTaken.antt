@@ -28,7 +28,8 @@ use Rattle.limits.proofs.TakenWithin.{taken-within, within-taken}
 use Rattle.order.specs.Entries.{entries, first, second}
 use Rattle.order.proofs.OrderedList.{Each}
 use Rattle.order.proofs.EachEntry.{each-tidied}
-use Rattle.tidy_rows.specs.RowTidying.{onRow, rowKeyOf, onItsRow, tidyRows}
+use Rattle.tidy_rows.specs.RowTidying.{tidyRows}
+use Rattle.rows.specs.RowKey.{onRow, rowKeyOf, onItsRow}
 use Rattle.tidy_rows.proofs.NoLonger.{tidy-no-longer}
 use Rattle.tidy_rows.proofs.RowsRise.{Allowed, kept-allowed}
 use Rattle.rows.proofs.Allowed.{allowed-taken}

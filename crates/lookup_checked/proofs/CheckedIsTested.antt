@@ -29,8 +29,8 @@ use Rattle.limits.specs.Refusals.{lower}
 use Rattle.limits.proofs.NoRefusal.{lower-none}
 use Rattle.limits.proofs.ListTaken.{Taken}
 use Rattle.limits.proofs.Every.{every-at}
-use Rattle.order.specs.RowKey.{rowKey}
-use Rattle.order.proofs.RowKeys.{rows-at-most}
+use Rattle.rows.specs.RowKey.{rowKey}
+use Rattle.rows.proofs.RowKeys.{rows-at-most}
 use Rattle.lookup_tests.proofs.RowsRise.{Rising, rises}
 use Rattle.lookup.specs.inside.Finding.{keyAt, Passed, Split}
 use Rattle.lookup.specs.Lookups.{keyOf, rowsRise, risingNumber, askedNumber, warpNumber, fakeNumber, judgableNumber, warpCovers, fakeCovers, lastPasses, isPaused, isWarped, isFake, isJudgable, askedRow, looked}

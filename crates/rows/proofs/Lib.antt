@@ -14,3 +14,4 @@ pub mod RowByHalves
 pub mod Quantizing
 pub mod RowBySum
 pub mod RowMarks
+pub mod RowKeys

@@ -13,7 +13,7 @@ use Rattle.limits.proofs.Every.{every-rest, every-at}
 use Rattle.order.specs.Entries.{entries}
 use Rattle.order.proofs.OrderedList.{Each}
 use Rattle.rows.proofs.Allowed.{taken-allowed}
-use Rattle.tidy_rows.specs.RowTidying.{rowKeyOf}
+use Rattle.rows.specs.RowKey.{rowKeyOf}
 
 pub beats-allowed : (beats values : List Float) → allIn (rangeOf Beat) beats ≡ true → Each rowKeyOf (λ (e : Float × Float). T (allowedBeat (e .0))) (entries beats values)
 unfolding entries

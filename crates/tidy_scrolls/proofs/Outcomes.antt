@@ -22,7 +22,7 @@ use Rattle.order.specs.Entries.{entries}
 use Rattle.order.proofs.Columns.{length-entries}
 use Rattle.columns.specs.Laying.{refusedBy}
 use Rattle.columns.proofs.Rooms.{refused-by-tests, refused-for-room, taken}
-use Rattle.tidy_rows.specs.RowTidying.{rowKeyAt, onItsRow}
+use Rattle.rows.specs.RowKey.{rowKeyAt, onItsRow}
 use Rattle.tidy_rows.specs.inside.Ways.{Laid}
 use Rattle.tidy_kept.specs.Near.{nearTo}
 use Rattle.tidy_kept.specs.Passing.{stillWritten}

@@ -10,7 +10,7 @@ use lib.Ieee.{Float, nan}
 use Rattle.picks.specs.Pick.{pick}
 use Rattle.order.specs.Entries.{entries, first, second}
 use Rattle.order.proofs.Columns.{length-entries, entries-getD}
-use Rattle.tidy_rows.specs.RowTidying.{rowKeyAt, onItsRow}
+use Rattle.rows.specs.RowKey.{rowKeyAt, onItsRow}
 use Rattle.tidy_rows.specs.inside.Ways.{Laid}
 use Rattle.tidy_kept.specs.Near.{nearTo}
 use Rattle.tidy_kept.specs.Passing.{Waiting, entryPassed, stillWritten}

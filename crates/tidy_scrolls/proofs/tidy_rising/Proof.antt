@@ -10,7 +10,7 @@ use Rattle.order.specs.Order.{laid}
 use Rattle.order.specs.Entries.{entries, first, second}
 use Rattle.order.proofs.Columns.{length-entries}
 use Rattle.columns.proofs.EachOverFront.{copied-over-front}
-use Rattle.tidy_rows.specs.RowTidying.{rowKeyAt, onItsRow}
+use Rattle.rows.specs.RowKey.{rowKeyAt, onItsRow}
 use Rattle.tidy_rows.proofs.BothWays.{each-beat, each-value}
 use Rattle.tidy_kept.specs.Near.{nearTo}
 use Rattle.tidy_kept.specs.Passing.{stillWritten}
