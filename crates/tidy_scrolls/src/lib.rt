@@ -16,7 +16,7 @@ ghost use Rattle.limits.specs.Refusals.{listNumber};
 ghost use Rattle.order.specs.Order.{neverFalls};
 ghost use Rattle.order.specs.Entries.{entries};
 ghost use Rattle.rows.specs.RowKey.{rowKeyAt, onRow, onItsRow};
-ghost use Rattle.tidy_rows.specs.inside.Ways.{Laid};
+ghost use Rattle.columns.specs.Laying.{Laid};
 ghost use Rattle.tidy_by_rows.specs.ByMarks.{rowRises};
 ghost use Rattle.tidy_kept.specs.Near.{nearTo};
 ghost use Rattle.tidy_kept.specs.Passing.{comes, entryPassed, stillWritten};
