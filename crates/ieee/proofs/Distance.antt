@@ -39,7 +39,7 @@ abs-signed true zero true (suc b) = omega arith
 abs-signed true (suc a) true zero = abs-sub 0 (suc a) ∙ omega arith
 abs-signed true (suc a) true (suc b) = abs-sub (suc b) (suc a) ∙ omega arith
 
-signed-mul : (s : Bool) (a c : ℕ) → signed s a *ℤ pos c ≡ signed s (a * c)
+pub signed-mul : (s : Bool) (a c : ℕ) → signed s a *ℤ pos c ≡ signed s (a * c)
 signed-mul false a c = refl
 signed-mul true zero c = rw zero-mul
 signed-mul true (suc a) c = refl

@@ -33,3 +33,7 @@ pub mod AnchorPattern
 pub mod NarrowBySum
 pub mod WholeByBias
 pub mod NarrowedSum
+pub mod ShiftedSize
+pub mod PatternValue
+pub mod SumBySigns
+pub mod NarrowOnce

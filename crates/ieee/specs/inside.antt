@@ -1,2 +1,5 @@
 pub mod FloatEnds
 pub mod Spacing
+pub mod PatternParts
+pub mod SumSize
+pub mod Harmless
