@@ -1,10 +1,10 @@
 -- A sum of two fractions ±a / c and ±b / c, over the format: it is the exact sum, rounded once; so it keeps the order of exact sums; its sign and its size; and what it is where nothing is left. Assumes nothing.
 use mathlib.Core.Path.{_≡_, refl, sym, ap, _∙_, subst, subst₂}
-use mathlib.Core.Logic.{inl, inr}
+use mathlib.Core.Logic.{_⊎_, inl, inr}
 use Prim.Native.Nat.{ℕ, zero, suc, _+_, _-_, _*_, _≤_, _<_, zero-le}
 use native.Mathlib.Omega.{arith}
 use mathlib.Core.Bool.{Bool, true, false, not, _&&_, Bool·beq, cond}
-use lib.IntN.{ℤ, pos, negℤ, subℕ, _+ℤ_, _*ℤ_}
+use lib.IntN.{ℤ, pos, negℤ, natAbs, subℕ, _+ℤ_, _*ℤ_}
 use lib.Signed.{_≤ℤ_}
 use lib.Dec.{T, ltb}
 use lib.Ieee.{Float, fin, Format, round, sum, le}
@@ -14,6 +14,7 @@ use Rattle.ieee.specs.Constants.{plusZero}
 use Rattle.ieee.specs.inside.SumSize.{sumSize}
 use Rattle.ieee.proofs.Closest.{lt-or-ge}
 use Rattle.ieee.proofs.Distance.{signed-mul}
+use Rattle.ieee.proofs.SignedSizes.{natAbs-signed}
 use Rattle.ieee.proofs.KeepsOrder.{round-zero, round-keeps-order}
 
 -- ---- a difference of whole numbers by its sign and its size
@@ -36,6 +37,26 @@ minus-both zero zero = refl
 minus-both zero (suc b) = let e : suc b - 0 ≡ 0 + suc b = omega arith in difference-below 0 (suc b) (omega arith) ∙ ap (signed true) e
 minus-both (suc a) zero = let e : suc a - 0 ≡ suc a + 0 = omega arith in difference-below 0 (suc a) (omega arith) ∙ ap (signed true) e
 minus-both (suc a) (suc b) = let e : suc (suc (a + b)) ≡ suc a + suc b = omega arith in ap (signed true) e
+
+-- the size of a sum of whole numbers
+size-of-difference : (a b : ℕ) → natAbs (subℕ a b) ≡ sumSize false b a
+size-of-difference a b = elim (lt-or-ge b a) [
+  | inl l ↦ ap natAbs (difference a b (omega arith)) ∙ sym (rw (lt-ltb b a l) refl)
+  | inr l ↦ elim (lt-or-ge a b) [
+    | inl g ↦ ap natAbs (difference-below a b g) ∙ natAbs-signed true (b - a) ∙ sym (rw (le-ltb b a l) refl)
+    | inr g ↦ ap natAbs (difference a b g) ∙ sym (rw (le-ltb b a l) (omega arith))
+  ]
+]
+
+size-of-sum : (s t : Bool) (a b : ℕ) → natAbs (signed s a +ℤ signed t b) ≡ sumSize (Bool·beq s t) a b
+size-of-sum false false a b = refl
+size-of-sum true true a b = ap natAbs (minus-both a b) ∙ natAbs-signed true (a + b)
+size-of-sum true false a b = ap natAbs (minus-first a b) ∙ size-of-difference b a
+size-of-sum false true a b = ap natAbs (minus-second a b) ∙ size-of-difference a b ∙ turned (lt-or-ge a b)
+  where
+    turned : (a < b) ⊎ (b ≤ a) → sumSize false b a ≡ sumSize false a b
+    turned (inl l) = rw (lt-ltb a b l, le-ltb b a (omega arith)) refl
+    turned (inr l) = elim (lt-or-ge b a) [ inl g ↦ rw (le-ltb a b l, lt-ltb b a g) refl | inr g ↦ rw (le-ltb a b l, le-ltb b a g) (omega arith) ]
 
 module _ (f : Format) where
   -- ---- a sum is the exact sum, rounded: n with the sign v is the sum of the two tops
@@ -97,6 +118,9 @@ module _ (f : Format) where
   sum-zero false false a b c C J = round-zero f false (a + b) c C J
   sum-zero true false a b c C J = let h = none-below a b J in rw (le-ltb a b (h .0), le-ltb b a (h .1)) (round-zero f false (a - b) c C (omega arith))
   sum-zero false true a b c C J = let h = none-below a b J in rw (le-ltb a b (h .0)) (round-zero f false (a - b) c C (omega arith))
+
+  pub exact-zero-sum : (s t : Bool) (a b c : ℕ) → 0 < c → signed s a +ℤ signed t b ≡ pos 0 → sum f s a t b c ≡ fin (s && t) 0 (pos 0)
+  exact-zero-sum s t a b c C e = sum-zero s t a b c C (sym (size-of-sum s t a b) ∙ ap natAbs e)
 
   -- what cancelled is +0
   pub sum-cancelled : (s t : Bool) (a b c : ℕ) → 0 < c → 0 < a → sumSize (Bool·beq s t) a b ≡ 0 → sum f s a t b c ≡ plusZero
