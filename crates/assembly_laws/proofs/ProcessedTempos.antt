@@ -11,7 +11,7 @@ use Rattle.order.specs.Entries.{first, second}
 use Rattle.process_raw.specs.RawLists.{rawNumbers}
 use Rattle.process_raw.proofs.BothTaken.{both-taken}
 use Rattle.process_ssc.specs.Ssc.{stayedSsc}
-use Rattle.process_sm_lent.specs.Sm.{smWritten}
+use Rattle.process_sm_walk_raw.specs.RawWalk.{smWritten}
 use Rattle.chart.specs.declared.TimingFormat.{TimingFormat}
 use Rattle.chart.specs.declared.TimingFormat.the-variants.{Sm, Ssc}
 use Rattle.process.specs.ByFormat.{tempoBeatsOf, tempoValuesOf, listsBy, processedLists}

@@ -15,16 +15,16 @@ use Rattle.limits.specs.Numbers.{rangeOf, inRange, allIn, every}
 use Rattle.limits.specs.Refusals.{listNumber}
 use Rattle.limits.proofs.Every.{every-rest}
 use Rattle.limits.proofs.ListTaken.{list-taken}
-use Rattle.limits.proofs.TakenWithin.{taken-within}
 use Rattle.order.specs.Order.{Above, Rises}
 use Rattle.order.specs.Entries.{first, second}
-use Rattle.order.specs.RowKey.{rowKey}
-use Rattle.order.proofs.RowKeys.{rows-below}
+use Rattle.rows.specs.RowKey.{rowKey}
+use Rattle.rows.proofs.RowKeys.{rows-below}
 use Rattle.clock_tests.specs.TimingNumbers.{risesFrom, rises}
 use Rattle.lookup.specs.Lookups.{isBelow, rowsRise, risingNumber}
 use Rattle.assembly_rows.specs.AssembledRows.{assembledRows, assembledNumber}
 use Rattle.assembly_rows.proofs.WrittenRises.{rowKeyIn, written-rises}
 use Rattle.assembly_rows.proofs.WrittenTaken.{written-taken, written-pauses-taken}
+use Rattle.rows.proofs.Allowed.{taken-allowed}
 
 -- ---- rows that rise by key rise by the tests
 
@@ -34,8 +34,8 @@ unfolding risesFrom every
 above-rises a [] i h k r = refl
 above-rises a (b ∷ beats) i h k r =
     let both = every-rest (inRange (rangeOf Beat)) b beats h in
-    let wa = row-within binary64 a (taken-within 16 a i) in
-    let wb = row-within binary64 b (taken-within 16 b (both .0)) in
+    let wa = row-within binary64 a (taken-allowed a i) in
+    let wb = row-within binary64 b (taken-allowed b (both .0)) in
     let below : ltZ (row binary64 a) (row binary64 b) ≡ true = rows-below (row binary64 a) (row binary64 b) (in-i32 (row binary64 a) wa) (in-i32 (row binary64 b) wb) ∙ lt-ltb (rowKeyIn binary64 a) (rowKeyIn binary64 b) (k .0) in
     rw below (above-rises b beats (both .0) (both .1) (r .0) (r .1))
 

@@ -11,20 +11,17 @@ use lib.Ieee.{Float, binary32, binary64, isNan, fits, ofInt, lt, eq}
 use lib.Ieee.Fits.{div-fits, fits-widens}
 use Rattle.ieee.specs.Narrowing.{narrow}
 use Rattle.ieee.proofs.Narrow.{narrow-own}
-use Rattle.ieee.proofs.Values.{finite-number}
-use Rattle.ieee.proofs.Magnitude.{within-finite}
 use Rattle.rows.specs.Rows.{row, quantized, allowedBeat}
 use Rattle.limits.specs.declared.Kind.the-variants.{Beat, Tempo}
 use Rattle.limits.specs.Numbers.{rangeOf, allIn, every}
 use Rattle.limits.specs.Refusals.{listNumber}
-use Rattle.limits.proofs.TakenWithin.{within-taken}
 use Rattle.order.specs.Order.{Above, Rises, tidied}
 use Rattle.order.specs.Entries.{entries, first, second}
 use Rattle.order.specs.FloatKey.{floatKey}
 use Rattle.order.proofs.FloatKeys.{floats-below}
 use Rattle.order.proofs.OrderedList.{Each}
 use Rattle.order.proofs.EachEntry.{each-so, rises-map}
-use Rattle.tidy_rows.specs.RowTidying.{rowKeyAt, rowKeyOf}
+use Rattle.rows.specs.RowKey.{rowKeyAt, rowKeyOf}
 use Rattle.tidy_tempos.specs.TempoTidying.{beatKeyOf, fromZero, changes, tidyTempos}
 use Rattle.clock_tests.specs.TimingNumbers.{rises, startsAtZero}
 use Rattle.assembly_rows.specs.AssembledRows.{narrowedEntry}
@@ -32,19 +29,17 @@ use Rattle.assembly_rows.proofs.InRowOrder.{quantized-below}
 use Rattle.limits.proofs.ListTaken.{list-passes}
 use Rattle.process.proofs.TemposOnGrid.{OnGrid, Narrowed}
 use Rattle.process.proofs.TidiedOnGrid.{Tidied}
+use Rattle.rows.proofs.Allowed.{allowed-taken, allowed-number}
 use Rattle.assembly_laws.proofs.RowLists.{key-rises}
 
 fits32 : (x : Float) → quantized x ≡ x → T (fits binary32 x)
 fits32 x e = subst (λ (y : Float). T (fits binary32 y)) e (div-fits binary32 (ofInt binary32 (row binary32 (narrow x))) (ofInt binary32 (pos 48)))
 
-number : (x : Float) → T (allowedBeat x) → T (not (isNan x))
-number x h = finite-number x (within-finite 16 x h)
-
 -- ---- beats on rows: an order by key is an order by row
 
 below : (x y : Float) → quantized x ≡ x → quantized y ≡ y → T (allowedBeat x) → T (allowedBeat y) → floatKey binary64 x < floatKey binary64 y → rowKeyAt x < rowKeyAt y
 below x y ex ey ax ay h =
-    let less : lt x y ≡ true = floats-below binary64 x y (fits-widens x (fits32 x ex)) (fits-widens y (fits32 y ey)) (number x ax) (number y ay) ∙ lt-ltb (floatKey binary64 x) (floatKey binary64 y) h in
+    let less : lt x y ≡ true = floats-below binary64 x y (fits-widens x (fits32 x ex)) (fits-widens y (fits32 y ey)) (allowed-number x ax) (allowed-number y ay) ∙ lt-ltb (floatKey binary64 x) (floatKey binary64 y) h in
     let rows : lt x y ≡ ltb (rowKeyAt x) (rowKeyAt y) = subst (λ (p : Float). lt p y ≡ ltb (rowKeyAt p) (rowKeyAt y)) ex (subst (λ (q : Float). lt (quantized x) q ≡ ltb (rowKeyAt (quantized x)) (rowKeyAt q)) ey (quantized-below x y ax ay)) in
     ltb-true (rowKeyAt x) (rowKeyAt y) (sym rows ∙ less)
 
@@ -76,7 +71,7 @@ same-beats (e ∷ list) p = rw (narrow-own (e .0) (fits32 (e .0) (p .0 .onRow)),
 beats-in : (list : List (Float × Float)) → Each beatKeyOf (OnGrid Narrowed) list → allIn (rangeOf Beat) (map first list) ≡ true
 unfolding every
 beats-in [] p = refl
-beats-in (e ∷ list) p = rw (within-taken 16 (e .0) (p .0 .allowed)) (beats-in list (p .1))
+beats-in (e ∷ list) p = rw (allowed-taken (e .0) (p .0 .allowed)) (beats-in list (p .1))
 
 values-in : (list : List (Float × Float)) → Each beatKeyOf (OnGrid Narrowed) list → allIn (rangeOf Tempo) (map second (map narrowedEntry list)) ≡ true
 unfolding every

@@ -13,22 +13,20 @@ use lib.Ieee.{Float, binary32, binary64, lt, le}
 use lib.Ieee.Bits.{is-true}
 use Rattle.ieee.specs.Narrowing.{narrow}
 use Rattle.ieee.proofs.FloatOrder.{lt-or-le}
-use Rattle.ieee.proofs.Magnitude.{within-finite}
 use Rattle.ieee.proofs.Narrow.{narrow-keeps-order}
-use Rattle.rows.specs.Rows.{row, quantized, allowedBeat, mostRow}
+use Rattle.rows.specs.Rows.{row, quantized, allowedBeat}
 use Rattle.rows.proofs.BeatsRise.{beat-order}
 use Rattle.rows.proofs.Quantizing.{narrow-allowed, row-quantized}
 use Rattle.rows.proofs.RowWithin.{row-within, in-i32}
 use Rattle.rows.proofs.RowsKeepOrder.{row-mono}
 use Rattle.limits.specs.declared.Kind.the-variants.{Beat}
-use Rattle.limits.specs.Numbers.{inRange, rangeOf, allIn}
+use Rattle.limits.specs.Numbers.{inRange, rangeOf, allIn, mostRow}
 use Rattle.limits.proofs.Every.{every-rest}
 use Rattle.order.specs.Order.{mayPrecede, neverFalls, Above, Rises}
-use Rattle.order.specs.RowKey.{rowKey}
-use Rattle.order.proofs.RowKeys.{rows-below, rows-at-most}
-use Rattle.tidy_rows.specs.RowTidying.{rowKeyAt}
-use Rattle.tidy_rows.proofs.TakenBeats.{taken-allowed}
+use Rattle.rows.specs.RowKey.{rowKey, rowKeyAt}
+use Rattle.rows.proofs.RowKeys.{rows-below, rows-at-most}
 use Rattle.limits.specs.Neighbours.{neighbours, everyTwo, notFalling}
+use Rattle.rows.proofs.Allowed.{taken-allowed, allowed-finite}
 
 -- the f32 row, which is the row of the quantised beat
 abbrev pub narrowRow : Float → ℤ
@@ -70,7 +68,7 @@ quantized-not-above : (x y : Float) → T (allowedBeat x) → T (allowedBeat y) 
 quantized-not-above x y p q h =
     let a = narrow-row-within x p in
     let b = narrow-row-within y q in
-    let below : T (le x y) = elim (lt-or-le y x (within-finite 16 y q) (within-finite 16 x p)) [ inl l ↦ absurd (not-both (lt y x) l (subst T (sym h) tt)) | inr g ↦ g ] in
+    let below : T (le x y) = elim (lt-or-le y x (allowed-finite y q) (allowed-finite x p)) [ inl l ↦ absurd (not-both (lt y x) l (subst T (sym h) tt)) | inr g ↦ g ] in
     let up = row-mono binary32 (narrow x) (narrow y) (narrow-allowed x p) (narrow-allowed y q) (narrow-keeps-order x y below) in
     leb-true (rowKeyAt (quantized x)) (rowKeyAt (quantized y))
     (ap₂ (λ (r s : ℤ). leb (rowKey r) (rowKey s)) (row-quantized x p binary64) (row-quantized y q binary64)

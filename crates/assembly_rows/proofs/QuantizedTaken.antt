@@ -28,8 +28,9 @@ use Rattle.limits.specs.declared.Kind.the-variants.{Beat, Value}
 use Rattle.limits.specs.Numbers.{inRange, rangeOf, every, allIn}
 use Rattle.limits.proofs.Every.{every-rest}
 use Rattle.limits.proofs.ListTaken.{list-taken, list-passes}
-use Rattle.limits.proofs.TakenWithin.{taken-within, within-taken}
+use Rattle.limits.proofs.TakenWithin.{within-taken}
 use Rattle.tidy_rows.specs.RowTidying.{rowsNumber}
+use Rattle.rows.proofs.Allowed.{taken-allowed, allowed-taken}
 use Rattle.assembly_rows.specs.AssembledRows.{changeBy, assembledNumber}
 
 -- ---- the beat of any row of an i32 is below 2 ^ 30
@@ -97,7 +98,7 @@ pub quantized-value-taken : (value : Float) → inRange (rangeOf Value) (quantiz
 quantized-value-taken value = within-taken 30 (quantized value) (sized-within 30 (quantized value) (beat-below (row binary32 (narrow value)) (held-small _)))
 
 pub quantized-beat-taken : (beat : Float) → inRange (rangeOf Beat) beat ≡ true → inRange (rangeOf Beat) (quantized beat) ≡ true
-quantized-beat-taken beat h = within-taken 16 (quantized beat) (quantized-allowed beat (taken-within 16 beat h))
+quantized-beat-taken beat h = allowed-taken (quantized beat) (quantized-allowed beat (taken-allowed beat h))
 
 -- ---- columns
 every-map : {A B : Type 0} (test : A → Bool) (other : B → Bool) (f : A → B) → ((x : A) → test x ≡ true → other (f x) ≡ true) → (l : List A) → every test l ≡ true → every other (map f l) ≡ true

@@ -21,10 +21,11 @@ use Rattle.order.specs.Entries.{entries, first}
 use Rattle.order.proofs.Columns.{first-entries}
 use Rattle.order.proofs.TidiedList.{tidied-still}
 use Rattle.columns.specs.Each.{laidEach}
-use Rattle.tidy_rows.specs.RowTidying.{rowKeyAt, onRow, rowKeyOf, onItsRow, tidyRows, rowsNumber}
-use Rattle.tidy_rows.proofs.TakenBeats.{taken-allowed}
+use Rattle.tidy_rows.specs.RowTidying.{tidyRows, rowsNumber}
+use Rattle.rows.specs.RowKey.{rowKeyAt, onRow, rowKeyOf, onItsRow}
 use Rattle.assembly_rows.specs.AssembledRows.{narrowedEntry, changeBy, assembledRows, eachByItself}
 use Rattle.limits.specs.Neighbours.{everyTwo}
+use Rattle.rows.proofs.Allowed.{taken-allowed}
 use Rattle.assembly_rows.proofs.InRowOrder.{narrowRow, narrow-row-within, rising-rows}
 use Rattle.assembly_rows.proofs.QuantizedTaken.{quantized-fits}
 

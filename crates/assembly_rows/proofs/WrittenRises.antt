@@ -11,11 +11,11 @@ use Rattle.rows.proofs.RowOfBeat.{row-of-beat}
 use Rattle.rows.proofs.RowWithin.{row-within}
 use Rattle.order.specs.Order.{tidied, Rises}
 use Rattle.order.specs.Entries.{entries, first}
-use Rattle.order.specs.RowKey.{rowKey}
+use Rattle.rows.specs.RowKey.{rowKey, onRow, rowKeyOf, onItsRow}
 use Rattle.order.proofs.OrderedList.{Each}
 use Rattle.order.proofs.TidiedList.{tidied-rises}
 use Rattle.order.proofs.EachEntry.{each-so, rises-map}
-use Rattle.tidy_rows.specs.RowTidying.{onRow, rowKeyOf, onItsRow, tidyRows}
+use Rattle.tidy_rows.specs.RowTidying.{tidyRows}
 use Rattle.tidy_rows.proofs.RowsRise.{kept-allowed}
 use Rattle.assembly_rows.specs.AssembledRows.{narrowedEntry, assembledRows, assembledNumber}
 

@@ -28,9 +28,11 @@ use Rattle.limits.proofs.TakenWithin.{taken-within, within-taken}
 use Rattle.order.specs.Entries.{entries, first, second}
 use Rattle.order.proofs.OrderedList.{Each}
 use Rattle.order.proofs.EachEntry.{each-tidied}
-use Rattle.tidy_rows.specs.RowTidying.{onRow, rowKeyOf, onItsRow, tidyRows}
+use Rattle.tidy_rows.specs.RowTidying.{tidyRows}
+use Rattle.rows.specs.RowKey.{onRow, rowKeyOf, onItsRow}
 use Rattle.tidy_rows.proofs.NoLonger.{tidy-no-longer}
 use Rattle.tidy_rows.proofs.RowsRise.{Allowed, kept-allowed}
+use Rattle.rows.proofs.Allowed.{allowed-taken}
 use Rattle.assembly_rows.specs.AssembledRows.{narrowedEntry, assembledRows, assembledNumber}
 use Rattle.assembly_rows.proofs.WrittenRises.{narrowed-on-row, writtenBeat, keptRows, written-beats}
 
@@ -62,7 +64,7 @@ value-is-pause x h =
 
 written-beat-taken : (beat : Float) → T (allowedBeat beat) → inRange (rangeOf Beat) (narrow (onRow beat)) ≡ true
 written-beat-taken beat h =
-    within-taken 16 (narrow (onRow beat)) (subst (λ (x : Float). T (allowedBeat x)) (sym (narrowed-on-row beat h)) (beat-allowed binary32 (row binary64 beat) (row-within binary64 beat h)))
+    allowed-taken (narrow (onRow beat)) (subst (λ (x : Float). T (allowedBeat x)) (sym (narrowed-on-row beat h)) (beat-allowed binary32 (row binary64 beat) (row-within binary64 beat h)))
 
 -- ---- columns
 each-passes : (P : Float × Float → Type 0) (test : Float → Bool) (g : Float × Float → Float) → ((e : Float × Float) → P e → test (g e) ≡ true) → (l : List (Float × Float)) → Each rowKeyOf P l → every test (map g l) ≡ true

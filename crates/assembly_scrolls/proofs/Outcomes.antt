@@ -16,7 +16,8 @@ use Rattle.order.specs.Entries.{entries}
 use Rattle.columns.specs.declared.Outcome.{Outcome}
 use Rattle.columns.specs.Laying.{roomNumber, refusedBy, LaidPair}
 use Rattle.columns.proofs.Rooms.{number-taken}
-use Rattle.tidy_rows.specs.RowTidying.{rowKeyAt, onItsRow, rowsNumber}
+use Rattle.tidy_rows.specs.RowTidying.{rowsNumber}
+use Rattle.rows.specs.RowKey.{rowKeyAt, onItsRow}
 use Rattle.tidy_kept.specs.Near.{nearTo}
 use Rattle.tidy_kept.specs.Keeping.{keptOf}
 use Rattle.tidy_kept.proofs.ShortestColumn.{many-entries}

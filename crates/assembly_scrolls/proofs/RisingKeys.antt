@@ -9,9 +9,9 @@ use Rattle.limits.specs.Numbers.{inRange, rangeOf, every, allIn}
 use Rattle.limits.specs.Neighbours.{neighbours, everyTwo}
 use Rattle.limits.proofs.Every.{every-rest}
 use Rattle.limits.proofs.EachTwo.{passes}
-use Rattle.tidy_rows.proofs.TakenBeats.{taken-allowed}
 use Rattle.tidy_by_rows.specs.ByMarks.{rowRises}
 use Rattle.assembly_rows.proofs.InRowOrder.{quantized-below}
+use Rattle.rows.proofs.Allowed.{taken-allowed}
 
 pub rising-keys : (beats : List Float) → allIn (rangeOf Beat) beats ≡ true → everyTwo lt (map quantized beats) ≡ true → everyTwo rowRises (map quantized beats) ≡ true
 unfolding neighbours every

@@ -15,7 +15,8 @@ use Rattle.limits.proofs.ListTaken.{list-taken}
 use Rattle.order.proofs.Compare.{below?}
 use Rattle.columns.specs.declared.Outcome.{Outcome}
 use Rattle.columns.specs.Laying.{LaidPair}
-use Rattle.tidy_rows.specs.RowTidying.{onItsRow, rowsNumber}
+use Rattle.tidy_rows.specs.RowTidying.{rowsNumber}
+use Rattle.rows.specs.RowKey.{onItsRow}
 use Rattle.tidy_kept.specs.Near.{farFrom}
 use Rattle.tidy_by_rows.specs.ByMarks.{rowRises}
 use Rattle.tidy_by_rows.proofs.ByMarks.{rising-never-falls}

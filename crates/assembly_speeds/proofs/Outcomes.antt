@@ -13,7 +13,7 @@ use Rattle.order.specs.Entries.{first}
 use Rattle.columns.specs.declared.Outcome.{Outcome}
 use Rattle.columns.specs.Laying.{refusedBy, given}
 use Rattle.columns.proofs.Rooms.{number-taken}
-use Rattle.tidy_rows.specs.RowTidying.{rowKeyAt}
+use Rattle.rows.specs.RowKey.{rowKeyAt}
 use Rattle.tidy_kept.specs.Keeping.{keptOf}
 use Rattle.tidy_kept.proofs.Answered.{tests-first}
 use Rattle.tidy_speeds_entries.specs.Speed.{SpeedEntry, nearSpeed, speedEntries, speedOnRow}

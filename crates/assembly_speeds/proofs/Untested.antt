@@ -22,7 +22,6 @@ use Rattle.order.proofs.Compare.{below?}
 use Rattle.columns.specs.declared.Outcome.{Outcome}
 use Rattle.columns.specs.Each.{laidEach}
 use Rattle.columns.proofs.EachOverFront.{each-over-front, copied-over-front}
-use Rattle.tidy_rows.proofs.TakenBeats.{taken-allowed}
 use Rattle.tidy_by_rows.specs.ByMarks.{rowRises}
 use Rattle.tidy_by_rows.proofs.ByMarks.{rising-never-falls}
 use Rattle.tidy_speeds_entries.specs.Speed.{speedEntries, speedOnRow}
@@ -39,6 +38,7 @@ use Rattle.assembly_rows.proofs.RisingRows.{quantized-on-row}
 use Rattle.assembly_scrolls.specs.AssembledScrolls.{riseApart}
 use Rattle.assembly_scrolls.proofs.RisingKeys.{rising-keys}
 use Rattle.assembly_scrolls.proofs.Untested.{both-apart}
+use Rattle.rows.proofs.Allowed.{taken-allowed}
 use Rattle.assembly_speeds.specs.AssembledSpeeds.{narrowedSpeed, assembledSpeeds, assembledSpeedsNumber, SpeedsAssembled, speedsRoomNumber, speedsLater, eachSpeed, sameLengths, speedsByThemselves, SpeedsUntested}
 use Rattle.assembly_speeds.proofs.NarrowedSpeeds.{least-within, beats-so, ratios-so, delays-so, units-so}
 use Rattle.assembly_speeds.proofs.QuantizedTaken.{speeds-pass}

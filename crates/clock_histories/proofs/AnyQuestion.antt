@@ -9,10 +9,10 @@ use lib.ListN.{length}
 use lib.IntN.{natAbs}
 use lib.Ieee.{Float, binary64, sub}
 use Rattle.picks.specs.Pick.{pick}
-use Rattle.rows.specs.Rows.{row, mostRow}
+use Rattle.limits.specs.Numbers.{mostRow}
+use Rattle.rows.specs.Rows.{row}
 use Rattle.rows.proofs.RowWithin.{row-within}
 use Rattle.limits.proofs.NoRefusal.{none-lower, lower-than-none}
-use Rattle.limits.proofs.TakenWithin.{taken-within}
 use Rattle.chart.specs.Timing.{Timing}
 use Rattle.clock_walk.specs.Walk.{walk}
 use Rattle.chart.specs.declared.State.{State}
@@ -23,13 +23,14 @@ use Rattle.clock.specs.Question.{filled, temposOf, freshCursor, beginning, refu
 use Rattle.clock.specs.History.{Asking, ofBeat, ofCursor, ofAll, asks, History, lastCursor}
 use Rattle.clock.specs.declared.Cursor.{Cursor}
 use Rattle.clock.specs.declared.Answer.{Answer}
+use Rattle.rows.proofs.Allowed.{taken-allowed}
 use Rattle.clock_histories.specs.Demand.{used, alone}
 use Rattle.clock_histories.proofs.WhereAFreshOneEnds.{Reached, new, walked, ends-there, ends-then}
 use Rattle.clock_histories.proofs.WalksAreSound.{sound}
 
 -- an accepted beat has a row within the limit
 pub row-near : (b : Float) → eqb (beatNumber b) 0 ≡ true → natAbs (row binary64 b) ≤ mostRow
-row-near b e = row-within binary64 b (taken-within 16 b (beat-taken b (eqb-true (beatNumber b) 0 e)))
+row-near b e = row-within binary64 b (taken-allowed b (beat-taken b (eqb-true (beatNumber b) 0 e)))
 
 module _ (t : Timing) (offset global : Float) (taken : timingNumber t offset global ≡ 0) where
   abbrev fresh : Cursor

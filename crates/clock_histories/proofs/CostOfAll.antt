@@ -12,7 +12,8 @@ use lib.ListN.{length}
 use lib.Signed.{ltZ}
 use lib.Ieee.{Float, binary64}
 use Rattle.picks.specs.Pick.{pick}
-use Rattle.rows.specs.Rows.{row, mostRow}
+use Rattle.limits.specs.Numbers.{mostRow}
+use Rattle.rows.specs.Rows.{row}
 use Rattle.chart.specs.Timing.{Timing}
 use Rattle.clock_walk.specs.Walk.{one, eventsLeft}
 use Rattle.clock_walk.proofs.EventsSpent.{spent}

@@ -14,10 +14,10 @@ use lib.Ieee.{Float, nan, binary64, add}
 use Rattle.picks.specs.Pick.{pick}
 use Rattle.ieee.proofs.Magnitude.{AtMost, Sized, sized}
 use Rattle.ieee.proofs.SizesAddUp.{OfFormat, digits-of-format, add-at-most, at-most-wider}
-use Rattle.rows.specs.Rows.{row, mostRow}
+use Rattle.rows.specs.Rows.{row}
 use Rattle.rows.proofs.RowWithin.{row-within}
 use Rattle.rows.proofs.RowNotNegative.{row-not-negative}
-use Rattle.limits.specs.Numbers.{rangeOf, inRange, allIn, upTo}
+use Rattle.limits.specs.Numbers.{rangeOf, inRange, allIn, upTo, mostRow}
 use Rattle.limits.specs.declared.Kind.the-variants as Kind
 use Rattle.limits.proofs.Every.{every-at}
 use Rattle.limits.proofs.ListTaken.{Taken}
@@ -36,6 +36,7 @@ use Rattle.clock_walk.proofs.BeforeAnyTempo.{UpTo, next-by-asked, step-row}
 use Rattle.clock_walk.proofs.EventByEvent.{left-falls}
 use Rattle.clock_walk.proofs.StaysWithin.{PlacesWithin, places-step, walk-keeps}
 use Rattle.clock_walk.proofs.TimeOfTheEnd.{time-of-end}
+use Rattle.rows.proofs.Allowed.{taken-allowed}
 use Rattle.clock_histories.proofs.TempoInForce.{IsTempo, early-taken, force-taken}
 use Rattle.clock_histories.proofs.TimeBetweenRows.{time-between}
 use Rattle.clock_histories.proofs.WarpEnds.{EndFine, end-grows}
@@ -95,7 +96,7 @@ brought-near r z near u (inr (n, e)) = rw e (go r near (rw e at u))
 
 module _ (t : Timing) (lists : ListsTaken t) (r : ℤ) (asked : natAbs r ≤ mostRow) where
   row-at : (beats : List Float) (i : ℕ) → allIn (rangeOf Kind.Beat) beats ≡ true → i < length beats → NotFar (row binary64 (getD beats i nan))
-  row-at beats i h l = inl (row-within binary64 (getD beats i nan) (taken-within 16 (getD beats i nan) (every-at (inRange (rangeOf Kind.Beat)) beats i nan h l)))
+  row-at beats i h l = inl (row-within binary64 (getD beats i nan) (taken-allowed (getD beats i nan) (every-at (inRange (rangeOf Kind.Beat)) beats i nan h l)))
 
   pub next-near : (s : State) → EndFine (s .end) → natAbs (next t r s .row) ≤ mostRow
   next-near s e =

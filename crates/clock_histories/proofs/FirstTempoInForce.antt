@@ -10,18 +10,18 @@ use lib.Signed.{ltZ, leZ}
 use lib.Ieee.{Float, binary64, le}
 use Rattle.ieee.specs.Constants.{sixty}
 use Rattle.picks.specs.Pick.{pick}
-use Rattle.rows.specs.Rows.{row, beatOf, allowedBeat, mostRow}
+use Rattle.rows.specs.Rows.{row, beatOf, allowedBeat}
 use Rattle.rows.proofs.RowsKeepOrder.{row-mono}
 use Rattle.rows.proofs.RowOfBeat.{row-of-beat}
 use Rattle.rows.proofs.RowOfZero.{row-of-zero}
 use Rattle.rows.proofs.BeatsRise.{beat-allowed}
-use Rattle.limits.specs.Numbers.{rangeOf, inRange, allIn, every}
+use Rattle.limits.specs.Numbers.{rangeOf, inRange, allIn, every, mostRow}
 use Rattle.limits.specs.declared.Kind.the-variants.{Beat}
-use Rattle.limits.proofs.TakenWithin.{taken-within}
 use Rattle.clock_walk.specs.Passing.{firstOr, lastUpTo, tempoAt}
 use Rattle.clock_walk.proofs.RowOrder.{no, lt-le}
 use Rattle.clock_walk.proofs.BeforeAnyTempo.{Low}
 use Rattle.clock_tests.specs.TimingNumbers.{risesFrom, rises, startsAtZero}
+use Rattle.rows.proofs.Allowed.{taken-allowed}
 
 le-not : (a b : ℤ) → T (leZ a b) → ltZ b a ≡ false
 le-not (pos a) (pos b) h = le-ltb b a (leb-true a b (truth _ h))
@@ -59,7 +59,7 @@ unfolding lastUpTo risesFrom every
 second-later [] values v r all rise near low = refl
 second-later (b ∷ beats) [] v r all rise near low = refl
 second-later (b ∷ beats) (w ∷ values) v r all rise near low =
-    rw (later b r (taken-within 16 b (first-two (inRange (rangeOf Beat) b) (allIn (rangeOf Beat) beats) all .0)) near (first-two (ltZ (pos 0) (row binary64 b)) (risesFrom (row binary64 b) beats) rise .0) low)
+    rw (later b r (taken-allowed b (first-two (inRange (rangeOf Beat) b) (allIn (rangeOf Beat) beats) all .0)) near (first-two (ltZ (pos 0) (row binary64 b)) (risesFrom (row binary64 b) beats) rise .0) low)
 
 picked : (x : Bool) (v w : Float) → w ≡ v → pick x w v ≡ v
 picked true v w e = e

@@ -13,7 +13,8 @@ use Rattle.picks.specs.Pick.{pick}
 use Rattle.ieee.proofs.SignedSizes.{negative}
 use Rattle.ieee.proofs.Magnitude.{AtMost}
 use Rattle.ieee.proofs.SizesAddUp.{AtLeast, power-of-format, at-most-finite, round-at-most, div-at-most, div-at-least}
-use Rattle.rows.specs.Rows.{beatOf, mostRow}
+use Rattle.limits.specs.Numbers.{mostRow}
+use Rattle.rows.specs.Rows.{beatOf}
 use Rattle.rows.proofs.RowValue.{beat-rounded}
 use Rattle.limits.proofs.TempoSizes.{tempo-at-most, tempo-at-least}
 use Rattle.clock_walk.specs.Passing.{inForce, timeTo}

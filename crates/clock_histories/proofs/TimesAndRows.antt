@@ -8,7 +8,8 @@ use lib.Ieee.{Float, binary64, sub}
 use lib.Ieee.Scale.{finite}
 use Rattle.ieee.proofs.Magnitude.{sized}
 use Rattle.ieee.proofs.SizesAddUp.{at-most-finite, sub-at-most}
-use Rattle.rows.specs.Rows.{row, mostRow}
+use Rattle.limits.specs.Numbers.{mostRow}
+use Rattle.rows.specs.Rows.{row}
 use Rattle.limits.proofs.TakenWithin.{taken-within}
 use Rattle.chart.specs.Timing.{Timing}
 use Rattle.clock_walk.specs.Walk.{walk}

@@ -15,9 +15,9 @@ use Rattle.ieee.specs.Constants.{plusZero, sixty}
 use Rattle.picks.specs.Pick.{pick}
 use Rattle.ieee.proofs.Magnitude.{AtMost, Sized, sized}
 use Rattle.ieee.proofs.SizesAddUp.{power-of-format, at-most-wider, at-most-neg, sub-at-most}
-use Rattle.rows.specs.Rows.{row, mostRow}
+use Rattle.rows.specs.Rows.{row}
 use Rattle.rows.proofs.RowOfZero.{row-of-zero}
-use Rattle.limits.specs.Numbers.{rangeOf, inRange, every, rowIn}
+use Rattle.limits.specs.Numbers.{rangeOf, inRange, every, rowIn, mostRow}
 use Rattle.limits.specs.declared.Kind.the-variants as Kind
 use Rattle.limits.proofs.ListTaken.{Taken}
 use Rattle.limits.proofs.TakenWithin.{taken-within}

@@ -12,8 +12,8 @@ use lib.Signed.{ltZ}
 use lib.Ieee.{Float, nan, binary64}
 use Rattle.ieee.specs.Constants.{sixty}
 use Rattle.picks.specs.Pick.{pick}
-use Rattle.rows.specs.Rows.{row, mostRow}
-use Rattle.limits.specs.Numbers.{rangeOf, allIn}
+use Rattle.rows.specs.Rows.{row}
+use Rattle.limits.specs.Numbers.{rangeOf, allIn, mostRow}
 use Rattle.limits.specs.declared.Kind.the-variants.{Beat}
 use Rattle.chart.specs.Timing.{Timing}
 use Rattle.clock_walk.specs.Passing.{firstOr, earlyTempo}

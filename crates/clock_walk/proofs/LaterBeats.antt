@@ -20,11 +20,13 @@ use Rattle.picks.specs.Pick.{pick}
 use Rattle.ieee.specs.Magnitude.{withinPower}
 use Rattle.ieee.proofs.SignedSizes.{Ordered}
 use Rattle.ieee.proofs.FloatOrder.{le-sizes, sizes-le}
-use Rattle.rows.specs.Rows.{row, beatOf, allowedBeat, mostRow}
+use Rattle.limits.specs.Numbers.{mostRow}
+use Rattle.rows.specs.Rows.{row, beatOf, allowedBeat}
 use Rattle.rows.proofs.RowValue.{beat-value}
 use Rattle.rows.proofs.RowOfBeat.{row-of-beat}
 use Rattle.rows.proofs.RowsKeepOrder.{row-mono}
 use Rattle.rows.proofs.BeatsRise.{beat-allowed}
+use Rattle.rows.proofs.Allowed.{within-allowed}
 use Rattle.clock_walk.specs.Quiet.{farthest, rowAt, notBefore, isLater}
 use Rattle.clock_walk.proofs.RowOrder.{no}
 use Rattle.clock_walk.proofs.BackFromBits.{back}
@@ -66,7 +68,7 @@ after n (negsuc m) h = absurd h
 
 allowed : (h : Float) → le h (fin false 1 (pos 16)) ≡ true → le (fin true 1 (pos 16)) h ≡ true → T (allowedBeat h)
 unfolding withinPower
-allowed h below above = and-i (le (fin true 1 (pos 16)) h) (le h (fin false 1 (pos 16))) (held _ above) (held _ below)
+allowed h below above = within-allowed h (and-i (le (fin true 1 (pos 16)) h) (le h (fin false 1 (pos 16))) (held _ above) (held _ below))
 
 -- what is not before a number that is not negative is not below the least beat
 not-below-least : (x h : Float) (a c : ℕ) → 0 < c → HasValue x false a c → le x h ≡ true → le (fin true 1 (pos 16)) h ≡ true

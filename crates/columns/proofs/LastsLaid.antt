@@ -2,13 +2,13 @@
 -- Assumes nothing.
 use Prim.Native.Nat.{ℕ, _+_, _-_, _≤_, _<_, min}
 use mathlib.Core.Path.{_≡_, sym, ap, _∙_}
-use mathlib.Core.Bool.{cond}
 use mathlib.Core.List.{List, _∷_, map}
 use mathlib.Core.Logic.{⊎-elim}
 use native.Mathlib.Omega.{arith}
 use borrow.Author.Tests.{eq-eqb, ne-eqb}
 use lib.Dec.{eqb}
 use lib.ListN.{length, getD, drop, set, length-map, length-drop}
+use Rattle.picks.specs.Pick.{pick}
 use Rattle.order.specs.Order.{lasts, laid}
 use Rattle.order.specs.Entries.{first, second}
 use Rattle.order.proofs.Compare.{same?}
@@ -61,7 +61,7 @@ module _ {X A B : Type 0} (key : X → ℕ) (put : X → A × B) {firstOld : Lis
             let keep = lasts-keep key none xs i inside more t in
             record { few = omega (arith, p .few); firsts = ahead-none (first-kept inside keep); seconds = ahead-none (second-kept inside keep) }
 
-        pub lasts-turn : (same : ℕ) → same ≡ cond (eqb (key (getD xs i none)) (key (getD xs (i + 1) none))) 1 0
+        pub lasts-turn : (same : ℕ) → same ≡ pick (eqb (key (getD xs i none)) (key (getD xs (i + 1) none))) 1 0
             → LastsLaying key put xs firstOld (set firstNew count a) secondOld (set secondNew count b) (i + 1) (count + (1 - same))
         lasts-turn same e =
             let here = key (getD xs i none) in

@@ -1,5 +1,6 @@
 pub mod OneOutcome
 pub mod Rooms
+pub mod ListLaid
 pub mod LaidEach
 pub mod EachOverFront
 pub mod LastsLaid

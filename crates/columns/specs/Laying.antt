@@ -41,3 +41,8 @@ pub record LaidList (number : ℕ) (result : List (Float × Float)) (count : ℕ
   pub counted : count ≡ length (given number result)
   pub firstIs : firstNew ≡ columnLaid first number result firstOld
   pub secondIs : secondNew ≡ columnLaid second number result secondOld
+
+-- A list over the fronts of two rooms, whatever the call's number.
+pub record Laid (list : List (Float × Float)) (firstOld firstNew secondOld secondNew : List Float) : Type 0 where
+  pub firstIs : firstNew ≡ laid (map first list) firstOld
+  pub secondIs : secondNew ≡ laid (map second list) secondOld

@@ -3,6 +3,7 @@ pub mod Every
 pub mod ListTaken
 pub mod NoRefusal
 pub mod PlainTaken
+pub mod Sizes
 pub mod TakenWithin
 pub mod TempoSizes
 pub mod WorstSoFar

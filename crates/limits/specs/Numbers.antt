@@ -67,6 +67,9 @@ isUnit unit = leb unit 1
 abbrev pub unitsIn : List ℕ → Bool
 unitsIn units = every isUnit units
 
--- a row: 65,536 beats of 48 rows either way
+-- how far from 0 a row may be: 65,536 beats of 48 rows
+abbrev pub mostRow : ℕ
+mostRow = 3145728
+
 unfoldable pub rowIn : ℤ → Bool
-rowIn row = leb (natAbs row) 3145728
+rowIn row = leb (natAbs row) mostRow

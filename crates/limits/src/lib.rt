@@ -7,7 +7,7 @@ ghost use Rattle.limits.specs.Numbers.{rangeOf, inRange, sizeOf, every, 
 ghost use lib.Dec.{ltb};
 ghost use Rattle.picks.specs.Pick.{pick};
 ghost use Rattle.limits.specs.Plain.{inside, within, plain};
-ghost use Rattle.limits.specs.Refusals.{lower, listNumber};
+ghost use Rattle.limits.specs.Refusals.{lower, listNumber, sizesNumber};
 
 // ---- what a refusal answers
 
@@ -299,6 +299,22 @@ pub fn units_taken(units: &[u8]) -> bool
 }
 
 // ---- a list of two columns
+
+// What two columns of a list answer by their lengths alone: 1 for more than 1,024 entries, 2 where they differ, else 0.
+pub fn sizes_number(beats: usize, values: usize) -> u32
+    ensures { λ r. ⌜ r ≡ sizesNumber beats values ⌝ }
+{
+    if beats > MOST_ENTRIES {
+        return TOO_LONG;
+    }
+    if values > MOST_ENTRIES {
+        return TOO_LONG;
+    }
+    if beats != values {
+        return UNEVEN;
+    }
+    TAKEN
+}
 
 // What a list of beats and values answers by itself: 1, 2, 3 or 4, and 0 where it is taken.
 pub fn list_number(beat_kind: Kind, value_kind: Kind, beats: &[f64], values: &[f64]) -> u32

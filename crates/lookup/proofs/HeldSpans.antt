@@ -11,7 +11,7 @@ use lib.Ieee.{Float, nan, inf, fin, binary32, add, lt, le, eq}
 use Rattle.ieee.specs.Constants.{plusZero}
 use Rattle.picks.specs.Pick.{pick}
 use Rattle.rows.specs.Rows.{beatOf}
-use Rattle.order.specs.RowKey.{rowKey}
+use Rattle.rows.specs.RowKey.{rowKey}
 use Rattle.lookup.specs.Lookups.{warpCovers, fakeCovers, inWarp, isPaused, isWarped, isFake, isJudgable, ofLast}
 use Rattle.lookup.specs.inside.Finding.{Split, Usable, spanCovers, startOf, warpEnd, fakeEnd}
 use Rattle.lookup.proofs.FoundEntries.{last-found}

@@ -4,7 +4,8 @@ use mathlib.Core.Path.{_≡_, ap, _∙_}
 use mathlib.Core.List.{List}
 use lib.IntN.{ℤ, natAbs}
 use lib.Ieee.{Float, binary32, binary64}
-use Rattle.rows.specs.Rows.{row, beatOf, mostRow}
+use Rattle.limits.specs.Numbers.{mostRow}
+use Rattle.rows.specs.Rows.{row, beatOf}
 use Rattle.rows.proofs.NarrowedBeat.{narrowed-beat}
 use Rattle.rows.proofs.RowOfBeat.{row-of-beat}
 use Rattle.lookup.specs.Lookups.{askedRow, isFake}

@@ -12,7 +12,7 @@ use lib.Ieee.{Float, nan, lt}
 use Rattle.ieee.specs.Constants.{plusZero}
 use Rattle.picks.specs.Pick.{pick}
 use Rattle.order.specs.Order.{laid}
-use Rattle.order.specs.RowKey.{rowKey}
+use Rattle.rows.specs.RowKey.{rowKey}
 use Rattle.columns.specs.declared.Outcome.{Outcome}
 use Rattle.columns.specs.Laying.{given}
 use Rattle.lookup.specs.Lookups.{keyOf, lastPasses, isPaused, inWarp, isWarped, isFake, isJudgable, byte, Judged}

@@ -12,7 +12,7 @@ use Rattle.picks.specs.Pick.{pick}
 use Rattle.ieee.specs.Narrowing.{narrow}
 use Rattle.rows.specs.Rows.{row, beatOf}
 use Rattle.order.specs.Order.{laid}
-use Rattle.order.specs.RowKey.{rowKey}
+use Rattle.rows.specs.RowKey.{rowKey}
 use Rattle.columns.specs.declared.Outcome.{Outcome}
 use Rattle.columns.specs.Laying.{roomNumber, given}
 use Rattle.lookup.specs.declared.Looked.{Looked}

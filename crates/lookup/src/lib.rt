@@ -10,7 +10,7 @@ ghost use Rattle.columns.specs.Each.{laidEach};
 ghost use lib.ListN.{length};
 ghost use Rattle.picks.specs.Pick.{pick};
 ghost use Rattle.limits.specs.Numbers.{rangeOf, inRange, every, rowIn};
-ghost use Rattle.order.specs.RowKey.{rowKey};
+ghost use Rattle.rows.specs.RowKey.{rowKey};
 ghost use Rattle.lookup_tests.specs.Refused.{rowsRise, warpNumber, fakeNumber, judgableNumber};
 ghost use Rattle.lookup.specs.Lookups.{isPaused, isWarped, isFake, isJudgable, askedRow, looked, byte, Judged};
 ghost use Rattle.lookup.specs.inside.Finding.{Usable, AllUsable, Split, Between, keyBefore, keyAfter, Stands, PlaceStands, spanCovers, startOf, warpEnd, fakeEnd, Holds, HeldStands, AllStand};
@@ -28,7 +28,7 @@ fn halve(beats: &[f32], key: u32, low: usize, high: usize) -> Bounds
     ensures { λ r. ⌜ Between key (now (beats .entry)) (r .low) (r .high) × (r .high ≤ high) × (r .high - r .low < high - low) ⌝ }
 {
     let middle = low + (high - low) / 2;
-    if lookup_tests::row_key(beats[middle]) <= key {
+    if rows::row_key_f32(beats[middle]) <= key {
         return Bounds {
             low: middle + 1,
             high: high,
@@ -72,7 +72,7 @@ fn key_before(beats: &[f32], n: usize) -> u32
     if n == 0 {
         return 0;
     }
-    lookup_tests::row_key(beats[n - 1])
+    rows::row_key_f32(beats[n - 1])
 }
 
 // The row of the entry after them; the highest key where there is none.
@@ -80,7 +80,7 @@ fn key_after(beats: &[f32], n: usize) -> u32
     ensures { λ r. ⌜ r ≡ keyAfter (now (beats .entry)) n ⌝ }
 {
     if n < beats.len() {
-        return lookup_tests::row_key(beats[n]);
+        return rows::row_key_f32(beats[n]);
     }
     4294967295
 }
@@ -265,7 +265,7 @@ fn warped_after(
     requires { ⌜ Usable (now «stop_beats») (now «stop_values») × Usable (now «delay_beats») (now «delay_values») × Usable (now «warp_beats») (now «warp_lengths») × Split (rowKey row) (now «warp_beats») n ⌝ }
     ensures { λ r. ⌜ r ≡ isWarped (now («stop_beats» .entry)) (now («stop_values» .entry)) (now («delay_beats» .entry)) (now («delay_values» .entry)) (now («warp_beats» .entry)) (now («warp_lengths» .entry)) row ⌝ }
 {
-    let key = order::key_of_row(row);
+    let key = rows::key_of_row(row);
     if covers(
         start_of(warp_beats, n),
         warp_end(warp_beats, warp_lengths, n),
@@ -364,7 +364,7 @@ fn look_up_warp(
             yes: false,
         };
     }
-    let n = count_at(warp_beats, order::key_of_row(row));
+    let n = count_at(warp_beats, rows::key_of_row(row));
     let yes = warped_after(
         stop_beats,
         stop_values,
@@ -391,7 +391,7 @@ fn look_up_fake(fake_beats: &[f32], fake_lengths: &[f32], allowed: bool, row: i3
             yes: false,
         };
     }
-    let n = count_at(fake_beats, order::key_of_row(row));
+    let n = count_at(fake_beats, rows::key_of_row(row));
     let yes = fake_after(fake_beats, fake_lengths, n, row);
     Looked {
         number: limits::TAKEN,
@@ -430,8 +430,8 @@ fn look_up_judgable(
             yes: false,
         };
     }
-    let warps = count_at(warp_beats, order::key_of_row(row));
-    let fakes = count_at(fake_beats, order::key_of_row(row));
+    let warps = count_at(warp_beats, rows::key_of_row(row));
+    let fakes = count_at(fake_beats, rows::key_of_row(row));
     let yes = judgable_after(
         stop_beats,
         stop_values,
@@ -762,7 +762,7 @@ fn judge(
     requires { ⌜ AllStand (now «stop_beats») (now «delay_beats») (now «warp_beats») (now «warp_lengths») (now «fake_beats») (now «fake_lengths») cursor ⌝ }
     ensures { λ r. ⌜ AllStand (now («stop_beats» .entry)) (now («delay_beats» .entry)) (now («warp_beats» .entry)) (now («warp_lengths» .entry)) (now («fake_beats» .entry)) (now («fake_lengths» .entry)) r × (r .answer ≡ byte (isJudgable (now («stop_beats» .entry)) (now («stop_values» .entry)) (now («delay_beats» .entry)) (now («delay_values» .entry)) (now («warp_beats» .entry)) (now («warp_lengths» .entry)) (now («fake_beats» .entry)) (now («fake_lengths» .entry)) row)) ⌝ }
 {
-    let key = order::key_of_row(row);
+    let key = rows::key_of_row(row);
     let at = rows::note_row_to_beat_f32(row);
     let warps = reach_warp(
         warp_beats,

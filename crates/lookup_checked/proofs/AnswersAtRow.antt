@@ -5,7 +5,7 @@ use mathlib.Core.Bool.{Bool, true, false}
 use lib.IntN.{ℤ}
 use lib.Ieee.{Float, binary32}
 use Rattle.rows.specs.Rows.{beatOf}
-use Rattle.order.specs.RowKey.{rowKey}
+use Rattle.rows.specs.RowKey.{rowKey}
 use Rattle.lookup.specs.Lookups.{askedNumber, looked}
 use Rattle.lookup_checked.specs.Checked.{atRow}
 

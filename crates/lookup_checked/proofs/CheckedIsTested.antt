@@ -16,8 +16,7 @@ use lib.Ieee.Bits.{is-true}
 use Rattle.picks.specs.Pick.{pick}
 use Rattle.ieee.specs.Narrowing.{narrow}
 use Rattle.ieee.proofs.FloatOrder.{lt-or-le, lt-le}
-use Rattle.ieee.proofs.Magnitude.{within-finite}
-use Rattle.rows.specs.Rows.{row, beatOf, allowedBeat, mostRow}
+use Rattle.rows.specs.Rows.{row, beatOf, allowedBeat}
 use Rattle.rows.proofs.RowsKeepOrder.{row-mono}
 use Rattle.rows.proofs.RowOfBeat.{row-of-beat}
 use Rattle.rows.proofs.RowWithin.{row-within, in-i32}
@@ -25,19 +24,19 @@ use Rattle.rows.proofs.BeatsRise.{beat-allowed}
 use Rattle.rows.proofs.Quantizing.{narrow-allowed}
 use Rattle.limits.specs.declared.Range.{Range}
 use Rattle.limits.specs.declared.Kind.the-variants.{Beat, Pause, Value}
-use Rattle.limits.specs.Numbers.{rangeOf, inRange, rowIn}
+use Rattle.limits.specs.Numbers.{rangeOf, inRange, rowIn, mostRow}
 use Rattle.limits.specs.Refusals.{lower}
 use Rattle.limits.proofs.NoRefusal.{lower-none}
 use Rattle.limits.proofs.ListTaken.{Taken}
 use Rattle.limits.proofs.Every.{every-at}
-use Rattle.limits.proofs.TakenWithin.{taken-within}
-use Rattle.order.specs.RowKey.{rowKey}
-use Rattle.order.proofs.RowKeys.{rows-at-most}
+use Rattle.rows.specs.RowKey.{rowKey}
+use Rattle.rows.proofs.RowKeys.{rows-at-most}
 use Rattle.lookup_tests.proofs.RowsRise.{Rising, rises}
 use Rattle.lookup.specs.inside.Finding.{keyAt, Passed, Split}
 use Rattle.lookup.specs.Lookups.{keyOf, rowsRise, risingNumber, askedNumber, warpNumber, fakeNumber, judgableNumber, warpCovers, fakeCovers, lastPasses, isPaused, isWarped, isFake, isJudgable, askedRow, looked}
 use Rattle.lookup.proofs.UsableLists.{rising-taken}
 use Rattle.lookup.proofs.FoundEntries.{passed-to, past-from, last-found, pause-found}
+use Rattle.rows.proofs.Allowed.{taken-allowed, allowed-finite}
 use Rattle.lookup_checked.specs.Checked.{placeOf, isOnRow, upToRow, lastCounted, pausedBy, unpausedBy, fakeBy, warpedBy, judgableBy, atRow}
 use Rattle.lookup_checked.specs.SameAnswers.{SameAnswers}
 use Rattle.lookup_checked.proofs.WhereHalvesEnd.{Around, place-ends}
@@ -49,7 +48,7 @@ module _ (value : Range) (beats values : List Float) (taken : risingNumber value
   list-is = rising-taken value beats values taken
 
   beat-in : (place : ℕ) → place < length beats → T (allowedBeat (getD beats place nan))
-  beat-in place h = taken-within 16 (getD beats place nan) (every-at (inRange (rangeOf Beat)) beats place nan (list-is .0 .beatsIn) h)
+  beat-in place h = taken-allowed (getD beats place nan) (every-at (inRange (rangeOf Beat)) beats place nan (list-is .0 .beatsIn) h)
 
   abbrev at : Float
   at = beatOf binary32 asked
@@ -75,7 +74,7 @@ module _ (value : Range) (beats values : List Float) (taken : risingNumber value
       let beat = getD beats place nan in
       let p = beat-in place h in
       let q = beat-allowed binary32 asked allowed in
-      let above : T (le at beat) = ⊎-elim (λ l. lt-le at beat l) (λ l. absurd (subst T e l)) (lt-or-le at beat (within-finite 16 at q) (within-finite 16 beat p)) in
+      let above : T (le at beat) = ⊎-elim (λ l. lt-le at beat l) (λ l. absurd (subst T e l)) (lt-or-le at beat (allowed-finite at q) (allowed-finite beat p)) in
       omega (arith, keys-follow at beat q p above, own-key)
 
   rising : Rising beats
@@ -154,7 +153,7 @@ unfolding rowIn
 row-allowed asked h = leb-true (natAbs asked) mostRow h
 
 beat-allowed-too : (beat : Float) → inRange (rangeOf Beat) beat ≡ true → natAbs (askedRow beat) ≤ mostRow
-beat-allowed-too beat h = row-within binary32 (narrow beat) (narrow-allowed beat (taken-within 16 beat h))
+beat-allowed-too beat h = row-within binary32 (narrow beat) (narrow-allowed beat (taken-allowed beat h))
 
 module _ (stopBeats stopValues delayBeats delayValues warpBeats warpLengths fakeBeats fakeLengths : List Float) (checked : judgableNumber stopBeats stopValues delayBeats delayValues warpBeats warpLengths fakeBeats fakeLengths true ≡ 0) where
   both : (warpNumber stopBeats stopValues delayBeats delayValues warpBeats warpLengths true ≡ 0) × (fakeNumber fakeBeats fakeLengths true ≡ 0)

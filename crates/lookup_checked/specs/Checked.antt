@@ -11,7 +11,7 @@ use lib.ListN.{length, getD}
 use lib.Ieee.{Float, nan, binary32, le}
 use Rattle.picks.specs.Pick.{pick}
 use Rattle.rows.specs.Rows.{beatOf}
-use Rattle.order.specs.RowKey.{rowKey}
+use Rattle.rows.specs.RowKey.{rowKey}
 use Rattle.tidy_kept.specs.Searching.{halved}
 use Rattle.lookup_tests.specs.Refused.{keyAt}
 use Rattle.lookup.specs.Lookups.{ofLast, pausesOn, warpCovers, fakeCovers}

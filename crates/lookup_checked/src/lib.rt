@@ -65,7 +65,7 @@ fn is_on_row(beats: &[f32], place: usize, key: u32) -> bool
     ensures { λ r. ⌜ r ≡ isOnRow (now (beats .entry)) place key ⌝ }
 {
     if place < beats.len() {
-        return lookup_tests::row_key(beats[place]) == key;
+        return rows::row_key_f32(beats[place]) == key;
     }
     false
 }
@@ -205,7 +205,7 @@ pub fn is_warp_at_row_checked(
 {
     if limits::row_taken(row) {
         let at = rows::note_row_to_beat_f32(row);
-        let key = order::key_of_row(row);
+        let key = rows::key_of_row(row);
         if in_warp(warp_beats, warp_lengths, at, key) {
             return answered(is_unpaused(
                 stop_beats,
@@ -242,7 +242,7 @@ pub fn is_warp_at_beat_checked(
     if limits::taken(Kind::Beat, beat) {
         let row = lookup::asked_row(beat);
         let at = rows::note_row_to_beat_f32(row);
-        let key = order::key_of_row(row);
+        let key = rows::key_of_row(row);
         if in_warp(warp_beats, warp_lengths, at, key) {
             return answered(is_unpaused(
                 stop_beats,
@@ -267,7 +267,7 @@ pub fn is_fake_at_row_checked(fake_beats: &[f32], fake_lengths: &[f32], row: i32
 {
     if limits::row_taken(row) {
         let at = rows::note_row_to_beat_f32(row);
-        let key = order::key_of_row(row);
+        let key = rows::key_of_row(row);
         return answered(is_fake(fake_beats, fake_lengths, at, key));
     }
     Looked {
@@ -283,7 +283,7 @@ pub fn is_fake_at_beat_checked(fake_beats: &[f32], fake_lengths: &[f32], beat: f
     if limits::taken(Kind::Beat, beat) {
         let row = lookup::asked_row(beat);
         let at = rows::note_row_to_beat_f32(row);
-        let key = order::key_of_row(row);
+        let key = rows::key_of_row(row);
         return answered(is_fake(fake_beats, fake_lengths, at, key));
     }
     Looked {
@@ -312,7 +312,7 @@ pub fn is_judgable_at_row_checked(
 {
     if limits::row_taken(row) {
         let at = rows::note_row_to_beat_f32(row);
-        let key = order::key_of_row(row);
+        let key = rows::key_of_row(row);
         if in_warp(warp_beats, warp_lengths, at, key) {
             if is_unpaused(stop_beats, stop_values, delay_beats, delay_values, at, key) {
                 return answered(false);
@@ -347,7 +347,7 @@ pub fn is_judgable_at_beat_checked(
     if limits::taken(Kind::Beat, beat) {
         let row = lookup::asked_row(beat);
         let at = rows::note_row_to_beat_f32(row);
-        let key = order::key_of_row(row);
+        let key = rows::key_of_row(row);
         if in_warp(warp_beats, warp_lengths, at, key) {
             if is_unpaused(stop_beats, stop_values, delay_beats, delay_values, at, key) {
                 return answered(false);

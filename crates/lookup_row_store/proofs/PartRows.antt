@@ -6,7 +6,7 @@ use mathlib.Core.List.{List, []}
 use lib.ListN.{length}
 use lib.Ieee.{Float}
 use Rattle.order.specs.Order.{only, theLast, NeverFalls, Rises}
-use Rattle.order.specs.RowKey.{rowKey}
+use Rattle.rows.specs.RowKey.{rowKey}
 use Rattle.order.proofs.OrderedList.{ordered-never-falls, only-ordered}
 use Rattle.order.proofs.TidiedList.{tidied-rises, only-tidied}
 use Rattle.order.proofs.EachEntry.{length-the-last}

@@ -13,7 +13,7 @@ use Rattle.limits.specs.declared.Kind.the-variants.{Beat, Pause, Value}
 use Rattle.limits.specs.Numbers.{rangeOf}
 use Rattle.limits.specs.Refusals.{lower, listNumber}
 use Rattle.order.specs.Order.{ordered, tidied, laid}
-use Rattle.order.specs.RowKey.{rowKey}
+use Rattle.rows.specs.RowKey.{rowKey}
 use Rattle.columns.specs.Laying.{roomNumber, given}
 use Rattle.lookup_row_store.specs.declared.Stored.{Stored}
 

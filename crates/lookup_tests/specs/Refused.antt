@@ -12,7 +12,7 @@ use Rattle.limits.specs.declared.Kind.the-variants.{Beat, Pause, Value}
 use Rattle.limits.specs.declared.Range.{Range}
 use Rattle.limits.specs.Numbers.{rangeOf}
 use Rattle.limits.specs.Refusals.{lower, listNumber}
-use Rattle.order.specs.RowKey.{rowKey}
+use Rattle.rows.specs.RowKey.{rowKey}
 
 -- a beat's f32 row, as a key
 abbrev pub keyOf : Float → ℕ

@@ -7,18 +7,11 @@ ghost use Rattle.lookup_tests.specs.inside.CountNotAbove.{countNotAbove}
 
 // ---- rows that rise
 
-// The f32 row of a beat, as a key.
-pub fn row_key(beat: f32) -> u32
-    ensures { λ r. ⌜ r ≡ keyOf beat ⌝ }
-{
-    order::key_of_row(rows::beat_to_note_row_f32(beat))
-}
-
 // 1 where the row of a beat is not above the row of the beat before it.
 fn one_not_above(before: f32, beat: f32) -> usize
     ensures { λ r. ⌜ r ≡ countNotAbove before beat ⌝ }
 {
-    if row_key(before) < row_key(beat) {
+    if rows::row_key_f32(before) < rows::row_key_f32(beat) {
         0
     } else {
         1

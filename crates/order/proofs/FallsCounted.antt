@@ -1,6 +1,6 @@
 -- Falls counted over neighbouring entries: where there is none, the list never falls. Assumes nothing.
 use mathlib.Core.Path.{_≡_, refl, sym, _∙_}
-use mathlib.Core.Bool.{true, cond}
+use mathlib.Core.Bool.{true}
 use mathlib.Core.List.{List, [], _∷_}
 use mathlib.Core.Logic.{⊎-elim}
 use Prim.Native.Nat.{ℕ, suc, _+_, _≤_, _<_}
@@ -10,14 +10,15 @@ use borrow.Author.Tests.{lt-ltb, le-ltb, le-leb}
 use lib.Dec.{ltb}
 use lib.ListN.{length, getD, drop, length-drop}
 use lib.Seq.{drop-cons}
+use Rattle.picks.specs.Pick.{pick}
 use Rattle.order.specs.Order.{mayPrecede, neverFalls}
 use Rattle.order.proofs.Compare.{below?}
 
 -- ---- one fall, as 0 or 1
-pub fall-few : (a b : ℕ) {fall : ℕ} → fall ≡ cond (ltb a b) 1 0 → fall ≤ 1
+pub fall-few : (a b : ℕ) {fall : ℕ} → fall ≡ pick (ltb a b) 1 0 → fall ≤ 1
 fall-few a b e = ⊎-elim (λ t. omega (arith, rw (lt-ltb a b t) at e)) (λ t. omega (arith, rw (le-ltb a b t) at e)) (below? a b)
 
-no-fall : (a b : ℕ) {fall : ℕ} → fall ≡ cond (ltb a b) 1 0 → fall ≡ 0 → b ≤ a
+no-fall : (a b : ℕ) {fall : ℕ} → fall ≡ pick (ltb a b) 1 0 → fall ≡ 0 → b ≤ a
 no-fall a b e z = ⊎-elim (λ t. absurd (omega (arith, rw (lt-ltb a b t) at e))) (λ t. t) (below? a b)
 
 -- ---- all of them
@@ -40,7 +41,7 @@ module _ {A : Type 0} (key : A → ℕ) where
         let next : drop (i + 1) xs ≡ getD xs (i + 1) none ∷ drop (suc (suc i)) xs = rw (add-one i) (drop-cons xs (suc i) none (omega arith)) in
         rw (pair h, next, le-leb (key (getD xs i none)) (key (getD xs (i + 1) none)) t)
 
-  pub falls-turn : (none : A) {xs : List A} {i falls fall : ℕ} → i + 1 < length xs → fall ≡ cond (ltb (key (getD xs (i + 1) none)) (key (getD xs i none))) 1 0
+  pub falls-turn : (none : A) {xs : List A} {i falls fall : ℕ} → i + 1 < length xs → fall ≡ pick (ltb (key (getD xs (i + 1) none)) (key (getD xs i none))) 1 0
       → Falls xs i falls → Falls xs (i + 1) (falls + fall)
   falls-turn none {xs} {i} h e p =
       let a = key (getD xs (i + 1) none) in

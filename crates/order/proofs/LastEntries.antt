@@ -1,7 +1,6 @@
 -- The last entries of equal keys, further laws: a list that has entries keeps one, entries may be renamed, and all that are not kept are repeats of
 -- the next key, which a loop over neighbours counts. Assumes nothing.
 use mathlib.Core.Path.{_≡_, refl, ap, sym, _∙_}
-use mathlib.Core.Bool.{cond}
 use mathlib.Core.List.{List, [], _∷_, map}
 use mathlib.Core.Logic.{⊎-elim}
 use Prim.Native.Nat.{ℕ, _+_, _-_, _≤_, _<_}
@@ -9,6 +8,7 @@ use native.Mathlib.Omega.{arith}
 use borrow.Author.Tests.{eq-eqb, ne-eqb}
 use lib.Dec.{eqb}
 use lib.ListN.{length, getD, drop, length-map, length-drop}
+use Rattle.picks.specs.Pick.{pick}
 use Rattle.order.specs.Order.{lasts}
 use Rattle.order.specs.Entries.{entries, first}
 use Rattle.order.proofs.Compare.{same?}
@@ -17,7 +17,7 @@ use Rattle.order.proofs.Columns.{first-entries}
 use Rattle.order.proofs.TidiedList.{lasts-nil, lasts-one, lasts-same, lasts-other, lasts-skip, lasts-keep, length-lasts}
 
 -- ---- one repeat, as 0 or 1
-pub repeat-few : (a b : ℕ) {same : ℕ} → same ≡ cond (eqb a b) 1 0 → same ≤ 1
+pub repeat-few : (a b : ℕ) {same : ℕ} → same ≡ pick (eqb a b) 1 0 → same ≤ 1
 repeat-few a b e = ⊎-elim (λ t. omega (arith, rw (eq-eqb a b t) at e)) (λ t. omega (arith, rw (ne-eqb a b t) at e)) (same? a b)
 
 -- ---- what is kept
@@ -46,7 +46,7 @@ module _ {A : Type 0} (key : A → ℕ) where
   pub repeats-none : {xs : List A} → Repeats xs 0 0
   repeats-none = record { few = omega arith; kept = refl }
 
-  pub repeats-turn : (none : A) {xs : List A} {i repeats same : ℕ} → i + 1 < length xs → same ≡ cond (eqb (key (getD xs i none)) (key (getD xs (i + 1) none))) 1 0
+  pub repeats-turn : (none : A) {xs : List A} {i repeats same : ℕ} → i + 1 < length xs → same ≡ pick (eqb (key (getD xs i none)) (key (getD xs (i + 1) none))) 1 0
       → Repeats xs i repeats → Repeats xs (i + 1) (repeats + same)
   repeats-turn none {xs} {i} {repeats} {same} h e p =
       let a = key (getD xs i none) in

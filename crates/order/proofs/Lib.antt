@@ -4,7 +4,6 @@ pub mod OrderedByTwoKeys
 pub mod TidiedList
 pub mod Columns
 pub mod FallFound
-pub mod RowKeys
 pub mod FloatPattern
 pub mod PatternsGrow
 pub mod FloatKeys

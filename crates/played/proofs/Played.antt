@@ -4,7 +4,7 @@ use lib.Ieee.{add, sub, ne, mul, div, ofInt, neg, eq, lt, le, toBits, ofBits}
 use Rattle.ieee.specs.Rounding.{rint, hold}
 use Rattle.order.specs.Order.{run, put, tidied, neverFalls, mayPrecede}
 use Rattle.order.specs.Entries.{entries}
-use Rattle.order.specs.RowKey.{rowKey}
+use Rattle.rows.specs.RowKey.{rowKey}
 use Rattle.order.specs.FloatKey.{floatKey}
 use Rattle.tidy_rows.specs.RowTidying.{tidyRows}
 use Rattle.tidy_tempos.specs.TempoTidying.{fromZero, changesAfter, changes, tidyTempos}

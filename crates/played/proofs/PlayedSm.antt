@@ -15,7 +15,7 @@ use Rattle.tidy_tempos.specs.TempoTidying.{fromZero, changesAfter, changes, tid
 use Rattle.process_sm_changes.specs.SmChanges.{staysSm, smChanges}
 use Rattle.process_sm_machine.specs.Machine.{fits, warpOver, tempoAfter, openChart, owedAt, keepWarp, closeByTime, passInWarp, pass, tempoOutside, meetTempo, warpEndOf, finishWarp, finish}
 use Rattle.process_sm_walk.specs.Chart.{Output, processed, walkChanges, stopsBefore, lastTempo, temposBy0}
-use Rattle.process_sm.specs.Sm.{tidiedTempos as Sm·tidied}
+use Rattle.tidy_tempos.specs.TempoTidying.{tidiedTempos as Sm·tidied}
 use Rattle.played.specs.Numbers.{decimalFloat, wholeFloat}
 use Rattle.played.specs.Table.{smOf}
 

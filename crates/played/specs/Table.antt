@@ -12,7 +12,8 @@ use Rattle.stops_for_sm.specs.Merging.{sources, mergedStops, atFirst}
 use Rattle.played.specs.Charts.{stopped, warped, asked}
 use Rattle.tidy_scrolls.specs.ScrollTidying.{tidyScrolls, scrollsNumber}
 use Rattle.process_sm_walk.specs.Chart.{Output}
-use Rattle.process_sm.specs.Sm.{smWritten, tidiedTempos}
+use Rattle.tidy_tempos.specs.TempoTidying.{tidiedTempos}
+use Rattle.process_sm_walk_raw.specs.RawWalk.{smWritten}
 use Rattle.played.specs.Numbers.{decimalFloat, wholeFloat, minus}
 
 -- what SM makes of tempos alone: the tempos tidied, the stops and the warps

@@ -33,7 +33,7 @@ use Rattle.process_sm_walk.specs.Changes.{changesLeft}
 use Rattle.process_sm_laws.specs.Beats as beats
 use Rattle.process_sm_laws.proofs.AssemblyTakes.{sm-stops-taken, sm-warps-taken}
 use Rattle.process_sm_laws.proofs.ChangesInOrder.{changeKey}
-use Rattle.process_sm_lent.specs.Sm.{smWritten}
+use Rattle.process_sm_walk_raw.specs.RawWalk.{smWritten}
 use Rattle.process_sm.proofs.FewTidied.{entries-few, few-tidied}
 use Rattle.chart.specs.declared.TimingFormat.{TimingFormat}
 use Rattle.chart.specs.declared.TimingFormat.the-variants.{Sm, Ssc}

@@ -17,7 +17,7 @@ use Rattle.rows.proofs.Quantizing.{quantized32-twice, quantized-twice}
 use Rattle.limits.specs.declared.Kind.the-variants.{RawBeat}
 use Rattle.limits.specs.Numbers.{rangeOf, inRange, allIn, every, upTo}
 use Rattle.limits.proofs.Every.{every-rest}
-use Rattle.limits.proofs.TakenWithin.{taken-within, finite-taken}
+use Rattle.limits.proofs.TakenWithin.{finite-taken}
 use Rattle.order.specs.Entries.{entries, first}
 use Rattle.order.proofs.OrderedList.{Each}
 use Rattle.order.proofs.EachEntry.{each-so}
@@ -38,6 +38,7 @@ use Rattle.process_sm_walk.specs.Changes.{changesLeft}
 use Rattle.process_sm_laws.specs.Beats.{Beat, beatKey}
 use Rattle.process_sm_laws.proofs.Segments.{each-append}
 use Rattle.process_sm_laws.proofs.ChangesInOrder.{changeKey}
+use Rattle.rows.proofs.Allowed.{taken-allowed}
 use Rattle.process.proofs.ChangesF32.{F32, ValueF32, ChangeF32}
 
 abbrev pub OnItsRow : Float × Float → Type 0
@@ -139,5 +140,5 @@ ssc-on-rows (beat ∷ beats) (value ∷ values) b =
   where
     go : (t : Bool) → staysSsc (beat, value) ≡ t → inRange (rangeOf RawBeat) beat ≡ true → map quantized (map first (stayedSsc beats values)) ≡ map first (stayedSsc beats values)
         → map quantized (map first (pick t (quantizedEntry (beat, value) ∷ stayedSsc beats values) (stayedSsc beats values))) ≡ map first (pick t (quantizedEntry (beat, value) ∷ stayedSsc beats values) (stayedSsc beats values))
-    go true e i rest = rw (quantized-twice beat (taken-within 16 beat (sym (finite-taken (upTo 16) beat (stays-finite beat value e)) ∙ i)), rest)
+    go true e i rest = rw (quantized-twice beat (taken-allowed beat (sym (finite-taken (upTo 16) beat (stays-finite beat value e)) ∙ i)), rest)
     go false e i rest = rest

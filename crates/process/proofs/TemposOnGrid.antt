@@ -22,7 +22,7 @@ use Rattle.limits.specs.declared.Kind.the-variants as kind
 use Rattle.limits.specs.declared.Kind.the-variants.{RawBeat, RawTempo}
 use Rattle.limits.specs.Numbers.{rangeOf, inRange, allIn, every, upTo}
 use Rattle.limits.proofs.Every.{every-rest}
-use Rattle.limits.proofs.TakenWithin.{taken-within, finite-taken}
+use Rattle.limits.proofs.TakenWithin.{finite-taken}
 use Rattle.order.specs.Order.{From}
 use Rattle.order.specs.Entries.{entries}
 use Rattle.order.specs.FloatKey.{floatKey}
@@ -56,6 +56,7 @@ use Rattle.process_sm_laws.proofs.WalkWithin.{Along, all-states}
 use Rattle.process_sm_laws.specs.Beats.{Beat, beatKey}
 use Rattle.process_sm_laws.specs.inside.Keys.{at, spot}
 use Rattle.process_sm_laws.proofs.BeatsOnRows.{at-le, spot-mono}
+use Rattle.rows.proofs.Allowed.{taken-allowed, within-allowed}
 use Rattle.process.proofs.ChangesF32.{F32, ValueF32, changes-f32}
 use Rattle.process.proofs.StopsOnRows.{OnItsRow, on-its-row}
 
@@ -78,7 +79,7 @@ zero-on-row = ap (λ (r : ℤ). beatOf binary32 r) (row-of-zero binary32 (narrow
 
 pub zero-allowed : T (allowedBeat plusZero)
 unfolding withinPower le
-zero-allowed = tt
+zero-allowed = within-allowed plusZero tt
 
 zero-beat : Beat plusZero
 unfolding fits
@@ -116,7 +117,7 @@ ssc-one : (beat value : Float) → ssc.staysSsc (beat, value) ≡ true → inRan
 unfolding ssc.staysSsc
 ssc-one beat value h b v =
     let says = four (finite beat) (finite value) (le plusZero beat) (lt plusZero value) h in
-    let allowed : T (allowedBeat beat) = taken-within 16 beat (sym (finite-taken (upTo 16) beat (says .0)) ∙ b) in
+    let allowed : T (allowedBeat beat) = taken-allowed beat (sym (finite-taken (upTo 16) beat (says .0)) ∙ b) in
     record { onRow = quantized-twice beat allowed; allowed = quantized-allowed beat allowed; forth = forth-of beat allowed (says .2); tempo = value-taken false value (says .1) (above-nothing value (says .3)) v }
 
 pub ssc-grid : (beats values : List Float) → allIn (rangeOf RawBeat) beats ≡ true → allIn (rangeOf RawTempo) values ≡ true → Each beatKeyOf (OnGrid Narrowed) (ssc.stayedSsc beats values)

@@ -20,7 +20,7 @@ use Rattle.tidy_tempos.specs.TempoTidying.{beatKeyOf, fromZero, changesAfter, c
 use Rattle.process_raw.specs.RawLists.{rawNumbers}
 use Rattle.process_raw.proofs.BothTaken.{both-taken}
 use Rattle.process_ssc.specs.Ssc.{stayedSsc}
-use Rattle.process_sm_lent.specs.Sm.{smWritten}
+use Rattle.process_sm_walk_raw.specs.RawWalk.{smWritten}
 use Rattle.chart.specs.declared.TimingFormat.{TimingFormat}
 use Rattle.chart.specs.declared.TimingFormat.the-variants.{Sm, Ssc}
 use Rattle.process.specs.ByFormat.{tempoBeatsOf, tempoValuesOf, listsBy, processedLists}

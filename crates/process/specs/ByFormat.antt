@@ -12,7 +12,9 @@ use Rattle.process_raw.specs.RawLists.{rawNumbers}
 use Rattle.process_ssc.specs.Ssc as ssc
 use Rattle.process_sm_changes.specs.SmChanges.{smChanges}
 use Rattle.process_sm_walk.specs.Chart.{offsetOf}
-use Rattle.process_sm_lent.specs.Sm.{smWritten, tidiedTempos, SmLaid}
+use Rattle.process_sm_walk_raw.specs.RawWalk.{smWritten}
+use Rattle.tidy_tempos.specs.TempoTidying.{tidiedTempos}
+use Rattle.process_raw.specs.ProcessedLaid.{ProcessedLaid}
 use Rattle.chart.specs.declared.TimingFormat.{TimingFormat}
 use Rattle.chart.specs.declared.TimingFormat.the-variants.{Sm, Ssc}
 
@@ -57,7 +59,7 @@ processedLists format tempoBeats tempoValues stopBeats stopValues =
 -- lists of processing under one number: that of the tests, then 7 where one is longer than its room
 abbrev pub ListsLaid : ℕ → ThreeLists → Processed
     → (tempoBeatsOld tempoBeatsNew tempoValuesOld tempoValuesNew stopBeatsOld stopBeatsNew stopValuesOld stopValuesNew warpBeatsOld warpBeatsNew warpLengthsOld warpLengthsNew : List Float) → Type 0
-ListsLaid tests lists outcome = SmLaid tests (lists .tempos) (lists .stops) (lists .warps) (lists .offset) outcome
+ListsLaid tests lists outcome = ProcessedLaid tests (lists .tempos) (lists .stops) (lists .warps) (lists .offset) outcome
 
 -- the one outcome of the call
 abbrev pub ProcessedBy : TimingFormat → (tempoBeats tempoValues stopBeats stopValues : List Float) → Processed

@@ -1,2 +1,3 @@
 pub mod BothTaken
 pub mod FrontRead
+pub mod OneOutcome

@@ -1,2 +1,3 @@
 pub mod RawLists
+pub mod ProcessedLaid
 pub mod inside

@@ -26,9 +26,9 @@ use Rattle.limits.specs.Numbers.{rangeOf}
 use Rattle.limits.specs.Refusals.{listNumber}
 use Rattle.process_sm_laws.proofs.ChangesTaken.{few-changes, few-written}
 use Rattle.process_sm_laws.proofs.AssemblyTakes.{sm-tempos-tidied}
-use Rattle.process_sm_walk_raw.specs.RawWalk.{RawWalked, walkedNumber}
+use Rattle.process_sm_walk_raw.specs.RawWalk.{RawWalked, walkedNumber, smWritten}
 use Rattle.process_sm_walk_raw.proofs.Numbers.{number-with-room}
-use Rattle.process_sm_lent.specs.Sm.{tidiedTempos, smWritten}
+use Rattle.tidy_tempos.specs.TempoTidying.{tidiedTempos}
 use Rattle.process_sm_lent.proofs.Ends.{by-tests, taken}
 use Rattle.process_sm_lent.proofs.WalkedColumns.{Fronts, walked-fronts}
 use Rattle.process_sm.specs.inside.Rooms.{WalkRooms, RoomsHold, ResultRooms}

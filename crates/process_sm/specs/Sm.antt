@@ -3,7 +3,7 @@ use mathlib.Core.List.{List}
 use lib.Ieee.{Float}
 use Rattle.process_raw.specs.declared.Processed.{Processed}
 use Rattle.process_raw.specs.RawLists.{rawNumbers}
-pub use Rattle.process_sm_lent.specs.Sm.{smWritten, tidiedTempos, SmLaid, SmListsLaid}
+use Rattle.process_sm_lent.specs.Sm.{SmListsLaid}
 
 -- the one outcome of the call: by the tests of both lists, then 7 where a list is longer than its room
 abbrev pub SmProcessed : (tempoBeats tempoValues stopBeats stopValues : List Float) → Processed

@@ -22,7 +22,8 @@ use Rattle.rows.specs.Rows.{allowedBeat}
 use Rattle.rows.proofs.Quantizing.{narrow-allowed}
 use Rattle.limits.specs.declared.Kind.the-variants.{RawBeat, RawTempo, TidyTempo}
 use Rattle.limits.specs.Numbers.{rangeOf, inRange, sizeOf, power, upTo, tempo}
-use Rattle.limits.proofs.TakenWithin.{taken-within, finite-taken}
+use Rattle.limits.proofs.TakenWithin.{finite-taken}
+use Rattle.rows.proofs.Allowed.{taken-allowed}
 use Rattle.process_sm_changes.specs.SmChanges.{staysSm}
 
 -- ---- what stays
@@ -44,7 +45,7 @@ stays-says (fin s m e) (fin t n d) h = record { beatFinite = tt; valueFinite = t
     go true k = let z : _≡_ {A = ℕ} 0 1 = cc in absurd (omega arith)
 
 pub beat-allowed : (beat : Float) → T (finite beat) → inRange (rangeOf RawBeat) beat ≡ true → T (allowedBeat (narrow beat))
-beat-allowed beat f h = narrow-allowed beat (taken-within 16 beat (sym (finite-taken (upTo 16) beat f) ∙ h))
+beat-allowed beat f h = narrow-allowed beat (taken-allowed beat (sym (finite-taken (upTo 16) beat f) ∙ h))
 
 -- ---- the size of a number that is not 0: its own, with the sign clear
 size-is : (s : Bool) (m : ℕ) (e : ℤ) → 0 < m * up e → sizeOf (fin s m e) ≡ fin false m e

@@ -10,7 +10,7 @@ use lib.Ieee.{Float, binary32, add, sub, mul, div, lt, le, ofBits}
 use lib.Ieee.Scale.{finite}
 use Rattle.ieee.specs.Constants.{plusZero32, sixty32}
 use Rattle.picks.specs.Pick.{pick}
-use Rattle.ieee.proofs.Magnitude.{AtMost, Sized, sized}
+use Rattle.ieee.proofs.Magnitude.{AtMost, Sized}
 use Rattle.ieee.proofs.SizesAddUp.{OfFormat, power-of-format, digits-of-format, at-most-finite, at-most-wider, add-at-most, sub-at-most, mul-at-most, div-at-most}
 use Rattle.limits.proofs.TempoSizes.{tempo-at-most, tempo-at-least}
 use Rattle.process_sm_machine.specs.declared.Change.{Change}
@@ -24,6 +24,7 @@ use Rattle.process_sm_machine.specs.declared.Written.the-variants.{Nothing, One
 use Rattle.process_sm_machine.specs.declared.Moved.{Moved}
 use Rattle.process_sm_machine.proofs.Either.{either}
 use Rattle.process_sm_machine.specs.Machine.{fastest, fits, entryAt, warpOver, still, openChart, owedAt, settledAt, keepWarp, closeByTime, passInWarp, passBy, pass, tempoOutside, tempoBy, meetTempo, stopOutside, closeByStop, beginAgain, stopInWarp, stopBy, meetStop, meet, warpEndOf, finishWarp, finishBy, finish}
+use Rattle.rows.proofs.Allowed.{allowed-sized}
 use Rattle.process_sm_laws.specs.Beats.{Beat}
 use Rattle.process_sm_laws.proofs.ChangesInOrder.{beat-naught}
 use Rattle.process_sm_laws.proofs.Sides.{On, zero, add-side, mul-side, div-side, sub-forward, below-on, not-above-on, above-if-not-below, rest-at-most}
@@ -112,7 +113,7 @@ seconds tempo last beat = div binary32 (sixtyfold last beat) tempo
 
 module _ (tempo last beat : Float) (t : IsTempo tempo) (l : Beat last) (b : Beat beat) where
   pub between-at-most : AtMost (2 ^ 17) (between last beat)
-  between-at-most = sub-at-most binary32 (power-of-format binary32 17 (lit≤ tt)) beat last (sized 16 beat (b .allowed)) (sized 16 last (l .allowed)) (lit≤ tt)
+  between-at-most = sub-at-most binary32 (power-of-format binary32 17 (lit≤ tt)) beat last (allowed-sized beat (b .allowed)) (allowed-sized last (l .allowed)) (lit≤ tt)
 
   pub sixtyfold-at-most : AtMost (2 ^ 23) (sixtyfold last beat)
   sixtyfold-at-most = mul-at-most binary32 (power-of-format binary32 23 (lit≤ tt)) (between last beat) sixty32 between-at-most sixty-at-most (lit≤ tt)
@@ -124,7 +125,7 @@ module _ (tempo last beat : Float) (t : IsTempo tempo) (l : Beat last) (b : Beat
   seconds-not-above : T (le last beat) → lt plusZero32 tempo ≡ false → On true (seconds tempo last beat)
   unfolding ofBits
   seconds-not-above forth h =
-      let forward = sub-forward binary32 beat last (sized 16 beat (b .allowed)) (sized 16 last (l .allowed)) forth (at-most-finite between-at-most) in
+      let forward = sub-forward binary32 beat last (allowed-sized beat (b .allowed)) (allowed-sized last (l .allowed)) forth (at-most-finite between-at-most) in
       let upward = mul-side (between last beat) sixty32 between-at-most sixty-at-most binary32 false false forward (inl refl) (at-most-finite sixtyfold-at-most) in
       div-side binary32 (sixtyfold last beat) tempo sixtyfold-at-most (tempo-at-least tempo t) false true upward (not-above-on tempo (at-most-finite (tempo-at-most false tempo t)) h) (at-most-finite seconds-at-most)
 

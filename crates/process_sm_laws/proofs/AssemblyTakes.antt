@@ -23,6 +23,7 @@ use Rattle.process_raw.specs.RawLists.{rawNumber, rawNumbers}
 use Rattle.process_raw.proofs.BothTaken.{both-taken}
 use Rattle.process_sm_changes.specs.SmChanges.{smChanges}
 use Rattle.process_sm_walk.specs.Chart.{processed}
+use Rattle.rows.proofs.Allowed.{allowed-taken}
 use Rattle.process_sm_laws.specs.Beats.{beatKey}
 use Rattle.process_sm_laws.proofs.ArrowsKeepOrder.{OneOf, OnRow}
 use Rattle.process_sm_laws.proofs.WrittenInOrder.{tempos-written, stops-on-rows, warps-on-rows}
@@ -86,7 +87,7 @@ module _ (tempoBeats tempoValues stopBeats stopValues : List Float) (taken : raw
   sm-stops-taken =
       let out = processed tempos stops .stops in
       list-number (rangeOf Beat) (rangeOf Value) out (omega (arith, few-written tempoBeats tempoValues stopBeats stopValues t s .stops, changes-most stopBeats stopValues s))
-      (beats-in (rangeOf Beat) out (each-so (beatKey binary32) (λ e h. within-taken 16 (e .0) h) out stops-are))
+      (beats-in (rangeOf Beat) out (each-so (beatKey binary32) (λ e h. allowed-taken (e .0) h) out stops-are))
       (is-in (rangeOf Value) stop-taken out (lists .stopsAre))
 
   pub sm-stops-above : Values IsStop (processed tempos stops .stops)
@@ -96,7 +97,7 @@ module _ (tempoBeats tempoValues stopBeats stopValues : List Float) (taken : raw
   pub sm-warps-taken : (allIn (rangeOf Beat) (map first (processed tempos stops .warps)) ≡ true) × (allIn (rangeOf Value) (map second (processed tempos stops .warps)) ≡ true)
   sm-warps-taken =
       let out = processed tempos stops .warps in (
-        beats-in (rangeOf Beat) out (each-so (beatKey binary32) (λ e h. within-taken 16 (e .0) h) out warps-are),
+        beats-in (rangeOf Beat) out (each-so (beatKey binary32) (λ e h. allowed-taken (e .0) h) out warps-are),
         is-in (rangeOf Value) length-taken out (lists .warpsAre),
       )
 
@@ -113,7 +114,7 @@ module _ (tempoBeats tempoValues stopBeats stopValues : List Float) (taken : raw
   sm-tempos-taken =
       let out = processed tempos stops .tempos in
       list-number (rangeOf Beat) (rangeOf Tempo) out most-tempos
-      (beats-in (rangeOf Beat) out (each-so (beatKey binary32) (λ e h. within-taken 16 (e .0) (h .0)) out tempos-are))
+      (beats-in (rangeOf Beat) out (each-so (beatKey binary32) (λ e h. allowed-taken (e .0) (h .0)) out tempos-are))
       (values-in (rangeOf Tempo) out (each-so (beatKey binary32) (λ e h. h .1) out tempos-are))
 
   -- and so tempo tidying takes them
@@ -121,5 +122,5 @@ module _ (tempoBeats tempoValues stopBeats stopValues : List Float) (taken : raw
   sm-tempos-tidied =
       let out = processed tempos stops .tempos in
       list-number (rangeOf Beat) (rangeOf TidyTempo) out most-tempos
-      (beats-in (rangeOf Beat) out (each-so (beatKey binary32) (λ e h. within-taken 16 (e .0) (h .0)) out tempos-are))
+      (beats-in (rangeOf Beat) out (each-so (beatKey binary32) (λ e h. allowed-taken (e .0) (h .0)) out tempos-are))
       (values-in (rangeOf TidyTempo) out (each-so (beatKey binary32) (λ e h. tempo-or-zero (e .1) (h .1)) out tempos-are))

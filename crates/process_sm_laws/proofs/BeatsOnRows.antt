@@ -9,19 +9,15 @@ use lib.Ieee.{Float, Format, binary32, binary64, isNan, fits, le, lt, ofInt}
 use lib.Ieee.Bits.{is-false}
 use lib.Ieee.Fits.{div-fits, fits-widens}
 use borrow.Author.Tests.{le-leb, ltb-false}
-use Rattle.ieee.proofs.Values.{finite-number}
-use Rattle.ieee.proofs.Magnitude.{within-finite}
 use Rattle.rows.specs.Rows.{row, quantized32, allowedBeat}
 use Rattle.rows.proofs.RowWithin.{row-within}
 use Rattle.rows.proofs.RowsKeepOrder.{row-mono}
 use Rattle.rows.proofs.BeatsRise.{beat-order}
 use Rattle.rows.proofs.Quantizing.{quantized32-allowed}
 use Rattle.order.proofs.FloatKeys.{floats-below, floats-at-most}
+use Rattle.rows.proofs.Allowed.{allowed-number}
 use Rattle.process_sm_laws.specs.Beats.{Beat}
 use Rattle.process_sm_laws.specs.inside.Keys.{at, spot}
-
-allowed-number : (x : Float) → T (allowedBeat x) → T (not (isNan x))
-allowed-number x h = finite-number x (within-finite 16 x h)
 
 quantized-fits : (f : Format) (x : Float) → T (fits f (quantized32 x))
 quantized-fits binary32 x = div-fits binary32 (ofInt binary32 (row binary32 x)) (ofInt binary32 (pos 48))

@@ -18,6 +18,7 @@ use Rattle.process_sm_machine.specs.declared.Change.{Change}
 use Rattle.process_sm_machine.specs.Machine.{beatAt}
 use Rattle.process_sm_walk.specs.Changes.{tempoOf, stopOf, weave, mergedChanges}
 use Rattle.process_sm_walk.specs.Chart.{temposBy0, stopsBefore}
+use Rattle.rows.proofs.Allowed.{within-allowed}
 use Rattle.process_sm_laws.specs.Beats.{Beat, beatKey}
 use Rattle.process_sm_laws.specs.inside.Keys.{at}
 use Rattle.process_sm_laws.proofs.BeatsOnRows.{at-le, at-lt}
@@ -122,7 +123,7 @@ module _ {A : Type 0} (key : A → ℕ) where
 
 pub beat-naught : Beat plusZero32
 unfolding ofBits le fits withinPower
-beat-naught = record { held = tt; allowed = tt }
+beat-naught = record { held = tt; allowed = within-allowed plusZero32 tt }
 
 stops-after : (stops : List (Float × Float)) → Beats stops → NeverFalls (beatKey binary32) stops → From (beatKey binary32) (at plusZero32) (drop (stopsBefore stops) stops)
 unfolding stopsBefore

@@ -8,7 +8,7 @@ use lib.Dec.{T, lit≤, lit<}
 use lib.Ieee.{Float, binary32, add, sub, mul, div, ofInt, ofBits}
 use lib.Ieee.Scale.{finite}
 use Rattle.ieee.specs.Constants.{sixty32}
-use Rattle.ieee.proofs.Magnitude.{AtMost, Sized, sized}
+use Rattle.ieee.proofs.Magnitude.{AtMost, Sized}
 use Rattle.ieee.proofs.SizesAddUp.{AtLeast, power-of-format, at-most-finite, at-most-wider, sub-at-most, mul-at-most, div-at-most}
 use Rattle.limits.proofs.TempoSizes.{tempo-at-most}
 use Rattle.rows.proofs.RowValue.{like-48}
@@ -25,6 +25,7 @@ use Rattle.process_sm_machine.specs.declared.State.{State}
 use Rattle.process_sm_machine.specs.Machine.{endless, owedAt, settledAt, openChart, beatAt, timePassed, met}
 use Rattle.process_sm_walk.specs.Changes.{changesLeft}
 use Rattle.process_sm_walk.specs.Chart.{openingTempo, openingPlaces}
+use Rattle.rows.proofs.Allowed.{allowed-sized}
 use Rattle.process_sm_laws.specs.Beats.{Beat}
 use Rattle.process_sm_laws.proofs.ChangesInOrder.{changeKey}
 use Rattle.process_sm_laws.proofs.ChangesTaken.{IsTempo, changes-good, changes-most, in-order}
@@ -95,7 +96,7 @@ endless-at-most = record { negative = false; num = 100000000; den = 1; den-pos =
 
 length-reckoned : (start end : Float) → Beat start → Sized 90 end → LengthReckoned start end
 length-reckoned start end b e =
-    let long = sub-at-most binary32 (power-of-format binary32 91 (lit≤ tt)) end start e (sized 16 start (b .allowed)) (lit≤ tt) in
+    let long = sub-at-most binary32 (power-of-format binary32 91 (lit≤ tt)) end start e (allowed-sized start (b .allowed)) (lit≤ tt) in
     record { length = at-most-finite long; rows = at-most-finite (mul-at-most binary32 (power-of-format binary32 97 (lit≤ tt)) (sub binary32 end start) (ofInt binary32 (pos 48)) long forty-eight (lit≤ tt)) }
 
 -- at most 4,096 + 1 spans are owed
@@ -107,7 +108,7 @@ module _ (tempo beat start owed : Float) (t : IsTempo tempo) (b : Beat beat) (s 
   quotient-at-most = div-at-most binary32 (power-of-format binary32 86 (lit≤ tt)) (mul binary32 owed tempo) sixty32 product-at-most sixty-at-least (lit≤ tt)
 
   settled-at-most : Sized 90 (settledAt tempo beat owed)
-  settled-at-most = sub-at-most binary32 (power-of-format binary32 90 (lit≤ tt)) beat (div binary32 (mul binary32 owed tempo) sixty32) (sized 16 beat (b .allowed)) quotient-at-most (lit≤ tt)
+  settled-at-most = sub-at-most binary32 (power-of-format binary32 90 (lit≤ tt)) beat (div binary32 (mul binary32 owed tempo) sixty32) (allowed-sized beat (b .allowed)) quotient-at-most (lit≤ tt)
 
   pub end-reckoned : EndReckoned tempo beat start owed
   end-reckoned = record {
@@ -133,7 +134,7 @@ stop-reckoned Closed tempo beat change w g = tt
 stop-reckoned (Open warp) tempo beat (Tempo entry) w g = tt
 stop-reckoned (Open warp) tempo beat (Stop entry) w g = record {
   rest = at-most-finite (rest-within 4096 (lit< tt) tempo beat (entry .value) (w .tempo) (w .beat) (g .1) warp (w .warp));
-  end = length-reckoned (warp .start) beat (w .warp .start) (at-most-wider (lit≤ tt) (sized 16 beat (w .beat .allowed)));
+  end = length-reckoned (warp .start) beat (w .warp .start) (at-most-wider (lit≤ tt) (allowed-sized beat (w .beat .allowed)));
 }
 
 at-end : (warp : Warp) (tempo beat : Float) → Within 4096 (record { tempo = tempo; beat = beat; warp = warp }) → AtEnd warp tempo beat

@@ -15,7 +15,8 @@ use Rattle.columns.specs.declared.Outcome.{Outcome}
 use Rattle.columns.specs.Laying.{roomNumber, LaidPair}
 use Rattle.columns.proofs.Rooms.{number-of-tests, number-no-room, number-taken, list-refused, list-laid, list-of-pair, pair-fits, pair-short, pair-untouched}
 use Rattle.process_raw.specs.RawLists.{roomFor, processedNothing}
-use Rattle.process_sm_lent.specs.Sm.{tidiedTempos, SmLaid}
+use Rattle.tidy_tempos.specs.TempoTidying.{tidiedTempos}
+use Rattle.process_raw.specs.ProcessedLaid.{ProcessedLaid}
 
 stays : (n count room : ℕ) → (n ≡ 0 → ⊥) → (m : ℕ) → m ≡ n → m ≡ roomNumber n count room
 stays n count room h m e = e ∙ number-of-tests n count room h
@@ -23,30 +24,30 @@ stays n count room h m e = e ∙ number-of-tests n count room h
 module _ {tests : ℕ} {tempos stops warps : List (Float × Float)} {offset : Float} {tempoBeatsOld tempoValuesOld stopBeatsOld stopValuesOld warpBeatsOld warpLengthsOld : List Float} where
   refused : {number : ℕ} → (number ≡ 0 → ⊥)
       → number ≡ roomNumber (roomNumber (roomNumber tests (length stops) (roomFor stopBeatsOld stopValuesOld)) (length warps) (roomFor warpBeatsOld warpLengthsOld)) (length tempos) (roomFor tempoBeatsOld tempoValuesOld)
-      → SmLaid tests tempos stops warps offset (processedNothing number) tempoBeatsOld tempoBeatsOld tempoValuesOld tempoValuesOld stopBeatsOld stopBeatsOld stopValuesOld stopValuesOld warpBeatsOld warpBeatsOld warpLengthsOld warpLengthsOld
+      → ProcessedLaid tests tempos stops warps offset (processedNothing number) tempoBeatsOld tempoBeatsOld tempoValuesOld tempoValuesOld stopBeatsOld stopBeatsOld stopValuesOld stopValuesOld warpBeatsOld warpBeatsOld warpLengthsOld warpLengthsOld
   refused {number} h e = record { number = e; temposLaid = list-refused h; stopsLaid = list-refused h; warpsLaid = list-refused h; offsetIs = rw (ne-eqb number 0 h) }
 
-  pub by-tests : (tests ≡ 0 → ⊥) → SmLaid tests tempos stops warps offset (processedNothing tests) tempoBeatsOld tempoBeatsOld tempoValuesOld tempoValuesOld stopBeatsOld stopBeatsOld stopValuesOld stopValuesOld warpBeatsOld warpBeatsOld warpLengthsOld warpLengthsOld
+  pub by-tests : (tests ≡ 0 → ⊥) → ProcessedLaid tests tempos stops warps offset (processedNothing tests) tempoBeatsOld tempoBeatsOld tempoValuesOld tempoValuesOld stopBeatsOld stopBeatsOld stopValuesOld stopValuesOld warpBeatsOld warpBeatsOld warpLengthsOld warpLengthsOld
   by-tests h =
       let one = number-of-tests tests (length stops) (roomFor stopBeatsOld stopValuesOld) h in
       let two = stays _ (length warps) (roomFor warpBeatsOld warpLengthsOld) (λ e. h (one ∙ e)) tests one in
       refused h (stays _ (length tempos) (roomFor tempoBeatsOld tempoValuesOld) (λ e. h (two ∙ e)) tests two)
 
   module _ (passed : tests ≡ 0) where
-    pub for-stops : roomFor stopBeatsOld stopValuesOld < length stops → SmLaid tests tempos stops warps offset (processedNothing 7) tempoBeatsOld tempoBeatsOld tempoValuesOld tempoValuesOld stopBeatsOld stopBeatsOld stopValuesOld stopValuesOld warpBeatsOld warpBeatsOld warpLengthsOld warpLengthsOld
+    pub for-stops : roomFor stopBeatsOld stopValuesOld < length stops → ProcessedLaid tests tempos stops warps offset (processedNothing 7) tempoBeatsOld tempoBeatsOld tempoValuesOld tempoValuesOld stopBeatsOld stopBeatsOld stopValuesOld stopValuesOld warpBeatsOld warpBeatsOld warpLengthsOld warpLengthsOld
     for-stops short =
         let one = number-no-room tests _ _ passed short in
         let two = stays _ (length warps) (roomFor warpBeatsOld warpLengthsOld) (λ e. let z : _≡_ {A = ℕ} 7 0 = one ∙ e in omega arith) 7 one in
         refused (λ e. omega arith) (stays _ (length tempos) (roomFor tempoBeatsOld tempoValuesOld) (λ e. let z : _≡_ {A = ℕ} 7 0 = two ∙ e in omega arith) 7 two)
 
     module _ (stopsFit : length stops ≤ roomFor stopBeatsOld stopValuesOld) where
-      pub for-warps : roomFor warpBeatsOld warpLengthsOld < length warps → SmLaid tests tempos stops warps offset (processedNothing 7) tempoBeatsOld tempoBeatsOld tempoValuesOld tempoValuesOld stopBeatsOld stopBeatsOld stopValuesOld stopValuesOld warpBeatsOld warpBeatsOld warpLengthsOld warpLengthsOld
+      pub for-warps : roomFor warpBeatsOld warpLengthsOld < length warps → ProcessedLaid tests tempos stops warps offset (processedNothing 7) tempoBeatsOld tempoBeatsOld tempoValuesOld tempoValuesOld stopBeatsOld stopBeatsOld stopValuesOld stopValuesOld warpBeatsOld warpBeatsOld warpLengthsOld warpLengthsOld
       for-warps short =
           let two = number-no-room _ (length warps) (roomFor warpBeatsOld warpLengthsOld) (sym (number-taken tests _ _ passed stopsFit)) short in
           refused (λ e. omega arith) (stays _ (length tempos) (roomFor tempoBeatsOld tempoValuesOld) (λ e. let z : _≡_ {A = ℕ} 7 0 = two ∙ e in omega arith) 7 two)
 
       module _ (warpsFit : length warps ≤ roomFor warpBeatsOld warpLengthsOld) {outcome : Outcome} {tempoBeatsNew tempoValuesNew : List Float} (tidy : LaidPair 0 tempos outcome tempoBeatsOld tempoBeatsNew tempoValuesOld tempoValuesNew) where
-        pub for-tempos : (outcome .number ≡ 0 → ⊥) → SmLaid tests tempos stops warps offset (processedNothing 7) tempoBeatsOld tempoBeatsNew tempoValuesOld tempoValuesNew stopBeatsOld stopBeatsOld stopValuesOld stopValuesOld warpBeatsOld warpBeatsOld warpLengthsOld warpLengthsOld
+        pub for-tempos : (outcome .number ≡ 0 → ⊥) → ProcessedLaid tests tempos stops warps offset (processedNothing 7) tempoBeatsOld tempoBeatsNew tempoValuesOld tempoValuesNew stopBeatsOld stopBeatsOld stopValuesOld stopValuesOld warpBeatsOld warpBeatsOld warpLengthsOld warpLengthsOld
         for-tempos h =
             let same = pair-untouched tidy h in
             rw (same .0, same .1) (refused (λ e. omega arith) (number-no-room _ _ _ (sym (number-taken _ _ _ (sym (number-taken tests _ _ passed stopsFit)) warpsFit)) (pair-short tidy h)))
@@ -54,7 +55,7 @@ module _ {tests : ℕ} {tempos stops warps : List (Float × Float)} {offset : Fl
         pub taken : (stopCount warpCount : ℕ) {stopBeatsNew stopValuesNew warpBeatsNew warpLengthsNew : List Float} → outcome .number ≡ 0 → stopCount ≡ length stops → warpCount ≡ length warps
             → stopBeatsNew ≡ laid (map first stops) stopBeatsOld → stopValuesNew ≡ laid (map second stops) stopValuesOld
             → warpBeatsNew ≡ laid (map first warps) warpBeatsOld → warpLengthsNew ≡ laid (map second warps) warpLengthsOld
-            → SmLaid tests tempos stops warps offset (record { number = 0; tempos = outcome .count; stops = stopCount; warps = warpCount; offset = offset }) tempoBeatsOld tempoBeatsNew tempoValuesOld tempoValuesNew stopBeatsOld stopBeatsNew stopValuesOld stopValuesNew warpBeatsOld warpBeatsNew warpLengthsOld warpLengthsNew
+            → ProcessedLaid tests tempos stops warps offset (record { number = 0; tempos = outcome .count; stops = stopCount; warps = warpCount; offset = offset }) tempoBeatsOld tempoBeatsNew tempoValuesOld tempoValuesNew stopBeatsOld stopBeatsNew stopValuesOld stopValuesNew warpBeatsOld warpBeatsNew warpLengthsOld warpLengthsNew
         taken stopCount warpCount h sc wc a b d e = record {
           number = number-taken _ _ _ (sym (number-taken _ _ _ (sym (number-taken tests _ _ passed stopsFit)) warpsFit)) (pair-fits tidy h);
           temposLaid = list-of-pair tidy h;
@@ -65,9 +66,9 @@ module _ {tests : ℕ} {tempos stops warps : List (Float × Float)} {offset : Fl
 
 -- results that are read from columns are the lists that stand there
 module _ (T : List (Float × Float)) {tests : ℕ} {S W : List (Float × Float)} {o offset : Float} {outcome : Processed} {tb tv sb sv wb wl : List Float} {tempoBeatsOld tempoBeatsNew tempoValuesOld tempoValuesNew stopBeatsOld stopBeatsNew stopValuesOld stopValuesNew warpBeatsOld warpBeatsNew warpLengthsOld warpLengthsNew : List Float} where
-  pub as-read : SmLaid 0 (tidyTempos tb tv) (entries sb sv) (entries wb wl) o outcome tempoBeatsOld tempoBeatsNew tempoValuesOld tempoValuesNew stopBeatsOld stopBeatsNew stopValuesOld stopValuesNew warpBeatsOld warpBeatsNew warpLengthsOld warpLengthsNew
+  pub as-read : ProcessedLaid 0 (tidyTempos tb tv) (entries sb sv) (entries wb wl) o outcome tempoBeatsOld tempoBeatsNew tempoValuesOld tempoValuesNew stopBeatsOld stopBeatsNew stopValuesOld stopValuesNew warpBeatsOld warpBeatsNew warpLengthsOld warpLengthsNew
       → tests ≡ 0 → tb ≡ map first T → tv ≡ map second T → sb ≡ map first S → sv ≡ map second S → wb ≡ map first W → wl ≡ map second W → o ≡ offset
-      → SmLaid tests (tidiedTempos T) S W offset outcome tempoBeatsOld tempoBeatsNew tempoValuesOld tempoValuesNew stopBeatsOld stopBeatsNew stopValuesOld stopValuesNew warpBeatsOld warpBeatsNew warpLengthsOld warpLengthsNew
+      → ProcessedLaid tests (tidiedTempos T) S W offset outcome tempoBeatsOld tempoBeatsNew tempoValuesOld tempoValuesNew stopBeatsOld stopBeatsNew stopValuesOld stopValuesNew warpBeatsOld warpBeatsNew warpLengthsOld warpLengthsNew
   as-read p t a b c d e f g =
       let laid-stops : entries sb sv ≡ S = rw (c, d) (entries-columns S) in
       let laid-warps : entries wb wl ≡ W = rw (e, f) (entries-columns W) in

@@ -8,8 +8,8 @@ use Rattle.columns.specs.Laying.{columnLaid}
 use Rattle.process_raw.specs.declared.Processed.{Processed}
 use Rattle.process_sm_walk.specs.Chart.{Output}
 use Rattle.process_sm_walk.specs.Columns.{Columns}
-use Rattle.process_sm_walk_raw.specs.RawWalk.{walkedNumber}
-use Rattle.process_sm_lent.specs.Sm.{smWritten, SmListsLaid}
+use Rattle.process_sm_walk_raw.specs.RawWalk.{walkedNumber, smWritten}
+use Rattle.process_sm_lent.specs.Sm.{SmListsLaid}
 
 -- what the walk writes stands in the fronts of the work columns
 pub record WorkLaid (number : ℕ) (out : Output) (old new : Columns) : Type 0 where

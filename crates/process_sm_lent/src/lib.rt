@@ -10,7 +10,7 @@ ghost use Rattle.order.specs.Order.{laid};
 ghost use Rattle.order.specs.Entries.{entries};
 ghost use Rattle.tidy_tempos.specs.TempoTidying.{tidyTempos};
 ghost use Rattle.process_sm_walk.specs.Columns.{columns};
-ghost use Rattle.process_sm_lent.specs.Sm.{SmLaid};
+ghost use Rattle.process_raw.specs.ProcessedLaid.{ProcessedLaid};
 ghost use Rattle.process_sm_lent.specs.Lent.{LentLaid};
 
 // ---- results into their rooms
@@ -44,7 +44,7 @@ fn lay_results(
 ) -> Processed
     requires { ⌜ listNumber (rangeOf Beat) (rangeOf TidyTempo) (now «tempo_beats») (now «tempo_values») ≡ 0 ⌝ }
     requires { ⌜ (length (now «stop_beats») ≡ length (now «stop_values»)) × (length (now «warp_beats») ≡ length (now «warp_lengths»)) ⌝ }
-    ensures { λ r. ⌜ SmLaid 0 (tidyTempos (now («tempo_beats» .entry)) (now («tempo_values» .entry))) (entries (now («stop_beats» .entry)) (now («stop_values» .entry))) (entries (now («warp_beats» .entry)) (now («warp_lengths» .entry))) offset r (now («out_tempo_beats» .entry)) (now («out_tempo_beats» .exit)) (now («out_tempo_values» .entry)) (now («out_tempo_values» .exit)) (now («out_stop_beats» .entry)) (now («out_stop_beats» .exit)) (now («out_stop_values» .entry)) (now («out_stop_values» .exit)) (now («out_warp_beats» .entry)) (now («out_warp_beats» .exit)) (now («out_warp_lengths» .entry)) (now («out_warp_lengths» .exit)) ⌝ }
+    ensures { λ r. ⌜ ProcessedLaid 0 (tidyTempos (now («tempo_beats» .entry)) (now («tempo_values» .entry))) (entries (now («stop_beats» .entry)) (now («stop_values» .entry))) (entries (now («warp_beats» .entry)) (now («warp_lengths» .entry))) offset r (now («out_tempo_beats» .entry)) (now («out_tempo_beats» .exit)) (now («out_tempo_values» .entry)) (now («out_tempo_values» .exit)) (now («out_stop_beats» .entry)) (now («out_stop_beats» .exit)) (now («out_stop_values» .entry)) (now («out_stop_values» .exit)) (now («out_warp_beats» .entry)) (now («out_warp_beats» .exit)) (now («out_warp_lengths» .entry)) (now («out_warp_lengths» .exit)) ⌝ }
 {
     if stop_beats.len() > columns::room_of(out_stop_beats.len(), out_stop_values.len()) {
         return process_raw::refused(limits::NO_ROOM);

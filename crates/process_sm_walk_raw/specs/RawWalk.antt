@@ -8,9 +8,14 @@ use Rattle.limits.specs.Table.{noRoom}
 use Rattle.picks.specs.Pick.{pick}
 use Rattle.process_raw.specs.RawLists.{rawNumbers}
 use Rattle.process_sm_changes.specs.SmChanges.{smChanges}
+use Rattle.process_sm_walk.specs.Chart.{Output, processed}
 use Rattle.process_sm_walk.specs.declared.Walked.{Walked}
 use Rattle.process_sm_walk.specs.Columns.{Columns, mostWritten}
 use Rattle.process_sm_walk.specs.Walking.{hasRoom, WalkLaid}
+
+-- what the walk writes of both lists, as changes in order. Its stops and warps are in order by beat already, which is proved of the walk
+abbrev pub smWritten : (tempoBeats tempoValues stopBeats stopValues : List Float) → Output
+smWritten tempoBeats tempoValues stopBeats stopValues = processed (smChanges tempoBeats tempoValues) (smChanges stopBeats stopValues)
 
 -- the number of both lists, then 7 where the most that their changes can write has no room
 unfoldable pub walkedNumber : (tempoBeats tempoValues stopBeats stopValues : List Float) → Columns → ℕ

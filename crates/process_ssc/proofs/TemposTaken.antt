@@ -16,12 +16,13 @@ use Rattle.limits.specs.Numbers.{rangeOf, inRange, allIn, every, upTo, tempo}
 use Rattle.limits.specs.Refusals.{listNumber}
 use Rattle.limits.proofs.Every.{every-rest}
 use Rattle.limits.proofs.ListTaken.{list-taken, list-passes}
-use Rattle.limits.proofs.TakenWithin.{taken-within, within-taken, finite-taken}
+use Rattle.limits.proofs.TakenWithin.{finite-taken}
 use Rattle.order.specs.Entries.{entries, first, second}
 use Rattle.order.proofs.Columns.{length-entries}
 use Rattle.columns.specs.Kept.{kept}
 use Rattle.columns.proofs.KeptLaid.{few-kept}
 use Rattle.process_raw.specs.RawLists.{rawNumber}
+use Rattle.rows.proofs.Allowed.{taken-allowed, allowed-taken}
 use Rattle.process_ssc.specs.Ssc.{staysSsc, quantizedEntry, stayedSsc}
 
 -- what stays is finite
@@ -37,7 +38,7 @@ one-taken : (beat value : Float) → staysSsc (beat, value) ≡ true → inRange
     → (inRange (rangeOf Beat) (quantized beat) ≡ true) × (inRange (rangeOf TidyTempo) value ≡ true)
 one-taken beat value t b v =
     let both = stays-finite beat value t in
-    (within-taken 16 (quantized beat) (quantized-allowed beat (taken-within 16 beat (sym (finite-taken (upTo 16) beat (both .0)) ∙ b))), sym (finite-taken (tempo true) value (both .1)) ∙ v)
+    (allowed-taken (quantized beat) (quantized-allowed beat (taken-allowed beat (sym (finite-taken (upTo 16) beat (both .0)) ∙ b))), sym (finite-taken (tempo true) value (both .1)) ∙ v)
 
 all-taken : (beats values : List Float) → allIn (rangeOf RawBeat) beats ≡ true → allIn (rangeOf RawTempo) values ≡ true
     → (allIn (rangeOf Beat) (map first (stayedSsc beats values)) ≡ true) × (allIn (rangeOf TidyTempo) (map second (stayedSsc beats values)) ≡ true)

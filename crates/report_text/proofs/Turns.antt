@@ -8,7 +8,7 @@ use lib.ListN.{length, take, drop, getD, length-take, drop-of-length-le}
 use lib.Seq.{drop-cons, getD-take}
 use lib.IntN.{ℤ, pos, negsuc}
 use lib.Ieee.{Float, nan}
-use Rattle.order.specs.RowKey.{rowKey}
+use Rattle.rows.specs.RowKey.{rowKey}
 use Rattle.report_text.specs.Page.{Wrote}
 use Rattle.report_text.specs.Output.{pairLine, pairLines, speedLine, speedLines, lengthRows, warpedRows, size}
 use Rattle.report_text.proofs.Joined.{Left, left-turn, left-end}

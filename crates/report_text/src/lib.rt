@@ -158,7 +158,7 @@ fn length_rows(length: f32) -> u64
     ensures { λ r. ⌜ r ≡ lengthRows length ⌝ }
 {
     if length > 0.0 {
-        return above_zero(order::key_of_row(rows::beat_to_note_row(std::num::f32_to_f64_with_nan(
+        return above_zero(rows::key_of_row(rows::beat_to_note_row(std::num::f32_to_f64_with_nan(
             length,
         ))));
     }

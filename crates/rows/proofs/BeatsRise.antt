@@ -12,16 +12,18 @@ use lib.Ieee.Bits.{is-true, is-false}
 use lib.Ieee.Scale.{finite}
 use Rattle.ieee.proofs.FloatOrder.{lt-le, lt-not-le}
 use Rattle.ieee.proofs.Magnitude.{sized-within, within-finite}
-use Rattle.rows.specs.Rows.{row, beatOf, allowedBeat, mostRow}
+use Rattle.limits.specs.Numbers.{mostRow}
+use Rattle.rows.specs.Rows.{row, beatOf, allowedBeat}
 use Rattle.rows.proofs.RowValue.{beat-sized}
 use Rattle.rows.proofs.RowOfBeat.{row-of-beat}
 use Rattle.rows.proofs.RowsKeepOrder.{rows-rise}
+use Rattle.rows.proofs.Allowed.{within-allowed}
 
 pub beat-allowed : (f : Format) (r : ℤ) → natAbs r ≤ mostRow → T (allowedBeat (beatOf f r))
-beat-allowed f r h = sized-within 16 (beatOf f r) (beat-sized f r h)
+beat-allowed f r h = within-allowed (beatOf f r) (sized-within 16 (beatOf f r) (beat-sized f r h))
 
 pub beat-finite : (f : Format) (r : ℤ) → natAbs r ≤ mostRow → T (finite (beatOf f r))
-beat-finite f r h = within-finite 16 (beatOf f r) (beat-allowed f r h)
+beat-finite f r h = within-finite 16 (beatOf f r) (sized-within 16 (beatOf f r) (beat-sized f r h))
 
 pub beat-of-zero : (f : Format) → beatOf f (pos 0) ≡ fin false 0 (pos 0)
 unfolding div ofInt

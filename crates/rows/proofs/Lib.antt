@@ -1,3 +1,4 @@
+pub mod Allowed
 pub mod RowValue
 pub mod RowOfZero
 pub mod RowOfBeat
@@ -13,3 +14,4 @@ pub mod RowByHalves
 pub mod Quantizing
 pub mod RowBySum
 pub mod RowMarks
+pub mod RowKeys

@@ -12,7 +12,8 @@ use Rattle.ieee.specs.Narrowing.{narrow}
 use Rattle.ieee.proofs.Narrow.{narrow-value}
 use Rattle.ieee.proofs.RoundedSize.{grid-ge, grid-near}
 use Rattle.ieee.proofs.SignedSizes.{negative}
-use Rattle.rows.specs.Rows.{beatOf, mostRow}
+use Rattle.limits.specs.Numbers.{mostRow}
+use Rattle.rows.specs.Rows.{beatOf}
 use Rattle.rows.proofs.RowValue.{tiny, beat-rounded, beat-value}
 use Rattle.rows.proofs.FortyEighths.{Close, close-round}
 

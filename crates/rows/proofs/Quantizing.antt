@@ -12,19 +12,21 @@ use Rattle.ieee.specs.Narrowing.{narrow}
 use Rattle.ieee.proofs.Narrow.{narrow-value, narrow-own}
 use Rattle.ieee.proofs.Units.{round-units}
 use Rattle.ieee.proofs.RoundedSize.{grid-le, grid-fine}
-use Rattle.ieee.proofs.Magnitude.{sized, sized-within}
+use Rattle.ieee.proofs.Magnitude.{sized-within}
 use Rattle.rows.specs.Rows.{row, beatOf, quantized, quantized32, allowedBeat}
 use Rattle.rows.proofs.RowWithin.{row-within}
 use Rattle.rows.proofs.RowOfBeat.{row-of-beat}
 use Rattle.rows.proofs.BeatsRise.{beat-allowed}
+use Rattle.rows.proofs.Allowed.{within-allowed, allowed-sized}
 
 pub narrow-allowed : (beat : Float) → T (allowedBeat beat) → T (allowedBeat (narrow beat))
 narrow-allowed beat h =
-    let z = sized 16 beat h in
+    let z = allowed-sized beat h in
     let s = z .negative in
     let a = z .num in
     let c = z .den in
-    sized-within 16 (narrow beat)
+    within-allowed (narrow beat)
+    (sized-within 16 (narrow beat)
     (record {
       negative = s;
       num = grid binary32 a c;
@@ -34,7 +36,7 @@ narrow-allowed beat h =
           subst (λ (x : Float). HasValue x s (grid binary32 a c) (2 ^ low binary32)) (sym (narrow-value beat s a c (z .den-pos) (z .value)))
           (round-units binary32 s a c (grid-fine binary32 a c 65536 (z .den-pos) (lit< tt) (z .small)));
       small = grid-le binary32 a c 65536 (z .den-pos) (lit< tt) (z .small);
-    })
+    }))
 
 -- ---- an f32
 module _ (beat : Float) (h : T (allowedBeat beat)) where

@@ -16,15 +16,16 @@ use Rattle.ieee.specs.Rounding.{rint}
 use Rattle.ieee.specs.inside.FloatEnds.{leastFloat, mostFloat, InI32}
 use Rattle.ieee.proofs.SignedSizes.{Ordered}
 use Rattle.ieee.proofs.FloatOrder.{sizes-le}
-use Rattle.ieee.proofs.Magnitude.{sized}
 use Rattle.ieee.proofs.Held.{held-within}
 use Rattle.ieee.proofs.Units.{round-units}
 use Rattle.ieee.proofs.RoundedSize.{grid-le}
 use Rattle.ieee.proofs.ByValue.{mul-value}
 use Rattle.ieee.proofs.RintBySum.{biasPattern, within-small, sum-number, pattern-in64, difference-in64, difference-in32, difference32}
-use Rattle.rows.specs.Rows.{row, allowedBeat, mostRow}
+use Rattle.limits.specs.Numbers.{mostRow}
+use Rattle.rows.specs.Rows.{row, allowedBeat}
 use Rattle.rows.specs.Marks.{rowMark}
 use Rattle.rows.proofs.RowValue.{unlike-positive, like-48, product-fine}
+use Rattle.rows.proofs.Allowed.{allowed-sized}
 
 -- 48 times a beat
 abbrev pub product : Float → Float
@@ -46,7 +47,7 @@ in-most size unit h = omega arith
 
 pub product-within : (beat : Float) → T (allowedBeat beat) → InI32 (product beat)
 product-within beat h =
-    let z = sized 16 beat h in
+    let z = allowed-sized beat h in
     let s = z .negative in
     let a = z .num in
     let c = z .den in

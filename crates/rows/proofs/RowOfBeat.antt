@@ -15,7 +15,8 @@ use Rattle.ieee.specs.Nearest.{NearestWhole}
 use Rattle.ieee.proofs.NearestWhole.{closest-is}
 use Rattle.ieee.proofs.RoundedSize.{Near, grid-le, grid-near, near-scaled}
 use Rattle.ieee.proofs.SignedSizes.{negative, signed-is}
-use Rattle.rows.specs.Rows.{row, beatOf, mostRow}
+use Rattle.limits.specs.Numbers.{mostRow}
+use Rattle.rows.specs.Rows.{row, beatOf}
 use Rattle.rows.proofs.RowValue.{tiny, rowSize, row-value, row-size-le, beat-sized}
 
 -- ---- a width has 24 digits at least

@@ -19,7 +19,8 @@ use Rattle.ieee.proofs.Magnitude.{Sized}
 use Rattle.ieee.proofs.Units.{round-units}
 use Rattle.ieee.proofs.RoundedSize.{grid-le, grid-fine, grid-mono}
 use Rattle.ieee.proofs.ByValue.{rint-value, mul-value, div-value, whole-value}
-use Rattle.rows.specs.Rows.{row, beatOf, mostRow}
+use Rattle.limits.specs.Numbers.{mostRow}
+use Rattle.rows.specs.Rows.{row, beatOf}
 
 -- a format counts to the last row
 room : (f : Format) → mostRow < 2 ^ prec f

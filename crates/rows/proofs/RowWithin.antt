@@ -8,13 +8,14 @@ use lib.Signed.{mag}
 use lib.Dec.{T}
 use lib.Ieee.{Float, Format}
 use Rattle.ieee.proofs.SignedSizes.{natAbs-signed}
-use Rattle.ieee.proofs.Magnitude.{sized}
-use Rattle.rows.specs.Rows.{row, allowedBeat, mostRow}
+use Rattle.limits.specs.Numbers.{mostRow}
+use Rattle.rows.specs.Rows.{row, allowedBeat}
 use Rattle.rows.proofs.RowValue.{rowSize, row-value, row-size-within}
+use Rattle.rows.proofs.Allowed.{allowed-sized}
 
 pub row-within : (f : Format) (beat : Float) → T (allowedBeat beat) → natAbs (row f beat) ≤ mostRow
 row-within f beat h =
-    let z = sized 16 beat h in
+    let z = allowed-sized beat h in
     le-trans (le-of-eq (ap natAbs (row-value f beat z) ∙ natAbs-signed (z .negative) (rowSize f (z .num) (z .den)))) (row-size-within f (z .num) (z .den) (z .den-pos) (z .small))
 
 -- and such a row is an i32

@@ -11,9 +11,10 @@ use lib.Pow.{pow-pos}
 use lib.Ieee.{Float, Format, prec, le, lt}
 use Rattle.ieee.proofs.SignedSizes.{ordered-through, ordered-whole}
 use Rattle.ieee.proofs.FloatOrder.{le-sizes, lt-or-le}
-use Rattle.ieee.proofs.Magnitude.{Sized, sized, within-finite}
+use Rattle.ieee.proofs.Magnitude.{Sized}
 use Rattle.rows.specs.Rows.{row, allowedBeat}
 use Rattle.rows.proofs.RowValue.{rowSize, row-value, row-size-le, row-size-mono}
+use Rattle.rows.proofs.Allowed.{allowed-sized, allowed-finite}
 
 row-size-zero : (f : Format) (a c d : ℕ) → 0 < c → 0 < d → a * d ≡ 0 → rowSize f a c ≡ 0
 row-size-zero f a c d C D h =
@@ -36,11 +37,11 @@ sized-mono f x y z w h =
     (ordered-through s t (a * d) (b * c) (rowSize f a c) (rowSize f b d) there back (row-size-zero f a c d (z .den-pos) (w .den-pos)) (row-size-zero f b d c (w .den-pos) (z .den-pos)) (le-sizes x y s t a c b d (z .value) (w .value) h)))
 
 pub row-mono : (f : Format) (x y : Float) → T (allowedBeat x) → T (allowedBeat y) → T (le x y) → T (leZ (row f x) (row f y))
-row-mono f x y p q = sized-mono f x y (sized 16 x p) (sized 16 y q)
+row-mono f x y p q = sized-mono f x y (allowed-sized x p) (allowed-sized y q)
 
 -- so rows that rise come of beats that rise
 pub rows-rise : (f : Format) (x y : Float) → T (allowedBeat x) → T (allowedBeat y) → T (ltZ (row f x) (row f y)) → T (lt x y)
-rows-rise f x y p q h = elim (lt-or-le x y (within-finite 16 x p) (within-finite 16 y q)) [
+rows-rise f x y p q h = elim (lt-or-le x y (allowed-finite x p) (allowed-finite y q)) [
   | inl l ↦ l
   | inr g ↦ clashℤ {a = row f x} {b = row f y} (ltZ-yes h) (leZ-yes (row-mono f y x q p g))
 ]

@@ -1,11 +1,11 @@
 -- Rows and beats, 48 rows to a beat. Definitions only.
-use Prim.Native.Nat.{ℕ}
 use mathlib.Core.Bool.{Bool}
 use lib.IntN.{ℤ, pos}
 use lib.Ieee.{Float, Format, binary32, mul, div, ofInt}
 use Rattle.ieee.specs.Rounding.{rint, hold}
 use Rattle.ieee.specs.Narrowing.{narrow}
-use Rattle.ieee.specs.Magnitude.{withinPower}
+use Rattle.limits.specs.declared.Kind.the-variants.{Beat}
+use Rattle.limits.specs.Numbers.{rangeOf, inRange}
 
 -- the row of a beat: 48 times the beat, rounded, at the width f
 abbrev pub row : Format → Float → ℤ
@@ -22,10 +22,6 @@ quantized32 beat = beatOf binary32 (row binary32 beat)
 abbrev pub quantized : Float → Float
 quantized beat = quantized32 (narrow beat)
 
--- the beats that are allowed: of at most 65,536 in size, which is 2 ^ 16
+-- a beat that the limits allow
 abbrev pub allowedBeat : Float → Bool
-allowedBeat beat = withinPower 16 beat
-
--- how far from 0 a row of one is at most: 48 times as far
-abbrev pub mostRow : ℕ
-mostRow = 3145728
+allowedBeat beat = inRange (rangeOf Beat) beat

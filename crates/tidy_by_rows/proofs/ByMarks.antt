@@ -16,9 +16,9 @@ use Rattle.limits.proofs.EachTwo.{passes}
 use Rattle.order.specs.Order.{mayPrecede, neverFalls, laid}
 use Rattle.columns.specs.Each.{laidEach}
 use Rattle.columns.proofs.EachOverFront.{each-over-front}
-use Rattle.tidy_rows.specs.RowTidying.{rowKeyAt, onRow}
-use Rattle.tidy_rows.proofs.TakenBeats.{taken-allowed}
+use Rattle.rows.specs.RowKey.{rowKeyAt, onRow}
 use Rattle.rows.proofs.RowMarks.{mark-beat}
+use Rattle.rows.proofs.Allowed.{taken-allowed}
 use Rattle.tidy_by_rows.specs.ByMarks.{rowRises, onMarkedRow}
 
 same-rows : (beats : List Float) → allIn (rangeOf Beat) beats ≡ true → map onMarkedRow beats ≡ map onRow beats

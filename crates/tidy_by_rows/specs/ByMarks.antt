@@ -3,7 +3,7 @@ use mathlib.Core.Bool.{Bool}
 use lib.Dec.{ltb}
 use lib.Ieee.{Float}
 use Rattle.rows.specs.Marks.{rowMark, beatOfMark}
-use Rattle.tidy_rows.specs.RowTidying.{rowKeyAt}
+use Rattle.rows.specs.RowKey.{rowKeyAt}
 
 -- the next beat is on a later row
 abbrev pub rowRises : Float → Float → Bool

@@ -10,7 +10,7 @@ ghost use Rattle.limits.specs.Numbers.{rangeOf, allIn, miss};
 ghost use Rattle.limits.specs.Neighbours.{everyTwo};
 ghost use Rattle.columns.specs.Each.{laidEach};
 ghost use Rattle.order.specs.Order.{neverFalls};
-ghost use Rattle.tidy_rows.specs.RowTidying.{rowKeyAt};
+ghost use Rattle.rows.specs.RowKey.{rowKeyAt};
 ghost use Rattle.tidy_kept.specs.Searching.{placeAfter};
 ghost use Rattle.tidy_by_rows.specs.ByMarks.{rowRises, onMarkedRow};
 
@@ -21,7 +21,7 @@ pub fn in_order(beats: &[f64]) -> bool
     let mut last = 0;
     let mut i = 0;
     while i < beats.len() {
-        let row = tidy_rows_sort::row_key(beats[i]);
+        let row = rows::row_key(beats[i]);
         if row < last {
             return false;
         }
@@ -39,7 +39,7 @@ pub fn place_after(beats: &[f64], row: u32) -> usize
     let mut high = beats.len();
     while low < high {
         let middle = low + (high - low) / 2;
-        if tidy_rows_sort::row_key(beats[middle]) <= row {
+        if rows::row_key(beats[middle]) <= row {
             low = middle + 1;
             continue;
         }

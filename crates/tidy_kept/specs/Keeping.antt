@@ -4,7 +4,8 @@ use mathlib.Core.Bool.{Bool, true, false}
 use mathlib.Core.List.{List, [], _∷_, reverse, reverseAux}
 use lib.Dec.{ltb, leb, eqb}
 use lib.ListN.{length}
-use Rattle.limits.specs.Table.{tooLong, keptFalls, mostEntries}
+use Rattle.limits.specs.Table.{keptFalls}
+use Rattle.limits.specs.Refusals.{longThen}
 use Rattle.picks.specs.Pick.{pick}
 use Rattle.order.specs.Order.{run, neverFalls}
 
@@ -95,4 +96,4 @@ module _ {B W : Type 0} (row : B → ℕ) (near : W → W → Bool) where
 
   -- what placing alone refuses: more than 1,024 entries, then an entry placed in a kept list that falls
   unfoldable pub placingNumber : List (B × W) → ℕ
-  placingNumber list = pick (ltb mostEntries (length list)) tooLong (pick (fallsWhile [] list) keptFalls 0)
+  placingNumber list = longThen (length list) (pick (fallsWhile [] list) keptFalls 0)

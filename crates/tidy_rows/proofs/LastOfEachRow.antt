@@ -8,7 +8,8 @@ use Rattle.order.specs.Order.{tidied, only, theLast}
 use Rattle.order.specs.Entries.{entries}
 use Rattle.order.proofs.TidiedList.{only-tidied}
 use Rattle.order.proofs.EachEntry.{only-map, length-the-last}
-use Rattle.tidy_rows.specs.RowTidying.{rowKeyOf, onItsRow, tidyRows, rowsNumber}
+use Rattle.tidy_rows.specs.RowTidying.{tidyRows, rowsNumber}
+use Rattle.rows.specs.RowKey.{rowKeyOf, onItsRow}
 use Rattle.tidy_rows.proofs.RowsRise.{keys-agree}
 
 module _ (beats values : List Float) (h : rowsNumber beats values ≡ 0) (row : ℕ) where

@@ -7,7 +7,8 @@ use lib.Ieee.{Float}
 use Rattle.order.specs.Order.{tidied}
 use Rattle.order.specs.Entries.{entries}
 use Rattle.order.proofs.TidiedList.{tidied-length}
-use Rattle.tidy_rows.specs.RowTidying.{rowKeyOf, onItsRow, tidyRows}
+use Rattle.tidy_rows.specs.RowTidying.{tidyRows}
+use Rattle.rows.specs.RowKey.{rowKeyOf, onItsRow}
 
 entries-short : (beats values : List Float) → length (entries beats values) ≤ min (length beats) (length values)
 unfolding entries

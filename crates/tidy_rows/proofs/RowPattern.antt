@@ -17,7 +17,7 @@ use Rattle.ieee.proofs.Held.{held-within}
 use Rattle.ieee.proofs.RintBySum.{biasFloat, biasPattern, within-small, pattern-in64, difference-in64, difference-in32, difference32}
 use Rattle.rows.specs.Rows.{allowedBeat}
 use Rattle.rows.proofs.RowBySum.{product, product-within}
-use Rattle.order.specs.RowKey.{rowKey}
+use Rattle.rows.specs.RowKey.{rowKey}
 use Rattle.order.proofs.Compare.{below?}
 use Rattle.tidy_rows.specs.inside.Ways.{rowPattern}
 

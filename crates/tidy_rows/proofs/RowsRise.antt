@@ -12,12 +12,12 @@ use Rattle.rows.proofs.BeatsRise.{beats-rise}
 use Rattle.limits.proofs.ListTaken.{list-taken}
 use Rattle.order.specs.Order.{tidied, Above, Rises}
 use Rattle.order.specs.Entries.{entries}
-use Rattle.order.specs.RowKey.{rowKey}
+use Rattle.rows.specs.RowKey.{rowKey, rowKeyAt, onRow, rowKeyOf, onItsRow}
 use Rattle.order.proofs.OrderedList.{Each}
 use Rattle.order.proofs.TidiedList.{tidied-rises}
-use Rattle.order.proofs.RowKeys.{rows-below}
+use Rattle.rows.proofs.RowKeys.{rows-below}
 use Rattle.order.proofs.EachEntry.{each-so, each-tidied, rises-map}
-use Rattle.tidy_rows.specs.RowTidying.{rowKeyAt, onRow, rowKeyOf, onItsRow, tidyRows, rowsNumber}
+use Rattle.tidy_rows.specs.RowTidying.{tidyRows, rowsNumber}
 use Rattle.tidy_rows.proofs.TakenBeats.{beats-allowed}
 
 -- ---- the row of a beat that was moved to its row

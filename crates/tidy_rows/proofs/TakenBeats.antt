@@ -10,17 +10,10 @@ use Rattle.rows.specs.Rows.{allowedBeat}
 use Rattle.limits.specs.declared.Kind.the-variants.{Beat}
 use Rattle.limits.specs.Numbers.{inRange, rangeOf, allIn}
 use Rattle.limits.proofs.Every.{every-rest, every-at}
-use Rattle.limits.proofs.TakenWithin.{taken-within}
 use Rattle.order.specs.Entries.{entries}
 use Rattle.order.proofs.OrderedList.{Each}
-use Rattle.tidy_rows.specs.RowTidying.{rowKeyOf}
-
-pub taken-allowed : (x : Float) → inRange (rangeOf Beat) x ≡ true → T (allowedBeat x)
-taken-allowed x = taken-within 16 x
-
--- ---- all beats of a list
-pub allowed-at : (beats : List Float) (i : ℕ) → allIn (rangeOf Beat) beats ≡ true → i < length beats → T (allowedBeat (getD beats i nan))
-allowed-at beats i h l = taken-allowed (getD beats i nan) (every-at (inRange (rangeOf Beat)) beats i nan h l)
+use Rattle.rows.proofs.Allowed.{taken-allowed}
+use Rattle.rows.specs.RowKey.{rowKeyOf}
 
 pub beats-allowed : (beats values : List Float) → allIn (rangeOf Beat) beats ≡ true → Each rowKeyOf (λ (e : Float × Float). T (allowedBeat (e .0))) (entries beats values)
 unfolding entries

@@ -9,7 +9,8 @@ use Rattle.order.specs.Entries.{entries, first, second}
 use Rattle.order.proofs.OrderedList.{Each}
 use Rattle.order.proofs.TidiedList.{tidied-still}
 use Rattle.order.proofs.Columns.{entries-columns}
-use Rattle.tidy_rows.specs.RowTidying.{onRow, rowKeyOf, onItsRow, tidyRows, rowsNumber}
+use Rattle.tidy_rows.specs.RowTidying.{tidyRows, rowsNumber}
+use Rattle.rows.specs.RowKey.{onRow, rowKeyOf, onItsRow}
 use Rattle.tidy_rows.proofs.RowsRise.{Allowed, same-row, kept-allowed, tidy-rows-rise}
 
 moved-once : (l : List (Float × Float)) → Each rowKeyOf Allowed l → map onItsRow (map onItsRow l) ≡ map onItsRow l

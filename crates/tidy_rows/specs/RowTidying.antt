@@ -1,14 +1,19 @@
 -- Row tidying. Definitions only.
 use Prim.Native.Nat.{ℕ}
-use mathlib.Core.List.{List}
+use mathlib.Core.List.{List, map}
 use lib.Ieee.{Float}
 use Rattle.limits.specs.declared.Kind.the-variants.{Beat, Value}
 use Rattle.limits.specs.Numbers.{rangeOf}
 use Rattle.limits.specs.Refusals.{listNumber}
+use Rattle.rows.specs.RowKey.{rowKeyOf, onItsRow}
+use Rattle.order.specs.Order.{tidied}
+use Rattle.order.specs.Entries.{entries}
 use Rattle.columns.specs.declared.Outcome.{Outcome}
 use Rattle.columns.specs.Laying.{LaidPair}
-pub use Rattle.tidy_rows_sort.specs.RowEntries.{rowKeyAt, onRow, rowKeyOf, onItsRow}
-unfoldable pub use Rattle.tidy_rows_sort.specs.RowEntries.{tidyRows}
+
+-- strictly rising by row, each row with the value that came last for it, each beat moved to its row
+unfoldable pub tidyRows : List Float → List Float → List (Float × Float)
+tidyRows beats values = map onItsRow (tidied rowKeyOf (entries beats values))
 
 -- the tests of a list before it is tidied
 abbrev pub rowsNumber : List Float → List Float → ℕ

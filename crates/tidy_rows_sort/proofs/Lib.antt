@@ -1,2 +1,1 @@
 pub mod SortedWay
-pub mod Outcomes

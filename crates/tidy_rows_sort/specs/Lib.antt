@@ -1,2 +1,1 @@
-pub mod RowEntries
 pub mod inside

@@ -7,7 +7,7 @@ use lib.ListN.{length}
 use lib.Ieee.{Float, nan}
 use Rattle.limits.specs.Neighbours.{everyTwo}
 use Rattle.order.specs.Entries.{entries}
-use Rattle.tidy_rows.specs.RowTidying.{rowKeyAt}
+use Rattle.rows.specs.RowKey.{rowKeyAt}
 use Rattle.tidy_kept.specs.Near.{nearTo, farFrom}
 use Rattle.tidy_kept.specs.Passing.{writes, entryPassed, stillWritten}
 use Rattle.tidy_kept.proofs.NearNothing.{near-nothing}

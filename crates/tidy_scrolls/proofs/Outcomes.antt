@@ -22,8 +22,8 @@ use Rattle.order.specs.Entries.{entries}
 use Rattle.order.proofs.Columns.{length-entries}
 use Rattle.columns.specs.Laying.{refusedBy}
 use Rattle.columns.proofs.Rooms.{refused-by-tests, refused-for-room, taken}
-use Rattle.tidy_rows.specs.RowTidying.{rowKeyAt, onItsRow}
-use Rattle.tidy_rows.specs.inside.Ways.{Laid}
+use Rattle.rows.specs.RowKey.{rowKeyAt, onItsRow}
+use Rattle.columns.specs.Laying.{Laid}
 use Rattle.tidy_kept.specs.Near.{nearTo}
 use Rattle.tidy_kept.specs.Passing.{stillWritten}
 use Rattle.tidy_kept.proofs.Answered as answered
@@ -104,7 +104,7 @@ module _ (beats values beatsOld valuesOld : List Float) where
           → ScrollsTidied beats values (record { number = 0; count = count }) beatsOld beatsNew valuesOld valuesNew
       ordered-laid count beatsNew valuesNew h c l =
           taken (scrollsNumber beats values) (tidyScrolls beats values) beatsOld valuesOld count beatsNew valuesNew (ordered-number beats values tests ordered) (omega (arith, kept-many)) (c ∙ sym kept-many)
-          (rw (ordered-list beats values tests ordered) (l .beatsAre)) (rw (ordered-list beats values tests ordered) (l .valuesAre))
+          (rw (ordered-list beats values tests ordered) (l .firstIs)) (rw (ordered-list beats values tests ordered) (l .secondIs))
 
     module _ (unordered : neverFalls rowKeyAt beats ≡ false) (kept : Placed) (keptBeats keptValues : List Float) (so : PlacedAll rowKeyAt nearTo (entries beats values) (kept .count) (kept .falls) keptBeats keptValues) where
       pub falls-refused : kept .falls ≡ true → ScrollsTidied beats values (refusedBy 6) beatsOld beatsOld valuesOld valuesOld
@@ -129,7 +129,7 @@ module _ (beats values beatsOld valuesOld : List Float) where
             → ScrollsTidied beats values (record { number = 0; count = kept .count }) beatsOld beatsNew valuesOld valuesNew
         placed-laid beatsNew valuesNew h l =
             taken (scrollsNumber beats values) (tidyScrolls beats values) beatsOld valuesOld (kept .count) beatsNew valuesNew zero-so (omega (arith, many-so)) (sym many-so)
-            (rw list-so (l .beatsAre)) (rw list-so (l .valuesAre))
+            (rw list-so (l .firstIs)) (rw list-so (l .secondIs))
 
 pub few-kept : (beats values : List Float) → length (stillWritten rowKeyAt nearTo noScrollHeld (entries beats values)) ≤ length (entries beats values)
 few-kept beats values = few-written rowKeyAt nearTo noScrollHeld (entries beats values) refl

@@ -10,8 +10,8 @@ use lib.Ieee.{Float, nan}
 use Rattle.picks.specs.Pick.{pick}
 use Rattle.order.specs.Entries.{entries, first, second}
 use Rattle.order.proofs.Columns.{length-entries, entries-getD}
-use Rattle.tidy_rows.specs.RowTidying.{rowKeyAt, onItsRow}
-use Rattle.tidy_rows.specs.inside.Ways.{Laid}
+use Rattle.rows.specs.RowKey.{rowKeyAt, onItsRow}
+use Rattle.columns.specs.Laying.{Laid}
 use Rattle.tidy_kept.specs.Near.{nearTo}
 use Rattle.tidy_kept.specs.Passing.{Waiting, entryPassed, stillWritten}
 use Rattle.tidy_kept.proofs.PassTurns as turns
@@ -71,4 +71,4 @@ module _ (whole left : List (Float × Float)) (beatsOld beatsNew valuesOld value
     rows-count = field-count onItsRow first whole left beatsOld beatsNew count (p .beatsSo) is
 
     pub rows-all : Laid (map onItsRow whole) beatsOld beatsNew valuesOld valuesNew
-    rows-all = record { beatsAre = field-all onItsRow first whole left beatsOld beatsNew count (p .beatsSo) is; valuesAre = field-all onItsRow second whole left valuesOld valuesNew count (p .valuesSo) is }
+    rows-all = record { firstIs = field-all onItsRow first whole left beatsOld beatsNew count (p .beatsSo) is; secondIs = field-all onItsRow second whole left valuesOld valuesNew count (p .valuesSo) is }

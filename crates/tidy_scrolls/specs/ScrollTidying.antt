@@ -8,7 +8,7 @@ use Rattle.limits.specs.Refusals.{lower, listNumber}
 use Rattle.order.specs.Entries.{entries}
 use Rattle.columns.specs.declared.Outcome.{Outcome}
 use Rattle.columns.specs.Laying.{LaidPair}
-use Rattle.tidy_rows.specs.RowTidying.{rowKeyAt, onItsRow}
+use Rattle.rows.specs.RowKey.{rowKeyAt, onItsRow}
 use Rattle.tidy_kept.specs.Near.{nearTo}
 use Rattle.tidy_kept.specs.Keeping.{keptOf, keepNumber}
 

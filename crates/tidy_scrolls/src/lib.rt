@@ -15,8 +15,8 @@ ghost use Rattle.limits.specs.Neighbours.{everyTwo};
 ghost use Rattle.limits.specs.Refusals.{listNumber};
 ghost use Rattle.order.specs.Order.{neverFalls};
 ghost use Rattle.order.specs.Entries.{entries};
-ghost use Rattle.tidy_rows.specs.RowTidying.{rowKeyAt, onRow, onItsRow};
-ghost use Rattle.tidy_rows.specs.inside.Ways.{Laid};
+ghost use Rattle.rows.specs.RowKey.{rowKeyAt, onRow, onItsRow};
+ghost use Rattle.columns.specs.Laying.{Laid};
 ghost use Rattle.tidy_by_rows.specs.ByMarks.{rowRises};
 ghost use Rattle.tidy_kept.specs.Near.{nearTo};
 ghost use Rattle.tidy_kept.specs.Passing.{comes, entryPassed, stillWritten};
@@ -108,7 +108,7 @@ fn count_kept(beats: &[f64], values: &[f64]) -> usize
     let mut count = 0;
     let mut i = 0;
     while i < beats.len() {
-        let row = tidy_rows_sort::row_key(beats[i]);
+        let row = rows::row_key(beats[i]);
         let next = pass(held, row, beats[i], values[i]);
         if writes(held, row) {
             count += 1;
@@ -135,10 +135,10 @@ fn lay_kept(beats: &[f64], values: &[f64], out_beats: &mut [f64], out_values: &m
     let mut count = 0;
     let mut i = 0;
     while i < beats.len() {
-        let row = tidy_rows_sort::row_key(beats[i]);
+        let row = rows::row_key(beats[i]);
         let next = pass(held, row, beats[i], values[i]);
         if writes(held, row) {
-            out_beats[count] = tidy_rows_sort::on_row(held.beat);
+            out_beats[count] = rows::on_row(held.beat);
             out_values[count] = held.value;
             count += 1;
             held = next;
@@ -149,7 +149,7 @@ fn lay_kept(beats: &[f64], values: &[f64], out_beats: &mut [f64], out_values: &m
         i += 1;
     }
     if held.waits {
-        out_beats[count] = tidy_rows_sort::on_row(held.beat);
+        out_beats[count] = rows::on_row(held.beat);
         out_values[count] = held.value;
         return count + 1;
     }
@@ -231,10 +231,10 @@ fn change_at(beats: &[f64], values: &[f64], n: usize, beat: f64, value: f64) -> 
     requires { ⌜ neverFalls rowKeyAt (take n (now beats)) ≡ true ⌝ }
     ensures { λ r. ⌜ Changed rowKeyAt nearTo (beat, value) (frontEntries n (now (beats .entry)) (now (values .entry))) r ⌝ }
 {
-    let row = tidy_rows_sort::row_key(beat);
+    let row = rows::row_key(beat);
     let at = tidy_by_rows::place_after(&beats[..n], row);
     let last = tidy_kept::place_before(at);
-    let on_row = tidy_rows_sort::row_key(beats[last]) == row;
+    let on_row = rows::row_key(beats[last]) == row;
     tidy_kept::change_of(
         at,
         on_row,
@@ -336,7 +336,7 @@ fn lay_rows(
 {
     let mut i = 0;
     while i < count {
-        out_beats[i] = tidy_rows_sort::on_row(beats[i]);
+        out_beats[i] = rows::on_row(beats[i]);
         out_values[i] = values[i];
         i += 1;
     }

@@ -12,7 +12,7 @@ use Rattle.limits.specs.declared.Kind.the-variants.{Beat, Value}
 use Rattle.limits.specs.Numbers.{rangeOf, allIn, unitsIn}
 use Rattle.order.specs.Order.{run, neverFalls}
 use Rattle.columns.specs.Laying.{refusedBy}
-use Rattle.tidy_rows.specs.RowTidying.{rowKeyAt}
+use Rattle.rows.specs.RowKey.{rowKeyAt}
 use Rattle.tidy_kept.specs.Keeping.{rowOf, placed, placingNumber}
 use Rattle.tidy_kept.proofs.Answered as answered
 use Rattle.tidy_kept.proofs.ColumnsPlaced.{never-falls-entries}

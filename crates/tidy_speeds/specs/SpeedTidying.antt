@@ -10,7 +10,7 @@ use Rattle.limits.specs.declared.Kind.the-variants.{Beat, Value}
 use Rattle.limits.specs.Numbers.{rangeOf, allIn, unitsIn}
 use Rattle.limits.specs.Refusals.{lower}
 use Rattle.columns.specs.declared.Outcome.{Outcome}
-use Rattle.tidy_rows.specs.RowTidying.{rowKeyAt}
+use Rattle.rows.specs.RowKey.{rowKeyAt}
 use Rattle.tidy_kept.specs.Keeping.{keptOf, keepNumber}
 use Rattle.tidy_speeds_entries.specs.Speed.{SpeedEntry, nearSpeed, speedEntries, speedOnRow}
 use Rattle.tidy_speeds_entries.specs.LaidSpeeds.{LaidSpeeds}

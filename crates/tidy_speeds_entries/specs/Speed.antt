@@ -6,7 +6,7 @@ use lib.Dec.{eqb}
 use lib.Ieee.{Float, nan}
 use Rattle.picks.specs.Pick.{pick}
 use Rattle.order.specs.Entries.{entries}
-use Rattle.tidy_rows.specs.RowTidying.{onRow}
+use Rattle.rows.specs.RowKey.{onRow}
 use Rattle.tidy_kept.specs.Near.{nearTo}
 use Rattle.tidy_speeds_entries.specs.declared.Speed.{Speed}
 

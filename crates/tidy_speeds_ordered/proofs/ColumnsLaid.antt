@@ -11,7 +11,7 @@ use Rattle.limits.specs.Neighbours.{neighbours, everyTwo}
 use Rattle.limits.proofs.Every.{every-rest}
 use Rattle.limits.proofs.EachTwo.{passes}
 use Rattle.order.specs.Entries.{entries, first}
-use Rattle.tidy_rows.specs.RowTidying.{rowKeyAt, onRow}
+use Rattle.rows.specs.RowKey.{rowKeyAt, onRow}
 use Rattle.tidy_kept.specs.Near.{nearTo, farFrom}
 use Rattle.tidy_kept.proofs.AllApart.{Apart}
 use Rattle.tidy_by_rows.specs.ByMarks.{rowRises}

@@ -8,7 +8,7 @@ use lib.Ieee.{Float}
 use Rattle.columns.specs.Laying.{refusedBy}
 use lib.ListN.{length, length-map}
 use Rattle.order.specs.Order.{run, neverFalls}
-use Rattle.tidy_rows.specs.RowTidying.{rowKeyAt}
+use Rattle.rows.specs.RowKey.{rowKeyAt}
 use Rattle.tidy_kept.specs.Keeping.{rowOf, keep}
 use Rattle.tidy_kept.proofs.InOnePass.{in-one-pass, few-written}
 use Rattle.tidy_speeds_entries.specs.Speed.{SpeedEntry, nearSpeed, noSpeed, speedOnRow}

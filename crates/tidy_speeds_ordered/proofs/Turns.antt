@@ -10,7 +10,7 @@ use lib.ListN.{length, drop, getD, drop-of-length-le}
 use lib.Seq.{drop-cons}
 use lib.Ieee.{Float, nan}
 use Rattle.picks.specs.Pick.{pick}
-use Rattle.tidy_rows.specs.RowTidying.{rowKeyAt}
+use Rattle.rows.specs.RowKey.{rowKeyAt}
 use Rattle.tidy_kept.specs.Passing.{Waiting, entryPassed, stillWritten}
 use Rattle.tidy_kept.proofs.PassTurns.{turn-writes, turn-waits, one-left, none-left}
 use Rattle.tidy_speeds_entries.specs.Speed.{SpeedValue, SpeedEntry, nearSpeed, noSpeed, speedEntries}

@@ -4,7 +4,7 @@ use mathlib.Core.Bool.{false}
 use mathlib.Core.List.{List, map}
 use lib.Ieee.{Float}
 use Rattle.ieee.specs.Constants.{plusZero}
-use Rattle.tidy_rows.specs.RowTidying.{rowKeyAt}
+use Rattle.rows.specs.RowKey.{rowKeyAt}
 use Rattle.tidy_kept.specs.Passing.{Waiting, stillWritten}
 use Rattle.columns.specs.declared.Outcome.{Outcome}
 use Rattle.tidy_speeds_entries.specs.Speed.{SpeedValue, SpeedEntry, nearSpeed, noSpeed, speedEntries, speedOnRow}

@@ -9,7 +9,7 @@ ghost use lib.Dec.{ltb, leb};
 ghost use lib.ListN.{length, getD, set};
 ghost use lib.Ieee.{nan};
 ghost use Rattle.picks.specs.Pick.{pick};
-ghost use Rattle.tidy_rows.specs.RowTidying.{rowKeyAt, onRow};
+ghost use Rattle.rows.specs.RowKey.{rowKeyAt, onRow};
 ghost use Rattle.tidy_kept.specs.Passing.{comes, entryPassed};
 ghost use Rattle.tidy_speeds_entries.specs.Speed.{speedValueOf, nearSpeed, noSpeed, speedEntries, speedOnRow};
 ghost use Rattle.tidy_speeds_entries.specs.LaidSpeeds.{leastOf};
@@ -123,7 +123,7 @@ fn count_kept(beats: &[f64], ratios: &[f64], delays: &[f64], units: &[u8], n: us
     let mut count = 0;
     let mut i = 0;
     while i < n {
-        let row = tidy_rows_sort::row_key(beats[i]);
+        let row = rows::row_key(beats[i]);
         let next = pass(held, row, beats[i], speed_at(ratios, delays, units, i));
         if writes(held, row) {
             count += 1;
@@ -156,7 +156,7 @@ fn write_speed(
     ensures { λ _. ⌜ now («out_delays» .exit) ≡ set (now («out_delays» .entry)) at (value .delay) ⌝ }
     ensures { λ _. ⌜ now («out_units» .exit) ≡ set (now («out_units» .entry)) at (value .unit) ⌝ }
 {
-    out_beats[at] = tidy_rows_sort::on_row(beat);
+    out_beats[at] = rows::on_row(beat);
     out_ratios[at] = value.ratio;
     out_delays[at] = value.delay;
     out_units[at] = value.unit;
@@ -182,7 +182,7 @@ fn lay_kept(
     let mut count = 0;
     let mut i = 0;
     while i < n {
-        let row = tidy_rows_sort::row_key(beats[i]);
+        let row = rows::row_key(beats[i]);
         let next = pass(held, row, beats[i], speed_at(ratios, delays, units, i));
         if writes(held, row) {
             let waiting = held.value;
@@ -229,10 +229,10 @@ fn all_kept(beats: &[f64], ratios: &[f64], delays: &[f64], units: &[u8], n: usiz
     if n == 0 {
         return true;
     }
-    let mut last = tidy_rows_sort::row_key(beats[0]);
+    let mut last = rows::row_key(beats[0]);
     let mut i = 1;
     while i < n {
-        let row = tidy_rows_sort::row_key(beats[i]);
+        let row = rows::row_key(beats[i]);
         if row <= last {
             return false;
         }

@@ -10,7 +10,7 @@ use borrow.Author.Tests.{lt-ltb, le-ltb}
 use Rattle.picks.specs.Pick.{pick}
 use Rattle.order.specs.Order.{run}
 use Rattle.columns.specs.Laying.{refusedBy}
-use Rattle.tidy_rows.specs.RowTidying.{rowKeyAt}
+use Rattle.rows.specs.RowKey.{rowKeyAt}
 use Rattle.tidy_kept.specs.Keeping.{placed, fallsWhile, placingNumber}
 use Rattle.tidy_kept.specs.inside.Placing.{frontEntries, PlacedAll}
 use Rattle.tidy_kept.proofs.PlacedInColumns.{length-listed}

@@ -3,7 +3,7 @@ use Prim.Native.Nat.{ℕ}
 use mathlib.Core.List.{List, [], map}
 use lib.Ieee.{Float}
 use Rattle.order.specs.Order.{run}
-use Rattle.tidy_rows.specs.RowTidying.{rowKeyAt}
+use Rattle.rows.specs.RowKey.{rowKeyAt}
 use Rattle.tidy_kept.specs.Keeping.{placed, placingNumber}
 use Rattle.columns.specs.declared.Outcome.{Outcome}
 use Rattle.tidy_speeds_entries.specs.Speed.{nearSpeed, speedEntries, speedOnRow}

@@ -11,7 +11,7 @@ ghost use lib.ListN.{length, take, getD, set};
 ghost use lib.Ieee.{nan};
 ghost use Rattle.picks.specs.Pick.{pick};
 ghost use Rattle.order.specs.Order.{neverFalls};
-ghost use Rattle.tidy_rows.specs.RowTidying.{rowKeyAt, onRow};
+ghost use Rattle.rows.specs.RowKey.{rowKeyAt, onRow};
 ghost use Rattle.tidy_kept.specs.inside.Changed.{countBy, Changed};
 ghost use Rattle.tidy_kept.specs.inside.Placing.{PlacedOne, PlacedAll};
 ghost use Rattle.tidy_speeds_entries.specs.Speed.{speedValueOf, nearSpeed, noSpeed, speedValues, speedEntries, speedOnRow};
@@ -63,10 +63,10 @@ fn change_at(
     requires { ⌜ neverFalls rowKeyAt (take n (now beats)) ≡ true ⌝ }
     ensures { λ r. ⌜ Changed rowKeyAt nearSpeed (beat, speedValueOf value) (listedSpeeds n (now (beats .entry)) (now (ratios .entry)) (now (delays .entry)) (now (units .entry))) r ⌝ }
 {
-    let row = tidy_rows_sort::row_key(beat);
+    let row = rows::row_key(beat);
     let at = tidy_by_rows::place_after(&beats[..n], row);
     let last = tidy_kept::place_before(at);
-    let on_row = tidy_rows_sort::row_key(beats[last]) == row;
+    let on_row = rows::row_key(beats[last]) == row;
     tidy_kept::change_of(
         at,
         on_row,
@@ -255,7 +255,7 @@ fn write_speed(
     ensures { λ _. ⌜ now («out_delays» .exit) ≡ set (now («out_delays» .entry)) at (value .delay) ⌝ }
     ensures { λ _. ⌜ now («out_units» .exit) ≡ set (now («out_units» .entry)) at (value .unit) ⌝ }
 {
-    out_beats[at] = tidy_rows_sort::on_row(beat);
+    out_beats[at] = rows::on_row(beat);
     out_ratios[at] = value.ratio;
     out_delays[at] = value.delay;
     out_units[at] = value.unit;

@@ -1,7 +1,7 @@
 -- Whether beats never fall, from one beat on: by the test of it and the next; and beats that are numbers never fall where their keys do not. Assumes nothing.
 use Prim.Native.Nat.{ℕ, suc, _+_, _≤_, _<_}
 use mathlib.Core.Path.{_≡_, refl, sym, ap, _∙_}
-use mathlib.Core.Bool.{Bool, true, false, not, cond}
+use mathlib.Core.Bool.{Bool, true, false, not}
 use mathlib.Core.Logic.{inl, inr}
 use mathlib.Core.List.{List, [], _∷_, map}
 use native.Mathlib.Numerals.{add-one}
@@ -17,7 +17,8 @@ use Rattle.order.proofs.Compare.{below?}
 use Rattle.order.proofs.OrderedList.{Each}
 use Rattle.order.proofs.FloatKeys.{floats-below}
 use Rattle.picks.specs.Pick.{pick}
-use Rattle.tidy_tempos.specs.inside.Keeping.{inOrder}
+use Rattle.limits.specs.Numbers.{every}
+use Rattle.limits.specs.Neighbours.{neighbours, everyTwo, notFalling}
 
 module _ (beats : List Float) (i : ℕ) where
   one : i < length beats → drop i beats ≡ getD beats i nan ∷ drop (i + 1) beats
@@ -26,20 +27,20 @@ module _ (beats : List Float) (i : ℕ) where
   two : i + 1 < length beats → drop i beats ≡ getD beats i nan ∷ getD beats (i + 1) nan ∷ drop (suc (i + 1)) beats
   two h = one (omega arith) ∙ ap (_∷_ (getD beats i nan)) (drop-cons beats (i + 1) nan h)
 
-  pub order-turn : i + 1 < length beats → lt (getD beats (i + 1) nan) (getD beats i nan) ≡ false → inOrder (drop i beats) ≡ inOrder (drop (i + 1) beats)
-  unfolding inOrder
+  pub order-turn : i + 1 < length beats → lt (getD beats (i + 1) nan) (getD beats i nan) ≡ false → everyTwo notFalling (drop i beats) ≡ everyTwo notFalling (drop (i + 1) beats)
+  unfolding neighbours every
   order-turn h t = rw (two h, drop-cons beats (i + 1) nan h, t)
 
-  pub order-fall : i + 1 < length beats → lt (getD beats (i + 1) nan) (getD beats i nan) ≡ true → inOrder (drop i beats) ≡ false
-  unfolding inOrder
+  pub order-fall : i + 1 < length beats → lt (getD beats (i + 1) nan) (getD beats i nan) ≡ true → everyTwo notFalling (drop i beats) ≡ false
+  unfolding neighbours every
   order-fall h t = rw (two h, t)
 
-  pub order-last : i < length beats → length beats ≤ i + 1 → inOrder (drop i beats) ≡ true
-  unfolding inOrder
+  pub order-last : i < length beats → length beats ≤ i + 1 → everyTwo notFalling (drop i beats) ≡ true
+  unfolding neighbours every
   order-last h l = rw (one h, drop-of-length-le beats l)
 
-  pub order-end : length beats ≤ i → inOrder (drop i beats) ≡ true
-  unfolding inOrder
+  pub order-end : length beats ≤ i → everyTwo notFalling (drop i beats) ≡ true
+  unfolding neighbours every
   order-end l = rw (drop-of-length-le beats l)
 
 -- ---- by keys, over the format
@@ -54,15 +55,15 @@ module _ {A : Type 0} (f : Format) (beat : A → Float) where
   abbrev key : A → ℕ
   key x = floatKey f (beat x)
 
-  pub in-order-by-key : (list : List A) → Each key (λ (x : A). Number f (beat x)) list → inOrder (map beat list) ≡ neverFalls key list
-  unfolding inOrder neverFalls mayPrecede
+  pub in-order-by-key : (list : List A) → Each key (λ (x : A). Number f (beat x)) list → everyTwo notFalling (map beat list) ≡ neverFalls key list
+  unfolding neighbours every neverFalls mayPrecede
   in-order-by-key [] ps = refl
   in-order-by-key (x ∷ []) ps = refl
   in-order-by-key (x ∷ next ∷ list) ps =
       rw (floats-below f (beat next) (beat x) (ps .1 .0 .held) (ps .0 .held) (ps .1 .0 .number) (ps .0 .number), precedes (key x) (key next))
       (go (ltb (key next) (key x)) (in-order-by-key (next ∷ list) (ps .1)))
     where
-      go : (falls : Bool) → inOrder (map beat (next ∷ list)) ≡ neverFalls key (next ∷ list)
-          → pick falls false (inOrder (map beat (next ∷ list))) ≡ cond (not falls) (neverFalls key (next ∷ list)) false
+      go : (falls : Bool) → everyTwo notFalling (map beat (next ∷ list)) ≡ neverFalls key (next ∷ list)
+          → pick (not falls) (everyTwo notFalling (map beat (next ∷ list))) false ≡ pick (not falls) (neverFalls key (next ∷ list)) false
       go true e = refl
       go false e = e

@@ -1,12 +1,12 @@
 -- Tempo tidying. Definitions only.
 use Prim.Native.Nat.{ℕ}
 use mathlib.Core.Bool.{false}
-use mathlib.Core.List.{List, [], _∷_}
+use mathlib.Core.List.{List, [], _∷_, map}
 use lib.Ieee.{Float, binary64, eq}
 use Rattle.ieee.specs.Constants.{plusZero, sixty}
 use Rattle.picks.specs.Pick.{pick}
 use Rattle.order.specs.Order.{tidied}
-use Rattle.order.specs.Entries.{entries}
+use Rattle.order.specs.Entries.{entries, first, second}
 use Rattle.order.specs.FloatKey.{floatKey}
 
 -- an entry's beat, as a key: -0 and +0 are one beat
@@ -35,3 +35,7 @@ changes (e ∷ l) = e ∷ changesAfter (e .1) l
 unfoldable pub tidyTempos : List Float → List Float → List (Float × Float)
 tidyTempos [] values = noTempo
 tidyTempos (b ∷ beats) values = changes (fromZero (tidied beatKeyOf (entries (b ∷ beats) values)))
+
+-- the same of entries
+abbrev pub tidiedTempos : List (Float × Float) → List (Float × Float)
+tidiedTempos list = tidyTempos (map first list) (map second list)

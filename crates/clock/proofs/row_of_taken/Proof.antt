@@ -9,15 +9,15 @@ use Rattle.picks.specs.Pick.{pick}
 use Rattle.rows.specs.Rows.{allowedBeat}
 use Rattle.rows.proofs.RowBySum.{mark-number, mark-in64, count-in64, count-in32, row-by-sum}
 use Rattle.limits.specs.Numbers.{inRange, upTo}
-use Rattle.limits.proofs.TakenWithin.{taken-within}
 use Rattle.clock_tests.specs.TimingNumbers.{beatNumber}
+use Rattle.rows.proofs.Allowed.{taken-allowed}
 use borrow.Author.Needs.{needs}
 use Rattle.clock.proofs.row_of_taken.Statement.{statement}
 use Rattle.clock.proofs.row_of_taken.Tie as tie
 
 allowed : (beat : Float) → beatNumber beat ≡ 0 → T (allowedBeat beat)
 unfolding beatNumber
-allowed beat h = taken-within 16 beat (go (inRange (upTo 16) beat) h)
+allowed beat h = taken-allowed beat (go (inRange (upTo 16) beat) h)
   where
     go : (b : Bool) → _≡_ {A = ℕ} (pick b 0 3) 0 → b ≡ true
     go true h = refl

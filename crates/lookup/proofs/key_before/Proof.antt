@@ -7,22 +7,22 @@ use Rattle.lookup.proofs.key_before.Tie as tie
 returns : tie.Need-returns
 returns c = search flags depth 8
 
-sub-row-key : tie.Need-sub-row-key
-sub-row-key c = search needs
+sub-row-key-f32 : tie.Need-sub-row-key-f32
+sub-row-key-f32 c = search needs
 
-mul-row-key : tie.Need-mul-row-key
-mul-row-key c = search needs
+mul-row-key-f32 : tie.Need-mul-row-key-f32
+mul-row-key-f32 c = search needs
 
-shared-slice-read-row-key : tie.Need-shared-slice-read-row-key
-shared-slice-read-row-key c = search needs
+shared-slice-read-row-key-f32 : tie.Need-shared-slice-read-row-key-f32
+shared-slice-read-row-key-f32 c = search needs
 
-row-key-requires : tie.Need-row-key-requires
-row-key-requires c κs = search needs
+row-key-f32-requires : tie.Need-row-key-f32-requires
+row-key-f32-requires c κs = search needs
 
 returns-2 : tie.Need-returns-2
-returns-2 c = rw (c .row-key .ensures) (search flags depth 8)
+returns-2 c = rw (c .row-key-f32 .ensures) (search flags depth 8)
 
 pub key-before-spec : {M : Type 1} → statement M
 key-before-spec =
     tie.close
-    (tie.spec returns sub-row-key mul-row-key shared-slice-read-row-key row-key-requires returns-2)
+    (tie.spec returns sub-row-key-f32 mul-row-key-f32 shared-slice-read-row-key-f32 row-key-f32-requires returns-2)

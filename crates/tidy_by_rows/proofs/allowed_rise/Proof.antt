@@ -6,7 +6,7 @@ use lib.Ieee.{nan}
 use Rattle.limits.proofs.Every.{counted-start, miss-few}
 use Rattle.limits.specs.Neighbours.{neighbours}
 use Rattle.limits.proofs.EachTwo.{passes, CountedTwo, two-turn, two-end}
-use Rattle.tidy_rows.proofs.TakenBeats.{allowed-at}
+use Rattle.rows.proofs.Allowed.{allowed-at}
 use Rattle.tidy_by_rows.specs.ByMarks.{rowRises}
 use borrow.Author.Needs.{needs}
 use Rattle.tidy_by_rows.proofs.allowed_rise.Statement.{statement}

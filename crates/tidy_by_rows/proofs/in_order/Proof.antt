@@ -1,6 +1,6 @@
 -- `tidy_by_rows::in_order` compares each row with the one before. Assumes nothing.
 use Rattle.tidy_kept.proofs.PassTurns.{neverFrom, from-zero, row-falls, row-stands, rows-end}
-use Rattle.tidy_rows.specs.RowTidying.{rowKeyAt}
+use Rattle.rows.specs.RowKey.{rowKeyAt}
 use Rattle.order.specs.Order.{neverFalls}
 use lib.Ieee.{nan}
 use lib.ListN.{length, drop}

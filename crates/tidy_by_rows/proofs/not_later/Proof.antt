@@ -5,7 +5,7 @@ use Rattle.tidy_by_rows.specs.ByMarks.{rowRises}
 use Rattle.rows.specs.Rows.{row}
 use Rattle.rows.proofs.RowMarks.{mark-order}
 use Rattle.rows.proofs.RowWithin.{row-within, in-i32}
-use Rattle.order.proofs.RowKeys.{rows-below}
+use Rattle.rows.proofs.RowKeys.{rows-below}
 use borrow.Author.Needs.{needs}
 use Rattle.tidy_by_rows.proofs.not_later.Statement.{statement}
 use Rattle.tidy_by_rows.proofs.not_later.Tie as tie

@@ -1,6 +1,6 @@
 -- `tidy_by_rows::place_after` halves what is left until the place is found. Assumes nothing.
 use Rattle.tidy_kept.proofs.Searched.{Halving, halving-all, halving-up, halving-down, halving-ends}
-use Rattle.tidy_rows.specs.RowTidying.{rowKeyAt}
+use Rattle.rows.specs.RowKey.{rowKeyAt}
 use lib.Dec.{leb}
 use lib.ListN.{length, getD}
 use lib.Ieee.{Float, nan}

@@ -1,7 +1,7 @@
 -- `tidy_rows::falls` is 1 where the next row is lower. Assumes nothing.
 use native.Mathlib.Omega.{arith}
 use borrow.Author.Tests.{lt-ltb, le-ltb}
-use Rattle.tidy_rows.specs.RowTidying.{rowKeyAt}
+use Rattle.rows.specs.RowKey.{rowKeyAt}
 use borrow.Author.Needs.{needs}
 use Rattle.tidy_rows.proofs.falls.Statement.{statement}
 use Rattle.tidy_rows.proofs.falls.Tie as tie

@@ -7,9 +7,9 @@ use lib.Ieee.{Float, nan}
 use lib.ListN.{length}
 use Rattle.columns.proofs.LaidEach.{LayingEach, begun, turned, ended}
 use Rattle.columns.proofs.EachOverFront.{each-over-front}
-use Rattle.tidy_rows.specs.RowTidying.{onRow}
+use Rattle.rows.proofs.Allowed.{allowed-at}
+use Rattle.rows.specs.RowKey.{onRow}
 use Rattle.tidy_rows.proofs.BothWays.{each-beat, each-value}
-use Rattle.tidy_rows.proofs.TakenBeats.{allowed-at}
 use borrow.Author.Needs.{needs}
 use Rattle.tidy_rows.proofs.lay_each.Statement.{statement}
 use Rattle.tidy_rows.proofs.lay_each.Tie as tie
@@ -78,8 +78,8 @@ returns c =
     let inv = c .before .loop .inv in
     let past = c .loop-test .left in
     record {
-      beatsAre = ended (inv .0) past ∙ each-over-front onRow (given .beats .now) (given .out-beats .now) (omega arith) ∙ rw (each-beat (given .beats .now) (given .values .now) same);
-      valuesAre =
+      firstIs = ended (inv .0) past ∙ each-over-front onRow (given .beats .now) (given .out-beats .now) (omega arith) ∙ rw (each-beat (given .beats .now) (given .values .now) same);
+      secondIs =
           ended (inv .1) past ∙ each-over-front (λ (value : Float). value) (given .values .now) (given .out-values .now) (omega arith)
           ∙ rw (map-id (given .values .now), each-value (given .beats .now) (given .values .now) same);
     }

@@ -8,8 +8,8 @@ use Rattle.order.specs.Entries.{entries}
 use Rattle.order.proofs.Columns.{length-entries, entries-getD}
 use Rattle.order.proofs.LastEntries.{repeat-few}
 use Rattle.columns.proofs.LastsLaid.{LastsLaying, lasts-none, lasts-room, lasts-turn, lasts-all}
-use Rattle.tidy_rows.proofs.TakenBeats.{allowed-at}
-use Rattle.tidy_rows.specs.RowTidying.{rowKeyAt, rowKeyOf, onItsRow}
+use Rattle.rows.proofs.Allowed.{allowed-at}
+use Rattle.rows.specs.RowKey.{rowKeyAt, rowKeyOf, onItsRow}
 use borrow.Author.Needs.{needs}
 use Rattle.tidy_rows.proofs.lay_lasts.Statement.{statement}
 use Rattle.tidy_rows.proofs.lay_lasts.Tie as tie
@@ -166,7 +166,7 @@ returns c =
     lasts-all rowKeyOf onItsRow (at .loop .inv .1) (start .pre .1 .1) (nan, nan) (c .before .allowed-on-row2 .result) (getD values i nan)
     (ap (λ (beat : Float). (beat, getD values i nan)) (c .before .allowed-on-row2 .ensures) ∙ ap onItsRow (sym (entries-getD beats values i nan nan same)))
     (omega (arith, length-entries beats values same)) (omega (arith, length-entries beats values same)) in
-    record { beatsAre = laid .0; valuesAre = laid .1 }
+    record { firstIs = laid .0; secondIs = laid .1 }
 
 pub lay-lasts-spec : {M : Type 1} → statement M
 lay-lasts-spec =

@@ -7,8 +7,8 @@ use lib.ListN.{length, getD}
 use Rattle.rows.specs.Rows.{allowedBeat}
 use Rattle.order.proofs.LastEntries.{Repeats, repeats-none, repeat-few, repeats-turn, repeats-all}
 use Rattle.order.proofs.FallsCounted.{Falls, falls-none, fall-few, falls-turn, falls-all}
-use Rattle.tidy_rows.specs.RowTidying.{rowKeyAt}
-use Rattle.tidy_rows.proofs.TakenBeats.{allowed-at}
+use Rattle.rows.proofs.Allowed.{allowed-at}
+use Rattle.rows.specs.RowKey.{rowKeyAt}
 use borrow.Author.Needs.{needs}
 use Rattle.tidy_rows.proofs.look_at_neighbours.Statement.{statement}
 use Rattle.tidy_rows.proofs.look_at_neighbours.Tie as tie

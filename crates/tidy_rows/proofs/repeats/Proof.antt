@@ -1,7 +1,7 @@
 -- `tidy_rows::repeats` is 1 for beats on one row. Assumes nothing.
 use native.Mathlib.Omega.{arith}
 use borrow.Author.Tests.{eq-eqb, ne-eqb}
-use Rattle.tidy_rows.specs.RowTidying.{rowKeyAt}
+use Rattle.rows.specs.RowKey.{rowKeyAt}
 use borrow.Author.Needs.{needs}
 use Rattle.tidy_rows.proofs.repeats.Statement.{statement}
 use Rattle.tidy_rows.proofs.repeats.Tie as tie

@@ -7,10 +7,11 @@ use lib.ListN.{length, length-map}
 use Rattle.order.specs.Order.{lasts}
 use Rattle.order.specs.Entries.{entries}
 use Rattle.order.proofs.Columns.{length-entries}
-use Rattle.tidy_rows.specs.RowTidying.{rowKeyOf, onItsRow, rowsNumber}
+use Rattle.tidy_rows.specs.RowTidying.{rowsNumber, tidyRows}
+use Rattle.rows.specs.RowKey.{rowKeyOf, onItsRow}
 use Rattle.limits.proofs.ListTaken.{list-taken}
 use Rattle.tidy_rows.proofs.BothWays.{lasts-length, ordered-way, plain-way}
-use Rattle.tidy_rows_sort.proofs.Outcomes.{no-room, all-laid}
+use Rattle.columns.proofs.ListLaid.{no-room, all-laid}
 use borrow.Author.Needs.{needs}
 use Rattle.tidy_rows.proofs.tidy_ordered.Statement.{statement}
 use Rattle.tidy_rows.proofs.tidy_ordered.Tie as tie
@@ -36,7 +37,7 @@ returns c =
     let given = start .args in
     let list = lasts rowKeyOf (entries (given .beats .now) (given .values .now)) in
     rw (c .refused .ensures)
-    (no-room (rowsNumber (given .beats .now) (given .values .now)) (given .beats .now) (given .values .now) (given .out-beats .now) (given .out-values .now) (start .pre .0) (map onItsRow list) (ordered-way (given .beats .now) (given .values .now) (even start) (start .pre .1 .0))
+    (no-room (rowsNumber (given .beats .now) (given .values .now)) (tidyRows (given .beats .now) (given .values .now)) (given .out-beats .now) (given .out-values .now) (start .pre .0) (map onItsRow list) (ordered-way (given .beats .now) (given .values .now) (even start) (start .pre .1 .0))
     (omega (arith, kept start, length-map list onItsRow, c .before .before .room-of .ensures, c .before .if1 .taken)))
 
 lay-each-requires : tie.Need-lay-each-requires
@@ -58,7 +59,7 @@ returns-2 c =
     let list = map onItsRow (entries (given .beats .now) (given .values .now)) in
     let long = length-map (entries (given .beats .now) (given .values .now)) onItsRow ∙ length-entries (given .beats .now) (given .values .now) same in
     let none = c .before .before .before .before .before .before .before .if2 .taken in
-    all-laid (rowsNumber (given .beats .now) (given .values .now)) (given .beats .now) (given .values .now) (given .out-beats .now) (given .out-values .now) (start .pre .0) list
+    all-laid (rowsNumber (given .beats .now) (given .values .now)) (tidyRows (given .beats .now) (given .values .now)) (given .out-beats .now) (given .out-values .now) (start .pre .0) list
     (plain-way (given .beats .now) (given .values .now) same (start .pre .1 .0) (omega (arith, start .pre .1 .1, none)))
     (length (given .beats .now) - given .repeated) (omega (arith, long, none)) (omega (arith, long, none, c .before .before .before .before .before .before .before .before .before .room-of .ensures, c .before .before .before .before .before .before .before .before .if1 .left))
     (c .before .before .before .before .lay-each .ensures)
@@ -80,7 +81,7 @@ returns-3 c =
     let given = start .args in
     let list = lasts rowKeyOf (entries (given .beats .now) (given .values .now)) in
     let long = length-map list onItsRow in
-    all-laid (rowsNumber (given .beats .now) (given .values .now)) (given .beats .now) (given .values .now) (given .out-beats .now) (given .out-values .now) (start .pre .0) (map onItsRow list)
+    all-laid (rowsNumber (given .beats .now) (given .values .now)) (tidyRows (given .beats .now) (given .values .now)) (given .out-beats .now) (given .out-values .now) (start .pre .0) (map onItsRow list)
     (ordered-way (given .beats .now) (given .values .now) (even start) (start .pre .1 .0))
     (length (given .beats .now) - given .repeated) (omega (arith, long, kept start)) (omega (arith, long, kept start, c .before .before .before .before .before .before .before .before .before .room-of .ensures, c .before .before .before .before .before .before .before .before .if1 .left))
     (c .before .before .before .before .lay-lasts .ensures)

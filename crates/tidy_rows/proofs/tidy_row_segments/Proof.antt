@@ -4,7 +4,8 @@ use native.Mathlib.Omega.{arith}
 use lib.ListN.{length}
 use Rattle.limits.proofs.ListTaken.{list-taken}
 use Rattle.columns.proofs.Rooms.{refused-by-tests}
-use Rattle.tidy_rows_sort.proofs.Outcomes.{taken-sizes, numbered}
+use Rattle.limits.proofs.Sizes.{taken-sizes}
+use Rattle.columns.proofs.ListLaid.{numbered}
 use Rattle.tidy_rows.specs.RowTidying.{tidyRows, rowsNumber}
 use borrow.Author.Needs.{needs}
 use Rattle.tidy_rows.proofs.tidy_row_segments.Statement.{statement}
@@ -50,6 +51,7 @@ same-length-4 : tie.Need-same-length-4
 same-length-4 c = search needs
 
 returns-3 : tie.Need-returns-3
+unfolding tidyRows
 returns-3 c =
     let given = c .before .before .before .before .before .before .before .before .before .before .before .before .before .before .before .before .args in
     let zero = sym (c .before .before .before .before .before .before .before .before .before .before .before .list-number .ensures) ∙ c .before .before .before .before .before .before .before .before .before .before .if1 .left in

@@ -1,5 +1,5 @@
 -- `tidy_scrolls::change_at` finds the change by place and nearness. Assumes nothing.
-use Rattle.tidy_rows.specs.RowTidying.{rowKeyAt}
+use Rattle.rows.specs.RowKey.{rowKeyAt}
 use Rattle.tidy_kept.specs.Near.{nearTo}
 use Rattle.tidy_kept.proofs.Searched.{place-within}
 use Rattle.tidy_kept.proofs.PlacedInColumns.{change-by}

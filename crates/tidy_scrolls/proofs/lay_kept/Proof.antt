@@ -5,7 +5,7 @@ use Rattle.tidy_scrolls.proofs.Turns.{turn-writes, turn-waits, ends-wai
 use Rattle.tidy_scrolls.specs.inside.Ways.{scrollWaiting, noScrollHeld, writtenFrom}
 use Rattle.tidy_kept.specs.Passing.{stillWritten}
 use Rattle.tidy_kept.specs.Near.{nearTo}
-use Rattle.tidy_rows.specs.RowTidying.{rowKeyAt, onItsRow}
+use Rattle.rows.specs.RowKey.{rowKeyAt, onItsRow}
 use Rattle.order.specs.Entries.{entries, first, second}
 use lib.Ieee.{nan}
 use lib.ListN.{length, drop, length-map}

@@ -2,7 +2,7 @@
 use Rattle.tidy_scrolls.specs.inside.Ways.{scrollWaiting}
 use Rattle.tidy_kept.proofs.PassTurns.{passed-later, passed-away, passed-by, passed-over, passed-alone}
 use Rattle.tidy_kept.specs.Near.{nearTo}
-use Rattle.tidy_rows.specs.RowTidying.{rowKeyAt}
+use Rattle.rows.specs.RowKey.{rowKeyAt}
 use lib.Ieee.{Float}
 use native.Mathlib.Omega.{arith}
 use mathlib.Core.Path.{sym, _∙_}

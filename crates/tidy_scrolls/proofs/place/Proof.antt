@@ -1,5 +1,5 @@
 -- `tidy_scrolls::place` writes the first entry, or makes the change. Assumes nothing.
-use Rattle.tidy_rows.specs.RowTidying.{rowKeyAt}
+use Rattle.rows.specs.RowKey.{rowKeyAt}
 use Rattle.tidy_kept.specs.Near.{nearTo}
 use Rattle.tidy_kept.proofs.PlacedInColumns.{placed-first, high-fits, placed-later}
 use lib.Ieee.{nan}

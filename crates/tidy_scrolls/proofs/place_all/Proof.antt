@@ -4,7 +4,7 @@ use mathlib.Core.Path.{_≡_, refl, _∙_}
 use Prim.Native.Nat.{_-_, _≤_}
 use Rattle.tidy_kept.proofs.PlacedInColumns.{PlacingAll, placing-none, beats-stand, placing-falls, placing-more, placing-ends}
 use Rattle.tidy_scrolls.proofs.Turns.{at as entry-at, many, here}
-use Rattle.tidy_rows.specs.RowTidying.{rowKeyAt}
+use Rattle.rows.specs.RowKey.{rowKeyAt}
 use Rattle.tidy_kept.specs.Near.{nearTo}
 use Rattle.order.specs.Entries.{entries}
 use lib.Ieee.{nan}

@@ -3,7 +3,7 @@ use Rattle.tidy_scrolls.proofs.Outcomes.{even-columns, ordered-refused,
 use Rattle.tidy_scrolls.specs.inside.Ways.{noScrollHeld}
 use Rattle.tidy_kept.specs.Passing.{stillWritten}
 use Rattle.tidy_kept.specs.Near.{nearTo}
-use Rattle.tidy_rows.specs.RowTidying.{rowKeyAt}
+use Rattle.rows.specs.RowKey.{rowKeyAt}
 use Rattle.order.specs.Entries.{entries}
 use borrow.Author.Tests.{not-true, not-false, leb-true, leb-false}
 use lib.ListN.{length}

@@ -10,7 +10,7 @@ use Rattle.order.specs.Order.{laid}
 use Rattle.order.specs.Entries.{entries, first, second}
 use Rattle.order.proofs.Columns.{length-entries}
 use Rattle.columns.proofs.EachOverFront.{copied-over-front}
-use Rattle.tidy_rows.specs.RowTidying.{rowKeyAt, onItsRow}
+use Rattle.rows.specs.RowKey.{rowKeyAt, onItsRow}
 use Rattle.tidy_rows.proofs.BothWays.{each-beat, each-value}
 use Rattle.tidy_kept.specs.Near.{nearTo}
 use Rattle.tidy_kept.specs.Passing.{stillWritten}
@@ -56,8 +56,8 @@ returns c =
     let beatsAre = ap (λ (l : List (Float × Float)). map first (map onItsRow l)) every ∙ each-beat beats values same in
     let valuesAre = ap (λ (l : List (Float × Float)). map second (map onItsRow l)) every ∙ each-value beats values same in
     ordered-laid beats values out-beats out-values (s .pre .0) (rising-never-falls beats (s .pre .1)) _ _ _ (omega (arith, long, rooms)) (omega (arith, long)) (record {
-      beatsAre = c .before .before .before .before .before .before .lay-on-rows .ensures ∙ marked-over-front beats out-beats (list-taken (s .pre .0) .beatsIn) (omega (arith, rooms)) ∙ ap (λ (l : List Float). laid l out-beats) (sym beatsAre);
-      valuesAre = c .before .before .copy .ensures ∙ copied-over-front values out-values (omega (arith, rooms, same)) ∙ ap (λ (l : List Float). laid l out-values) (sym valuesAre);
+      firstIs = c .before .before .before .before .before .before .lay-on-rows .ensures ∙ marked-over-front beats out-beats (list-taken (s .pre .0) .beatsIn) (omega (arith, rooms)) ∙ ap (λ (l : List Float). laid l out-beats) (sym beatsAre);
+      secondIs = c .before .before .copy .ensures ∙ copied-over-front values out-values (omega (arith, rooms, same)) ∙ ap (λ (l : List Float). laid l out-values) (sym valuesAre);
     })
 
 tidy-ordered-requires : tie.Need-tidy-ordered-requires

@@ -3,7 +3,7 @@ use mathlib.Core.Bool.{false}
 use mathlib.Core.List.{List, map}
 use lib.Ieee.{Float, nan}
 use Rattle.ieee.specs.Constants.{plusZero}
-use Rattle.tidy_rows.specs.RowTidying.{rowKeyAt, onItsRow}
+use Rattle.rows.specs.RowKey.{rowKeyAt, onItsRow}
 use Rattle.tidy_kept.specs.Near.{nearTo}
 use Rattle.tidy_kept.specs.Passing.{Waiting, stillWritten}
 use Rattle.tidy_scrolls.specs.declared.Held.{Held}

@@ -4,7 +4,7 @@ use mathlib.Core.Path.{_≡_, sym, ap, _∙_}
 use native.Mathlib.Omega.{arith}
 use lib.ListN.{length}
 use lib.Ieee.{nan}
-use Rattle.tidy_rows.specs.RowTidying.{rowKeyAt}
+use Rattle.rows.specs.RowKey.{rowKeyAt}
 use Rattle.tidy_speeds_entries.specs.Speed.{nearSpeed, noSpeed, speedEntries}
 use Rattle.tidy_speeds_entries.proofs.SpeedColumns.{many-speeds, speed-here}
 use Rattle.tidy_speeds_ordered.proofs.AllKept.{AllSoFar, so-far-one, so-far-more, so-far-all, none-kept, every-kept}

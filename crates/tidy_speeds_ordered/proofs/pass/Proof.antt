@@ -2,7 +2,7 @@
 use mathlib.Core.Path.{sym, _∙_}
 use native.Mathlib.Omega.{arith}
 use lib.Ieee.{Float}
-use Rattle.tidy_rows.specs.RowTidying.{rowKeyAt}
+use Rattle.rows.specs.RowKey.{rowKeyAt}
 use Rattle.tidy_kept.proofs.PassTurns.{passed-later, passed-away, passed-by, passed-over, passed-alone}
 use Rattle.tidy_speeds_entries.specs.Speed.{SpeedValue, speedValueOf, nearSpeed}
 use Rattle.tidy_speeds_ordered.specs.inside.Waiting.{speedWaiting}

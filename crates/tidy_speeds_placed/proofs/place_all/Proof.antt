@@ -4,7 +4,7 @@ use mathlib.Core.Path.{_≡_, sym, _∙_}
 use native.Mathlib.Omega.{arith}
 use lib.ListN.{length, getD}
 use lib.Ieee.{nan}
-use Rattle.tidy_rows.specs.RowTidying.{rowKeyAt}
+use Rattle.rows.specs.RowKey.{rowKeyAt}
 use Rattle.tidy_speeds_entries.specs.Speed.{speedValueOf, nearSpeed, noSpeed, speedValues, speedEntries}
 use Rattle.tidy_speeds_entries.proofs.SpeedColumns.{many-values, many-speeds, speed-here, speed-entry}
 use Rattle.tidy_kept.proofs.PlacedInColumns.{PlacingAll, placing-none, beats-stand, placing-falls, placing-more, placing-ends}

@@ -2,7 +2,7 @@
 use native.Mathlib.Omega.{arith}
 use mathlib.Core.Path.{refl}
 use lib.Ieee.{nan}
-use Rattle.tidy_rows.specs.RowTidying.{rowKeyAt}
+use Rattle.rows.specs.RowKey.{rowKeyAt}
 use Rattle.tidy_speeds_entries.specs.Speed.{speedValueOf, nearSpeed, noSpeed, speedValues}
 use Rattle.tidy_speeds_entries.proofs.SpeedColumns.{many-values, set-value}
 use Rattle.tidy_kept.proofs.PlacedInColumns.{placed-first}

@@ -24,12 +24,6 @@ keeps beats tempos i value =
     (pick (eq (getD beats i nan) (getD beats (i + 1) nan)) false (ne (getD tempos i nan) value))
     (ne (getD tempos i nan) value)
 
--- whether no beat is below the one before it
-unfoldable pub inOrder : List Float → Bool
-inOrder [] = true
-inOrder (b ∷ []) = true
-inOrder (b ∷ next ∷ beats) = pick (lt next b) false (inOrder (next ∷ beats))
-
 -- the next beat is neither below nor the same
 unfoldable pub apart : Float → Float → Bool
 apart beat next = pick (lt next beat) false (not (eq beat next))
