@@ -17,6 +17,7 @@ use Rattle.ieee.specs.inside.PatternParts.{fieldOf, digitsOf, powerOf}
 use Rattle.ieee.proofs.FiniteTest.{finite-test}
 use Rattle.ieee.proofs.PatternValue.{pattern-value, finite-field}
 use Rattle.ieee_mul_add.specs.MulAdd.{mulAdd}
+use Rattle.ieee_mul_add.specs.inside.FinitePatterns.{FinitePatterns}
 use Rattle.ieee_mul_add.proofs.ByFractions.{zero-product}
 
 -- a pattern of no more than an infinity's size is no NaN
@@ -78,9 +79,15 @@ module _ (f : Format) (x y z : Float) (K : AllFinite x y z) where
 
   -- what the functions on patterns ask
   pub all-finite-bits : (m n : ℕ) → m ≡ digitsOf binary64 (bitsOf x) → n ≡ digitsOf binary64 (bitsOf y) → (m ≡ 0 → ⊥) → (n ≡ 0 → ⊥)
-      → (fieldOf binary64 (bitsOf x) < 2047) × (fieldOf binary64 (bitsOf y) < 2047) × (fieldOf binary64 (bitsOf z) < 2047) × (0 < digitsOf binary64 (bitsOf x)) × (0 < digitsOf binary64 (bitsOf y))
+      → FinitePatterns (bitsOf x) (bitsOf y) (bitsOf z)
   all-finite-bits m n e g h k =
-      (finite-bits x (K .fits-x) (K .finite-x), finite-bits y (K .fits-y) (K .finite-y), finite-bits z (K .fits-z) (K .finite-z), above-zero (digitsOf binary64 (bitsOf x)) (λ o. h (e ∙ o)), above-zero (digitsOf binary64 (bitsOf y)) (λ o. k (g ∙ o)))
+      record {
+        finite-a = finite-bits x (K .fits-x) (K .finite-x);
+        finite-b = finite-bits y (K .fits-y) (K .finite-y);
+        finite-c = finite-bits z (K .fits-z) (K .finite-z);
+        some-a = above-zero (digitsOf binary64 (bitsOf x)) (λ o. h (e ∙ o));
+        some-b = above-zero (digitsOf binary64 (bitsOf y)) (λ o. k (g ∙ o));
+      }
     where
       above-zero : (n : ℕ) → (n ≡ 0 → ⊥) → 0 < n
       above-zero n h = elim (eq-zero-or-pos n) [ inl z ↦ absurd (h z) | inr p ↦ p ]

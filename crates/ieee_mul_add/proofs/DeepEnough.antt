@@ -10,7 +10,7 @@ use lib.Dec.{ltb}
 use lib.Pow.{pow-add, pow-pos, pow-mono}
 use borrow.Author.Tests.{lt-ltb, le-ltb}
 use Rattle.ieee.proofs.Closest.{lt-or-ge}
-use Rattle.ieee.proofs.SumByValue.{sub-mul}
+use Rattle.ieee.proofs.Distance.{gap-mul}
 use Rattle.ieee.specs.inside.SumSize.{sumSize}
 use Rattle.ieee_mul_add.specs.inside.CutSum.{productOf, addendOf}
 use Rattle.ieee_odd_cut.proofs.OneOddCut.{IsOddCut, only-odd-cut}
@@ -18,21 +18,18 @@ use Rattle.ieee_odd_cut.proofs.OneOddCut.{IsOddCut, only-odd-cut}
 -- ---- two sizes added
 
 -- with a factor in both
-sum-scaled : (alike : Bool) (a b d : ℕ) → 0 < d → sumSize alike (a * d) (b * d) ≡ sumSize alike a b * d
-sum-scaled true a b d D = sym (add-mul a b d)
-sum-scaled false a b d D = elim (lt-or-ge a b) [
-  | inl l ↦ rw (lt-ltb a b l, lt-ltb (a * d) (b * d) (mul-lt-mul-of-pos-right l D)) (sym (sub-mul b a d))
-  | inr l ↦ rw (le-ltb a b l, le-ltb (a * d) (b * d) (mul-le-mul-right d l)) (sym (sub-mul a b d))
-]
+sum-scaled : (alike : Bool) (a b d : ℕ) → sumSize alike (a * d) (b * d) ≡ sumSize alike a b * d
+sum-scaled true a b d = sym (add-mul a b d)
+sum-scaled false a b d = gap-mul a b d
 
 -- where one is at least twice t and the other at most t, the sum is at least t
 far-first : (alike : Bool) (t a b : ℕ) → t + t ≤ a → b ≤ t → t ≤ sumSize alike a b
 far-first true t a b h l = omega arith
-far-first false t a b h l = elim (lt-or-ge a b) [ inl g ↦ rw (lt-ltb a b g) (omega arith) | inr g ↦ rw (le-ltb a b g) (omega arith) ]
+far-first false t a b h l = omega arith
 
 far-second : (alike : Bool) (t a b : ℕ) → a ≤ t → t + t ≤ b → t ≤ sumSize alike a b
 far-second true t a b h l = omega arith
-far-second false t a b h l = elim (lt-or-ge a b) [ inl g ↦ rw (lt-ltb a b g) (omega arith) | inr g ↦ rw (le-ltb a b g) (omega arith) ]
+far-second false t a b h l = omega arith
 
 -- a multiple of d is cut by d without loss
 exact-cut : (k d w : ℕ) → 0 < d → IsOddCut (k * d) d w → w * d ≡ k * d
@@ -95,7 +92,7 @@ module _ (m n o i j k : ℕ) (M : m < 2 ^ 53) (N : n < 2 ^ 53) (O : o < 2 ^ 53) 
   whole : (alike : Bool) (w y a b : ℕ) → A ≡ a * 2 ^ y → B ≡ b * 2 ^ y → IsOddCut (sumSize alike A B) (2 ^ y) w → DeepCut alike w y
   whole alike w y a b e g h =
       let c = sumSize alike a b in
-      let q : sumSize alike A B ≡ c * 2 ^ y = ap₂ (sumSize alike) e g ∙ sum-scaled alike a b (2 ^ y) (pow-pos y) in
+      let q : sumSize alike A B ≡ c * 2 ^ y = ap₂ (sumSize alike) e g ∙ sum-scaled alike a b (2 ^ y) in
       inl (exact-cut c (2 ^ y) w (pow-pos y) (subst (λ (x : ℕ). IsOddCut x (2 ^ y) w) q h) ∙ sym q)
 
   -- the product is a multiple of 2 ^ Z where that is no more than 20 places up, and the addend of 2 ^ X where that is no more than 73: so much room is below their digits

@@ -1,5 +1,5 @@
 -- Differences of numbers of two words, by their words. W is the base, held open because `omega` works with no numbers of more than 38 digits. Assumes nothing.
-use mathlib.Core.Path.{_≡_, refl, ap}
+use mathlib.Core.Path.{_≡_, sym, ap}
 use mathlib.Core.Logic.{inl, inr}
 use Prim.Native.Nat.{ℕ, _+_, _-_, _*_, _%_, _^_, _≤_, _<_}
 use native.Mathlib.Nat.{mul-le-mul-right}
@@ -56,8 +56,8 @@ unwrapped l al bl e L B h = omega arith
 
 -- ---- which is larger, and how far they are apart
 pub second-larger : (a b w : ℕ) → a < b → w + a ≡ b → (w ≡ sumSize false a b) × (true ≡ ltb a b)
-second-larger a b w l e = rw (lt-ltb a b l) (omega arith, refl)
+second-larger a b w l e = (omega arith, sym (lt-ltb a b l))
 
 -- where the first is larger, or as large
 pub first-larger : (a b w : ℕ) → b ≤ a → w + b ≡ a → (w ≡ sumSize false a b) × (false ≡ ltb a b)
-first-larger a b w l e = rw (le-ltb a b l) (omega arith, refl)
+first-larger a b w l e = (omega arith, sym (le-ltb a b l))

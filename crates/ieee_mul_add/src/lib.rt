@@ -11,11 +11,12 @@ ghost use Prim.Native.Nat.{_+_, _-_, _*_, _^_, _≤_, _<_, _%_};
 ghost use lib.Dec.{ltb};
 ghost use lib.Ieee.{binary32, binary64, top, unlike, ofBits};
 ghost use Rattle.ieee.specs.inside.Harmless.{Harmless};
-ghost use Rattle.ieee.specs.inside.PatternParts.{fieldOf, digitsOf, powerOf};
+ghost use Rattle.ieee.specs.inside.PatternParts.{digitsOf, powerOf};
 ghost use Rattle.ieee.specs.inside.SumSize.{sumSize};
 ghost use Rattle.ieee_odd_cut.specs.OddCut.{madeOdd, oddCut};
 ghost use Rattle.ieee_mul_add.specs.MulAdd.{mulAdd};
 ghost use Rattle.ieee_mul_add.specs.inside.Words.{twoWords, wordsOf};
+ghost use Rattle.ieee_mul_add.specs.inside.FinitePatterns.{FinitePatterns};
 ghost use Rattle.ieee_mul_add.specs.inside.CutSum.{productOf, addendOf, Summed};
 ghost use Rattle.ieee_mul_add.specs.inside.RoundedFromCut.{KeptOf, patternSize, RoundedFrom};
 ghost use Rattle.ieee_mul_add.specs.inside.QuickWays.{ExactProduct};
@@ -382,7 +383,7 @@ fn pick(b: bool, x: bool, y: bool) -> bool
 
 // Between numbers, by their f64 patterns, where neither factor is 0.
 fn finite_f64(a: u64, b: u64, c: u64) -> f64
-    requires { ⌜ (fieldOf binary64 a < 2047) × (fieldOf binary64 b < 2047) × (fieldOf binary64 c < 2047) × (0 < digitsOf binary64 a) × (0 < digitsOf binary64 b) ⌝ }
+    requires { ⌜ FinitePatterns a b c ⌝ }
     ensures { λ r. ⌜ r ≡ mulAdd binary64 (ofBits binary64 a) (ofBits binary64 b) (ofBits binary64 c) ⌝ }
 {
     let s = unlike(a >= 0x8000_0000_0000_0000, b >= 0x8000_0000_0000_0000);
@@ -392,7 +393,7 @@ fn finite_f64(a: u64, b: u64, c: u64) -> f64
 }
 
 fn finite_f32(a: u64, b: u64, c: u64) -> f32
-    requires { ⌜ (fieldOf binary64 a < 2047) × (fieldOf binary64 b < 2047) × (fieldOf binary64 c < 2047) × (0 < digitsOf binary64 a) × (0 < digitsOf binary64 b) ⌝ }
+    requires { ⌜ FinitePatterns a b c ⌝ }
     ensures { λ r. ⌜ r ≡ mulAdd binary32 (ofBits binary64 a) (ofBits binary64 b) (ofBits binary64 c) ⌝ }
 {
     let s = unlike(a >= 0x8000_0000_0000_0000, b >= 0x8000_0000_0000_0000);

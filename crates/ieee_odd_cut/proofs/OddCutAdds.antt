@@ -1,8 +1,8 @@
 -- An odd cut added to an even number at its place, or taken from it, is the odd cut of the exact sum. Assumes nothing.
-use mathlib.Core.Path.{_≡_, refl, sym, ap, _∙_, subst₂}
+use mathlib.Core.Path.{_≡_, sym, ap, _∙_, subst₂}
 use mathlib.Core.Logic.{inl, inr}
 use Prim.Native.Nat.{ℕ, _+_, _-_, _*_, _%_, _≤_, _<_}
-use native.Mathlib.Nat.{add-comm, mul-le-mul-right, add-mul, le-of-lt}
+use native.Mathlib.Nat.{add-comm, mul-le-mul-right, add-mul}
 use native.Mathlib.Omega.{arith}
 use mathlib.Core.Bool.{Bool, true, false}
 use lib.Dec.{ltb}
@@ -14,10 +14,7 @@ use Rattle.ieee_odd_cut.proofs.OneOddCut.{IsOddCut}
 -- ---- a sum of sizes does not ask which comes first
 swapped : (alike : Bool) (a b : ℕ) → sumSize alike a b ≡ sumSize alike b a
 swapped true a b = add-comm a b
-swapped false a b = elim (lt-or-ge a b) [
-  | inl l ↦ rw (lt-ltb a b l, le-ltb b a (le-of-lt l)) refl
-  | inr l ↦ elim (lt-or-ge b a) [ inl g ↦ rw (le-ltb a b l, lt-ltb b a g) refl | inr g ↦ rw (le-ltb a b l, le-ltb b a g) (omega arith) ]
-]
+swapped false a b = omega arith
 
 -- ---- w is the odd cut of x by d, and stands beside an even number e, which is e * d
 module _ (e x d w : ℕ) (D : 0 < d) (E : e % 2 ≡ 0) (h : IsOddCut x d w) where
@@ -80,8 +77,8 @@ module _ (e x d w : ℕ) (D : 0 < d) (E : e % 2 ≡ 0) (h : IsOddCut x d w) wher
   pub second-cut-adds : (alike : Bool) → IsOddCut (sumSize alike (e * d) x) d (sumSize alike e w)
   second-cut-adds true = plus-at h
   second-cut-adds false = elim (lt-or-ge (e * d) x) [
-    | inl l ↦ rw (lt-ltb (e * d) x l, lt-ltb e w (above l)) (less-at h l (above l))
-    | inr l ↦ rw (le-ltb (e * d) x l, le-ltb e w (not-above l)) (minus-at h l (not-above l))
+    | inl l ↦ let g = above l in subst₂ (λ (n v : ℕ). IsOddCut n d v) (omega arith) (omega arith) (less-at h l g)
+    | inr l ↦ let g = not-above l in subst₂ (λ (n v : ℕ). IsOddCut n d v) (omega arith) (omega arith) (minus-at h l g)
   ]
 
   pub first-cut-adds : (alike : Bool) → IsOddCut (sumSize alike x (e * d)) d (sumSize alike w e)
