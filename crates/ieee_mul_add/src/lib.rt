@@ -479,6 +479,7 @@ fn exact(x: u64, y: u64) -> bool
 }
 
 // a * b + c with one rounding. Where the product is sure to be exact, one rounding is what the two operations make.
+// The slow way is called in two places, so that the compiler leaves it apart and what is tested first fits into a caller.
 pub fn mul_add_f64(a: f64, b: f64, c: f64) -> f64
     ensures { λ r. ⌜ r ≡ mulAdd binary64 a b c ⌝ }
 {
@@ -487,6 +488,7 @@ pub fn mul_add_f64(a: f64, b: f64, c: f64) -> f64
         if exact(f64::to_bits(a), f64::to_bits(b)) {
             return product + c;
         }
+        return by_words_f64(a, b, c);
     }
     by_words_f64(a, b, c)
 }
@@ -516,6 +518,7 @@ pub fn mul_add_f32(a: f32, b: f32, c: f32) -> f32
                 return ieee::narrow_f64(r);
             }
         }
+        return by_words_f32(a, b, c);
     }
     by_words_f32(a, b, c)
 }

@@ -79,6 +79,12 @@ by-words-f32-requires c κs = search needs
 returns-2 : tie.Need-returns-2
 returns-2 c = search needs
 
+by-words-f32-requires-2 : tie.Need-by-words-f32-requires-2
+by-words-f32-requires-2 c κs = search needs
+
+returns-3 : tie.Need-returns-3
+returns-3 c = search needs
+
 pub mul-add-f32-spec : {M : Type 1} → statement M
 mul-add-f32-spec =
     tie.close
@@ -91,4 +97,6 @@ mul-add-f32-spec =
     narrow-f64-requires
     returns
     by-words-f32-requires
-    returns-2)
+    returns-2
+    by-words-f32-requires-2
+    returns-3)

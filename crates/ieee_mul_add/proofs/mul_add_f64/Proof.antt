@@ -33,6 +33,12 @@ by-words-f64-requires c κs = search needs
 returns-2 : tie.Need-returns-2
 returns-2 c = search needs
 
+by-words-f64-requires-2 : tie.Need-by-words-f64-requires-2
+by-words-f64-requires-2 c κs = search needs
+
+returns-3 : tie.Need-returns-3
+returns-3 c = search needs
+
 pub mul-add-f64-spec : {M : Type 1} → statement M
 mul-add-f64-spec =
     tie.close
@@ -42,4 +48,6 @@ mul-add-f64-spec =
     exact-requires
     returns
     by-words-f64-requires
-    returns-2)
+    returns-2
+    by-words-f64-requires-2
+    returns-3)
