@@ -15,7 +15,7 @@ use Rattle.order_search.specs.Search.{placeOf, SplitBy}
 use Rattle.order_search.specs.F32UpTo.{f32UpTo}
 use Rattle.order_search.proofs.OrderedSplits.{ordered-splits}
 use Rattle.order_search.proofs.F32UpToIsLe.{f32-up-to-is-le}
-use Rattle.notes_displayed.specs.Scrolls.{scrollPrefix, reaches, upToBeat, displayedFrom, behindScrolls, displayedBeat, displayedBy}
+use Rattle.notes_displayed.specs.Scrolls.{scrollPrefix, reaches, upToBeat, displayedFrom, behindScrolls, displayedBeat, foundUpTo, displayedBy}
 use Rattle.notes_displayed.specs.Answers.{scrollColumnsNumber, displayedNumber, displayedAt, checkedAt}
 use Rattle.notes_displayed.proofs.OneStepOn.{prefix-length}
 use Rattle.notes_displayed.proofs.ScrollsTaken.{scrolls-taken, beats-in-order}
@@ -59,7 +59,8 @@ as-f32 at (b ∷ beats) f32 = rw (f32-up-to-is-le b at (f32 0), as-f32 at beats 
 
 module _ (beats ratios room : List Float) (f32 : (i : ℕ) → T (fits binary32 (getD beats i nan))) (taken : scrollColumnsNumber beats ratios ≡ 0) where
   -- the search finds as many as are counted
-  found : (at : Float) → placeOf (f32UpTo at) beats ≡ upToBeat at beats
+  found : (at : Float) → foundUpTo at beats ≡ upToBeat at beats
+  unfolding foundUpTo
   found at = split-counts (f32UpTo at) beats (placeOf (f32UpTo at) beats) (ordered-splits (f32UpTo at) beats (beats-in-order beats ratios taken)) ∙ as-f32 at beats f32
 
   pub displayed-checked-is-tested : (at : Float) → checkedAt beats ratios (laid (scrollPrefix beats ratios) room) at ≡ displayedAt beats ratios at

@@ -1,6 +1,8 @@
 pub mod OneStepOn
 pub mod WalkedTo
 pub mod ScrollsTaken
+pub mod ByCount
+pub mod EachTwice
 pub mod CheckedIsTested
 pub mod BeforeTheFirst
 pub mod TheLastCounts

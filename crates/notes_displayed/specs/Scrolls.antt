@@ -54,6 +54,10 @@ behindScrolls beats ratios prefix n at =
 unfoldable pub displayedBeat : (beats ratios : List Float) → Float → Float
 displayedBeat beats ratios at = behindScrolls beats ratios (scrollPrefix beats ratios) (upToBeat at beats) at
 
--- by a search for the last scroll, whatever the order of the beats, and by any prefix
+-- how many a search finds, whatever the order of the beats
+unfoldable pub foundUpTo : Float → List Float → ℕ
+foundUpTo at beats = placeOf (f32UpTo at) beats
+
+-- by the search, and by any prefix
 unfoldable pub displayedBy : (beats ratios prefix : List Float) → Float → Float
-displayedBy beats ratios prefix at = behindScrolls beats ratios prefix (placeOf (f32UpTo at) beats) at
+displayedBy beats ratios prefix at = behindScrolls beats ratios prefix (foundUpTo at beats) at

@@ -2,14 +2,15 @@
 use columns::Outcome;
 use limits::Kind;
 ghost use mathlib.Core.Path.{_≡_};
-ghost use Prim.Native.Nat.{_≤_};
+ghost use Prim.Native.Nat.{ℕ, _≤_, _<_};
 ghost use lib.ListN.{length, getD};
 ghost use lib.Ieee.{Float, nan};
 ghost use Rattle.limits.specs.Numbers.{miss};
 ghost use Rattle.limits.specs.Neighbours.{everyTwo, notFalling};
 ghost use Rattle.order.specs.Order.{laid};
 ghost use Rattle.columns.specs.Each.{laidEach};
-ghost use Rattle.notes_displayed.specs.Scrolls.{scrolledOn, scrollPrefix, displayedFrom, displayedBeat, displayedBy};
+ghost use Rattle.clock_tests.specs.TimingNumbers.{beatNumber};
+ghost use Rattle.notes_displayed.specs.Scrolls.{scrolledOn, scrollPrefix, displayedFrom, behindScrolls, displayedBeat, foundUpTo};
 ghost use Rattle.notes_displayed.specs.Answers.{scrollColumnsNumber, displayed, displayedAt, checkedAt, PrefixLaid, BeatsDisplayed};
 ghost use Rattle.notes_displayed.specs.inside.Steps.{AllDisplayed};
 
@@ -182,10 +183,16 @@ fn number_at_f32(column: &[f32], place: usize) -> f64
     0.0 / 0.0
 }
 
-fn find(scroll_beats: &[f32], scroll_ratios: &[f32], prefix: &[f64], beat: f64) -> f64
-    ensures { λ r. ⌜ r ≡ displayedBy (now («scroll_beats» .entry)) (now («scroll_ratios» .entry)) (now (prefix .entry)) beat ⌝ }
+// Where a beat is drawn behind some scrolls: by the last of them.
+fn draw_behind(
+    scroll_beats: &[f32],
+    scroll_ratios: &[f32],
+    prefix: &[f64],
+    count: usize,
+    beat: f64,
+) -> f64
+    ensures { λ r. ⌜ r ≡ behindScrolls (now («scroll_beats» .entry)) (now («scroll_ratios» .entry)) (now (prefix .entry)) count beat ⌝ }
 {
-    let count = order_search::place_of(scroll_beats, order_search::f32_up_to(beat));
     if count == 0 {
         return beat;
     }
@@ -198,6 +205,35 @@ fn find(scroll_beats: &[f32], scroll_ratios: &[f32], prefix: &[f64], beat: f64) 
     )
 }
 
+fn answer_behind(
+    scroll_beats: &[f32],
+    scroll_ratios: &[f32],
+    prefix: &[f64],
+    count: usize,
+    beat: f64,
+) -> Displayed
+    ensures { λ r. ⌜ r ≡ displayed (beatNumber beat) (behindScrolls (now («scroll_beats» .entry)) (now («scroll_ratios» .entry)) (now (prefix .entry)) count beat) ⌝ }
+{
+    let number = clock_tests::beat_number(beat);
+    if number == limits::TAKEN {
+        return Displayed {
+            number: limits::TAKEN,
+            beat: draw_behind(scroll_beats, scroll_ratios, prefix, count, beat),
+        };
+    }
+    Displayed {
+        number: number,
+        beat: 0.0,
+    }
+}
+
+// How many scrolls a search finds at or before a beat.
+fn count_up_to(scroll_beats: &[f32], beat: f64) -> usize
+    ensures { λ r. ⌜ r ≡ foundUpTo beat (now («scroll_beats» .entry)) ⌝ }
+{
+    order_search::place_of(scroll_beats, order_search::f32_up_to(beat))
+}
+
 // The same position from scrolls that were tested once, by the prefix that `build_scroll_prefix` wrote, in a time that grows with the logarithm of their count
 // (`displayed-checked-is-tested`). Takes any lists and any prefix, and refuses only a beat beyond the limit, with 3.
 pub fn get_displayed_beat_checked(
@@ -208,22 +244,26 @@ pub fn get_displayed_beat_checked(
 ) -> Displayed
     ensures { λ r. ⌜ r ≡ checkedAt (now («scroll_beats» .entry)) (now («scroll_ratios» .entry)) (now (prefix .entry)) beat ⌝ }
 {
-    let number = clock_tests::beat_number(beat);
-    if number == limits::TAKEN {
-        return Displayed {
-            number: limits::TAKEN,
-            beat: find(scroll_beats, scroll_ratios, prefix, beat),
-        };
-    }
-    Displayed {
-        number: number,
-        beat: 0.0,
-    }
+    let count = count_up_to(scroll_beats, beat);
+    answer_behind(scroll_beats, scroll_ratios, prefix, count, beat)
 }
 
 // ---- many beats
 
-fn show_each(
+// The searches come first, all of them, and what they find waits in the column of numbers: what is made of it then is at hand when a test depends on it.
+fn count_each(scroll_beats: &[f32], beats: &[f64], numbers: &mut [u32])
+    requires { ⌜ (length (now «scroll_beats») ≤ 1024) × (length (now beats) ≤ length (now numbers)) ⌝ }
+    ensures { λ _. ⌜ now (numbers .exit) ≡ laidEach (λ (beat : Float). foundUpTo beat (now («scroll_beats» .entry))) (now (beats .entry)) (now (numbers .entry)) ⌝ }
+{
+    let mut i = 0;
+    while i < beats.len() {
+        numbers[i] = count_up_to(scroll_beats, beats[i]) as u32;
+        i += 1;
+    }
+}
+
+// Answers each beat by the count that stands in the column of numbers.
+fn answer_each(
     scroll_beats: &[f32],
     scroll_ratios: &[f32],
     prefix: &[f64],
@@ -231,14 +271,15 @@ fn show_each(
     numbers: &mut [u32],
     positions: &mut [f64],
 )
-    requires { ⌜ (length (now beats) ≤ length (now numbers)) × (length (now beats) ≤ length (now positions)) ⌝ }
+    requires { ⌜ (length (now beats) ≤ length (now numbers)) × (length (now beats) ≤ length (now positions)) × ((i : ℕ) → i < length (now beats) → getD (now numbers) i 0 ≡ foundUpTo (getD (now beats) i nan) (now «scroll_beats»)) ⌝ }
     ensures { λ _. ⌜
         (now (numbers .exit) ≡ laidEach (λ (beat : Float). checkedAt (now («scroll_beats» .entry)) (now («scroll_ratios» .entry)) (now (prefix .entry)) beat .number) (now (beats .entry)) (now (numbers .entry)))
         × (now (positions .exit) ≡ laidEach (λ (beat : Float). checkedAt (now («scroll_beats» .entry)) (now («scroll_ratios» .entry)) (now (prefix .entry)) beat .beat) (now (beats .entry)) (now (positions .entry))) ⌝ }
 {
     let mut i = 0;
     while i < beats.len() {
-        let shown = get_displayed_beat_checked(scroll_beats, scroll_ratios, prefix, beats[i]);
+        let count = numbers[i] as usize;
+        let shown = answer_behind(scroll_beats, scroll_ratios, prefix, count, beats[i]);
         numbers[i] = shown.number;
         positions[i] = shown.beat;
         i += 1;
@@ -258,7 +299,8 @@ fn show_by(
     ensures { λ _. ⌜ AllDisplayed (now («scroll_beats» .entry)) (now («scroll_ratios» .entry)) (now (beats .entry)) (now (numbers .entry)) (now (numbers .exit)) (now (positions .entry)) (now (positions .exit)) ⌝ }
 {
     lay_prefix(scroll_beats, scroll_ratios, prefix);
-    show_each(
+    count_each(scroll_beats, beats, numbers);
+    answer_each(
         scroll_beats,
         scroll_ratios,
         prefix,
