@@ -71,13 +71,7 @@ pub extern "C" fn marrighentu_get_displayed_beats(
 ) -> Outcome
     ensures { λ r. ⌜ BeatsDisplayed (now («scroll_beats» .entry)) (now («scroll_ratios» .entry)) (now (beats .entry)) r (now (numbers .entry)) (now (numbers .exit)) (now (positions .entry)) (now (positions .exit)) ⌝ }
 {
-    notes_displayed::get_displayed_beats(
-        scroll_beats,
-        scroll_ratios,
-        beats,
-        numbers,
-        positions,
-    )
+    notes_displayed::get_displayed_beats(scroll_beats, scroll_ratios, beats, numbers, positions)
 }
 
 // The beat of each row of note data.

@@ -972,7 +972,13 @@ fn replay_run(words: &[u64], floats: &[f32], numbers: &[f64], at: usize) -> Repl
 // ---- notes
 
 // A position, and why there is none.
-fn same_displayed(words: &[u64], numbers_at: usize, positions_at: usize, i: usize, shown: Displayed) -> bool {
+fn same_displayed(
+    words: &[u64],
+    numbers_at: usize,
+    positions_at: usize,
+    i: usize,
+    shown: Displayed,
+) -> bool {
     both(
         is_u32(shown.number, entry_at(words, numbers_at, i)),
         is_f64(shown.beat, entry_at(words, positions_at, i)),
@@ -994,12 +1000,22 @@ fn same_positions(
     let mut i = 0;
     while i < asked.len() {
         let tested = notes_displayed::get_displayed_beat(scroll_beats, scroll_ratios, asked[i]);
-        let player =
-            notes_displayed::get_displayed_beat_checked(scroll_beats, scroll_ratios, prefix, asked[i]);
-        same = both(same, same_displayed(words, numbers_at, positions_at, i, tested));
+        let player = notes_displayed::get_displayed_beat_checked(
+            scroll_beats,
+            scroll_ratios,
+            prefix,
+            asked[i],
+        );
         same = both(
             same,
-            if_taken(number, same_displayed(words, numbers_at, positions_at, i, player)),
+            same_displayed(words, numbers_at, positions_at, i, tested),
+        );
+        same = both(
+            same,
+            if_taken(
+                number,
+                same_displayed(words, numbers_at, positions_at, i, player),
+            ),
         );
         i += 1;
     }
@@ -1046,7 +1062,10 @@ fn replay_displayed(words: &[u64], floats: &[f32], numbers: &[f64], at: usize) -
     );
     same = both(
         same,
-        if_taken(shown.number, same_f64s(words, positions_at, &positions_room)),
+        if_taken(
+            shown.number,
+            same_f64s(words, positions_at, &positions_room),
+        ),
     );
     same = both(
         same,
@@ -1073,8 +1092,10 @@ fn replay_row_to_beat(words: &[u64], bytes: &[u8], at: usize) -> Replayed {
     let beats_at = behind(words, data_at);
     let answer_at = behind(words, beats_at);
     let mut beats_room = [1.5f32; ROOM];
-    let outcome =
-        notes_rows::compute_row_to_beat(byte_column(bytes, words, data_at), &mut beats_room);
+    let outcome = notes_rows::compute_row_to_beat(
+        byte_column(bytes, words, data_at),
+        &mut beats_room,
+    );
     Replayed {
         same: both(
             same_outcome(words, answer_at, outcome),
