@@ -333,6 +333,9 @@ pub fn row_to_beat(note_data: &[u8], room: &mut [f32]) -> Outcome {
     unsafe { port::marrighentu_compute_row_to_beat(note_data.as_ptr(), note_data.len(), room.as_mut_ptr(), room.len()) }
 }
 
+/// Blanks of every kind and what is none, commas, and what notes are written with.
+const ANY_BYTES: &[u8] = b"\t\n\x0b\x0c\r ,,0014M\n\n";
+
 /// Note data by chance: rows of any width, line ends of every kind, commas anywhere, some measures empty.
 fn note_data(turn: u64, random: &mut Random) -> Vec<u8> {
     let length = match turn % 64 {
@@ -353,7 +356,7 @@ fn note_data(turn: u64, random: &mut Random) -> Vec<u8> {
             1 => data.extend_from_slice(
                 [&b"1000\r\n"[..], b"\n", b"  \n", b",", b"0000\n,\n", b"\x0b\n"][random.below(6) as usize],
             ),
-            _ => data.push(b"\t\n\x0b\x0c\r ,,0014M\n\n"[random.below(16) as usize]),
+            _ => data.push(ANY_BYTES[random.below(ANY_BYTES.len() as u64) as usize]),
         }
     }
     if random.below(3) == 0 {

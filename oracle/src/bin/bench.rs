@@ -70,7 +70,9 @@ fn main() {
         bench.displayed(entries, "any ratio", &[]);
     }
     println!("nanoseconds a call");
-    for (name, rows) in [("rows of 4 to 192 a measure", &[4, 8, 12, 16, 24, 32, 48, 64, 192][..]), ("16 rows a measure", &[16])] {
+    for (name, rows) in
+        [("rows of 4 to 192 a measure", &[4, 8, 12, 16, 24, 32, 48, 64, 192][..]), ("16 rows a measure", &[16])]
+    {
         bench.row_to_beat(name, rows);
     }
     bench.mul_add();
@@ -362,9 +364,11 @@ impl Bench {
     fn mul_add(&mut self) {
         let random = &mut Random::new(1, "bench of the multiply-add");
         let beat = |random: &mut Random| random.below(48_000) as f64 / 48.0;
-        let grid: Vec<[f64; 3]> =
-            (0..ENTRIES).map(|place| [beat(random), [1.0, 0.5, 2.0, f64::from(1.37f32)][place % 4], beat(random)]).collect();
-        let seconds: Vec<[f64; 3]> = (0..ENTRIES).map(|_| [random.part() * 200.0, random.part() * 4.0, beat(random)]).collect();
+        let grid: Vec<[f64; 3]> = (0..ENTRIES)
+            .map(|place| [beat(random), [1.0, 0.5, 2.0, f64::from(1.37f32)][place % 4], beat(random)])
+            .collect();
+        let seconds: Vec<[f64; 3]> =
+            (0..ENTRIES).map(|_| [random.part() * 200.0, random.part() * 4.0, beat(random)]).collect();
         let mut out = vec![0.0; ENTRIES];
         let mut hardware = vec![0.0; ENTRIES];
         for (name, numbers) in [("beats on rows, usual ratios", grid), ("seconds and any tempo", seconds)] {
