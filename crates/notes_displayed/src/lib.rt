@@ -5,6 +5,7 @@ ghost use mathlib.Core.Path.{_≡_};
 ghost use Prim.Native.Nat.{ℕ, _≤_, _<_};
 ghost use lib.ListN.{length, getD};
 ghost use lib.Ieee.{Float, nan};
+ghost use Rattle.limits.specs.Table.{mostEntries};
 ghost use Rattle.limits.specs.Numbers.{miss};
 ghost use Rattle.limits.specs.Neighbours.{everyTwo, notFalling};
 ghost use Rattle.order.specs.Order.{laid};
@@ -240,7 +241,7 @@ pub fn get_displayed_beat_checked(
 
 // The searches come first, all of them, and what they find waits in the column of numbers: what is made of it then is at hand when a test depends on it.
 fn count_each(scroll_beats: &[f32], beats: &[f64], numbers: &mut [u32])
-    requires { ⌜ (length (now «scroll_beats») ≤ 1024) × (length (now beats) ≤ length (now numbers)) ⌝ }
+    requires { ⌜ (length (now «scroll_beats») ≤ mostEntries) × (length (now beats) ≤ length (now numbers)) ⌝ }
     ensures { λ _. ⌜ now (numbers .exit) ≡ laidEach (λ (beat : Float). foundUpTo beat (now («scroll_beats» .entry))) (now (beats .entry)) (now (numbers .entry)) ⌝ }
 {
     let mut i = 0;
