@@ -1,16 +1,12 @@
 -- Where there are no scrolls, and before the first, a beat is drawn at itself; and so it is behind one scroll of ratio 1 at beat 0. Assumes nothing.
-use Prim.Native.Nat.{ℕ, _+_, _-_, _*_, _<_}
-use mathlib.Core.Path.{_≡_, refl, sym, ap, _∙_, subst}
+use mathlib.Core.Path.{_≡_, refl, sym, subst}
 use mathlib.Core.Bool.{Bool, true, false}
 use mathlib.Core.List.{List, [], _∷_}
-use native.Mathlib.Omega.{arith}
 use lib.Dec.{T}
-use lib.IntN.{ℤ}
-use lib.Ieee.{Float, fin, binary64, fits, lt, le, add, sub, mul, neg, sum, round}
+use lib.Ieee.{Float, lt, le}
 use lib.Ieee.Scale.{finite}
-use Rattle.ieee.specs.Constants.{plusZero}
 use Rattle.ieee.proofs.FloatOrder.{lt-not-le}
-use Rattle.notes_displayed.specs.Scrolls.{ratioBefore, reaches, upToBeat, behindScrolls, displayedBeat}
+use Rattle.notes_displayed.specs.Scrolls.{reaches, upToBeat, behindScrolls, displayedBeat}
 
 pub no-scrolls : (ratios : List Float) (at : Float) → displayedBeat [] ratios at ≡ at
 unfolding displayedBeat upToBeat behindScrolls

@@ -1,12 +1,11 @@
 -- A refusal leaves the rooms as they were, and a call that is taken lays all of its result over their fronts. Assumes nothing.
 use Prim.Native.Nat.{ℕ, _≤_, _<_, min}
-use mathlib.Core.Path.{_≡_, refl, sym, ap, _∙_}
+use mathlib.Core.Path.{_≡_, refl, ap, _∙_}
 use mathlib.Core.List.{List, [], _∷_}
 use native.Mathlib.Omega.{arith}
 use lib.ListN.{length}
 use lib.Ieee.{Float}
 use Rattle.order.specs.Order.{laid}
-use Rattle.columns.specs.declared.Outcome.{Outcome}
 use Rattle.columns.specs.Each.{laidEach}
 use Rattle.columns.specs.Laying.{roomNumber, refusedBy, given}
 use Rattle.columns.proofs.Rooms.{nothing-given, number-of-tests, number-no-room, number-taken}

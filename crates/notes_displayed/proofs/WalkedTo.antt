@@ -1,6 +1,6 @@
 -- A walk that passes the scrolls up to a beat, one after the other, comes to where the beat is drawn. Assumes nothing.
 use Prim.Native.Nat.{ℕ, zero, suc, _+_, _-_, _≤_, _<_}
-use mathlib.Core.Path.{_≡_, refl, sym, ap, _∙_}
+use mathlib.Core.Path.{_≡_, refl, sym, _∙_}
 use mathlib.Core.Bool.{Bool, true, false}
 use mathlib.Core.List.{List, [], _∷_}
 use native.Mathlib.Numerals.{add-one}
@@ -9,7 +9,7 @@ use lib.Dec.{eqb}
 use lib.ListN.{length, drop, getD, drop-of-length-le}
 use lib.Seq.{drop-cons}
 use lib.Ieee.{Float, nan}
-use borrow.Author.Tests.{eq-eqb, ne-eqb}
+use borrow.Author.Tests.{ne-eqb}
 use Rattle.ieee.specs.Constants.{plusZero}
 use Rattle.picks.specs.Pick.{pick}
 use Rattle.notes_displayed.specs.Scrolls.{scrolledOn, prefixFrom, ratioBefore, scrollPrefix, reaches, upToBeat, displayedFrom, behindScrolls, displayedBeat}
@@ -45,11 +45,7 @@ module _ (at : Float) where
       go true rest = rest ∙ further (upToBeat at beats) shown from ratio (scrolledOn shown from ratio b) b r beats ratios (prefixFrom (scrolledOn shown from ratio b) b r beats ratios)
       go false rest = refl
 
-  -- no scroll is passed
-  pub stands-empty : upToBeat at [] ≡ 0
-  unfolding upToBeat
-  stands-empty = refl
-
+  -- where no scroll is passed, the beat is drawn from where the walk stands
   none-passed : (shown from ratio : Float) (beats ratios : List Float) → upToBeat at beats ≡ 0 → walked shown from ratio beats ratios at ≡ displayedFrom shown from ratio at
   unfolding walked upToBeat
   none-passed shown from ratio [] ratios h = refl

@@ -5,6 +5,7 @@ ghost use mathlib.Core.Path.{_≡_};
 ghost use Prim.Native.Nat.{ℕ, _≤_, _<_};
 ghost use lib.ListN.{length, getD};
 ghost use lib.Ieee.{Float, nan};
+ghost use Rattle.limits.specs.Table.{mostEntries};
 ghost use Rattle.limits.specs.Numbers.{miss};
 ghost use Rattle.limits.specs.Neighbours.{everyTwo, notFalling};
 ghost use Rattle.order.specs.Order.{laid};
@@ -205,6 +206,52 @@ fn draw_behind(
     )
 }
 
+// How many scrolls a search finds at or before a beat.
+fn count_up_to(scroll_beats: &[f32], beat: f64) -> usize
+    ensures { λ r. ⌜ r ≡ foundUpTo beat (now («scroll_beats» .entry)) ⌝ }
+{
+    order_search::place_of(scroll_beats, order_search::f32_up_to(beat))
+}
+
+// The same position from scrolls that were tested once, by the prefix that `build_scroll_prefix` wrote, in a time that grows with the logarithm of their count
+// (`displayed-checked-is-tested`). Takes any lists and any prefix, and refuses only a beat beyond the limit, with 3.
+pub fn get_displayed_beat_checked(
+    scroll_beats: &[f32],
+    scroll_ratios: &[f32],
+    prefix: &[f64],
+    beat: f64,
+) -> Displayed
+    ensures { λ r. ⌜ r ≡ checkedAt (now («scroll_beats» .entry)) (now («scroll_ratios» .entry)) (now (prefix .entry)) beat ⌝ }
+{
+    let number = clock_tests::beat_number(beat);
+    if number == limits::TAKEN {
+        let count = count_up_to(scroll_beats, beat);
+        return Displayed {
+            number: limits::TAKEN,
+            beat: draw_behind(scroll_beats, scroll_ratios, prefix, count, beat),
+        };
+    }
+    Displayed {
+        number: number,
+        beat: 0.0,
+    }
+}
+
+// ---- many beats
+
+// The searches come first, all of them, and what they find waits in the column of numbers: what is made of it then is at hand when a test depends on it.
+fn count_each(scroll_beats: &[f32], beats: &[f64], numbers: &mut [u32])
+    requires { ⌜ (length (now «scroll_beats») ≤ mostEntries) × (length (now beats) ≤ length (now numbers)) ⌝ }
+    ensures { λ _. ⌜ now (numbers .exit) ≡ laidEach (λ (beat : Float). foundUpTo beat (now («scroll_beats» .entry))) (now (beats .entry)) (now (numbers .entry)) ⌝ }
+{
+    let mut i = 0;
+    while i < beats.len() {
+        numbers[i] = count_up_to(scroll_beats, beats[i]) as u32;
+        i += 1;
+    }
+}
+
+// Tests the beat, and draws it behind as many scrolls as were found.
 fn answer_behind(
     scroll_beats: &[f32],
     scroll_ratios: &[f32],
@@ -224,41 +271,6 @@ fn answer_behind(
     Displayed {
         number: number,
         beat: 0.0,
-    }
-}
-
-// How many scrolls a search finds at or before a beat.
-fn count_up_to(scroll_beats: &[f32], beat: f64) -> usize
-    ensures { λ r. ⌜ r ≡ foundUpTo beat (now («scroll_beats» .entry)) ⌝ }
-{
-    order_search::place_of(scroll_beats, order_search::f32_up_to(beat))
-}
-
-// The same position from scrolls that were tested once, by the prefix that `build_scroll_prefix` wrote, in a time that grows with the logarithm of their count
-// (`displayed-checked-is-tested`). Takes any lists and any prefix, and refuses only a beat beyond the limit, with 3.
-pub fn get_displayed_beat_checked(
-    scroll_beats: &[f32],
-    scroll_ratios: &[f32],
-    prefix: &[f64],
-    beat: f64,
-) -> Displayed
-    ensures { λ r. ⌜ r ≡ checkedAt (now («scroll_beats» .entry)) (now («scroll_ratios» .entry)) (now (prefix .entry)) beat ⌝ }
-{
-    let count = count_up_to(scroll_beats, beat);
-    answer_behind(scroll_beats, scroll_ratios, prefix, count, beat)
-}
-
-// ---- many beats
-
-// The searches come first, all of them, and what they find waits in the column of numbers: what is made of it then is at hand when a test depends on it.
-fn count_each(scroll_beats: &[f32], beats: &[f64], numbers: &mut [u32])
-    requires { ⌜ (length (now «scroll_beats») ≤ 1024) × (length (now beats) ≤ length (now numbers)) ⌝ }
-    ensures { λ _. ⌜ now (numbers .exit) ≡ laidEach (λ (beat : Float). foundUpTo beat (now («scroll_beats» .entry))) (now (beats .entry)) (now (numbers .entry)) ⌝ }
-{
-    let mut i = 0;
-    while i < beats.len() {
-        numbers[i] = count_up_to(scroll_beats, beats[i]) as u32;
-        i += 1;
     }
 }
 

@@ -1,5 +1,5 @@
 -- `notes_displayed::get_displayed_beat` refuses, or walks to the beat. Assumes nothing.
-use mathlib.Core.Path.{_≡_, sym, _∙_}
+use mathlib.Core.Path.{sym, _∙_}
 use lib.Ieee.{ofBits}
 use borrow.Author.Tests.{ne-eqb}
 use Rattle.limits.proofs.NoRefusal.{lower-none}

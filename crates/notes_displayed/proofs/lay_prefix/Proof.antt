@@ -5,7 +5,7 @@ use lib.ListN.{length, drop, drop-of-length-le}
 use lib.Ieee.{ofBits}
 use Rattle.order.proofs.LaidOverFront.{Laying, laying-none, laying-more, laying-all}
 use Rattle.notes_displayed.specs.Scrolls.{prefixFrom, scrollPrefix}
-use Rattle.notes_displayed.proofs.OneStepOn.{prefix-length, prefix-next}
+use Rattle.notes_displayed.proofs.OneStepOn.{prefix-next}
 use borrow.Author.Needs.{needs}
 use Rattle.notes_displayed.proofs.lay_prefix.Statement.{statement}
 use Rattle.notes_displayed.proofs.lay_prefix.Tie as tie
