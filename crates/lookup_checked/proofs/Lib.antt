@@ -1,4 +1,4 @@
-pub mod WhereHalvesEnd
-pub mod LastCounted
 pub mod AnswersAtRow
-pub mod CheckedIsTested
+pub mod OffRow
+pub mod OnRow
+pub mod LastCounted
