@@ -1,3 +1,12 @@
+-- `lookup_checked::is_warp_at_row_checked` answers by the row's beat, or refuses the row. Assumes nothing.
+use mathlib.Core.Path.{sym, _∙_}
+use mathlib.Core.Bool.{false}
+use mir.Syntax.{w32}
+use mir.Val.{toZ, ofZ}
+use mir.ValLaws.{toZ-ofZ}
+use Rattle.limits.specs.Numbers.{rowIn}
+use Rattle.lookup_checked.specs.Checked.{warpedBy}
+use Rattle.lookup_checked.proofs.AnswersAtRow.{taken-row, refused-row, near, found-in, still-taken}
 use borrow.Author.Needs.{needs}
 use Rattle.lookup_checked.proofs.is_warp_at_row_checked.Statement.{statement}
 use Rattle.lookup_checked.proofs.is_warp_at_row_checked.Tie as tie
@@ -6,31 +15,85 @@ row-taken-requires : tie.Need-row-taken-requires
 row-taken-requires c κs = search needs
 
 beat-of-row-requires : tie.Need-beat-of-row-requires
-beat-of-row-requires c κs = ?
+beat-of-row-requires c κs =
+    let start = c .before .before .before .before .before .before .before .before in
+    let row = start .args .row in
+    let back = toZ-ofZ w32 row (start .fits .row) in
+    near row (toZ w32 (ofZ w32 row)) back (sym (rw back at (c .before .row-taken .ensures)) ∙ c .if1 .taken)
 
 place-of-requires : tie.Need-place-of-requires
 place-of-requires c κs = search needs
 
 in-warp-requires : tie.Need-in-warp-requires
-in-warp-requires c κs = ?
+in-warp-requires c κs =
+    let beat = c .before in
+    let allowed = beat .before in
+    let start = allowed .before .before .before .before .before .before .before .before in
+    let row = start .args .row in
+    let through = toZ w32 (ofZ w32 row) in
+    let back = toZ-ofZ w32 row (start .fits .row) in
+    let yes = sym (rw back at (allowed .before .row-taken .ensures)) ∙ allowed .if1 .taken in
+    let taken = yes in
+    found-in row through back taken (beat .beat-of-row .result) (start .args .warp-beats .now) (c .place-of .result) (c .place-of .ensures)
 
 is-unpaused-requires : tie.Need-is-unpaused-requires
-is-unpaused-requires c κs = ?
+is-unpaused-requires c κs =
+    let warp = c .before in
+    let beat = warp .before .before in
+    let allowed = beat .before in
+    let start = allowed .before .before .before .before .before .before .before .before in
+    let row = start .args .row in
+    let through = toZ w32 (ofZ w32 row) in
+    let back = toZ-ofZ w32 row (start .fits .row) in
+    let yes = sym (rw back at (allowed .before .row-taken .ensures)) ∙ allowed .if1 .taken in
+    let taken = yes in
+    still-taken row through back taken
 
 answered-requires : tie.Need-answered-requires
 answered-requires c κs = search needs
 
 returns : tie.Need-returns
-returns c = ?
+unfolding warpedBy
+returns c =
+    let pauses = c .before in
+    let inside = pauses .before in
+    let warp = inside .before in
+    let found = warp .before in
+    let beat = found .before in
+    let allowed = beat .before in
+    let start = allowed .before .before .before .before .before .before .before .before in
+    let row = start .args .row in
+    let through = toZ w32 (ofZ w32 row) in
+    let back = toZ-ofZ w32 row (start .fits .row) in
+    let yes = sym (rw back at (allowed .before .row-taken .ensures)) ∙ allowed .if1 .taken in
+    let taken = yes in
+    let covers = rw (found .place-of .ensures) at (warp .in-warp .ensures) in
+    c .answered .ensures ∙ taken-row (warpedBy (start .args .stop-beats .now) (start .args .stop-values .now) (start .args .delay-beats .now) (start .args .delay-values .now) (start .args .warp-beats .now) (start .args .warp-lengths .now)) row (rowIn row) through back yes (beat .beat-of-row .result) (beat .beat-of-row .ensures) (pauses .is-unpaused .result) (sym (rw (sym covers ∙ inside .if2 .taken, sym (pauses .is-unpaused .ensures))))
 
 answered-requires-2 : tie.Need-answered-requires-2
 answered-requires-2 c κs = search needs
 
 returns-2 : tie.Need-returns-2
-returns-2 c = ?
+unfolding warpedBy
+returns-2 c =
+    let outside = c .before in
+    let warp = outside .before in
+    let found = warp .before in
+    let beat = found .before in
+    let allowed = beat .before in
+    let start = allowed .before .before .before .before .before .before .before .before in
+    let row = start .args .row in
+    let through = toZ w32 (ofZ w32 row) in
+    let back = toZ-ofZ w32 row (start .fits .row) in
+    let yes = sym (rw back at (allowed .before .row-taken .ensures)) ∙ allowed .if1 .taken in
+    let taken = yes in
+    let covers = rw (found .place-of .ensures) at (warp .in-warp .ensures) in
+    c .answered2 .ensures ∙ taken-row (warpedBy (start .args .stop-beats .now) (start .args .stop-values .now) (start .args .delay-beats .now) (start .args .delay-values .now) (start .args .warp-beats .now) (start .args .warp-lengths .now)) row (rowIn row) through back yes (beat .beat-of-row .result) (beat .beat-of-row .ensures) false (sym (rw (sym covers ∙ outside .if2 .left)))
 
 returns-3 : tie.Need-returns-3
-returns-3 c = ?
+returns-3 c =
+    let start = c .before .before .before .before .before .before .before .before in
+    refused-row (warpedBy (start .args .stop-beats .now) (start .args .stop-values .now) (start .args .delay-beats .now) (start .args .delay-values .now) (start .args .warp-beats .now) (start .args .warp-lengths .now)) (start .args .row) (rowIn (start .args .row)) (sym (rw (toZ-ofZ w32 (start .args .row) (start .fits .row)) at (c .before .row-taken .ensures)) ∙ c .if1 .left)
 
 pub is-warp-at-row-checked-spec : {M : Type 1} → statement M
 is-warp-at-row-checked-spec =
