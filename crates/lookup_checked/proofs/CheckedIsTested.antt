@@ -14,14 +14,12 @@ use lib.ListN.{length, getD}
 use lib.Ieee.{Float, nan, binary32, le}
 use lib.Ieee.Bits.{is-true}
 use Rattle.picks.specs.Pick.{pick}
-use Rattle.ieee.specs.Narrowing.{narrow}
 use Rattle.ieee.proofs.FloatOrder.{lt-or-le, lt-le}
 use Rattle.rows.specs.Rows.{row, beatOf, allowedBeat}
 use Rattle.rows.proofs.RowsKeepOrder.{row-mono}
 use Rattle.rows.proofs.RowOfBeat.{row-of-beat}
 use Rattle.rows.proofs.RowWithin.{row-within, in-i32}
 use Rattle.rows.proofs.BeatsRise.{beat-allowed}
-use Rattle.rows.proofs.Quantizing.{narrow-allowed}
 use Rattle.limits.specs.declared.Range.{Range}
 use Rattle.limits.specs.declared.Kind.the-variants.{Beat, Pause, Value}
 use Rattle.limits.specs.Numbers.{rangeOf, inRange, rowIn, mostRow}

@@ -1,7 +1,7 @@
 -- A beat that is at or past the beat of the next row, or at or before that of the row before, is on another row. Assumes nothing.
-use Prim.Native.Nat.{ℕ, zero, suc, _-_, _^_, _≤_, _<_}
-use mathlib.Core.Path.{_≡_, refl, sym, ap, _∙_, subst}
-use mathlib.Core.Bool.{Bool, true, false}
+use Prim.Native.Nat.{ℕ, zero, suc, _-_, _^_, _≤_}
+use mathlib.Core.Path.{_≡_, refl, ap, _∙_, subst}
+use mathlib.Core.Bool.{true, false}
 use mathlib.Core.Logic.{_⊎_, inl, inr}
 use native.Mathlib.Omega.{arith}
 use native.Mathlib.Numerals.{add-one}
@@ -13,7 +13,6 @@ use lib.Dec.{T, leb, le→leb, lt→ltb, leb→le}
 use lib.IntN.{ℤ, pos, negsuc, natAbs, _+ℤ_, _-ℤ_}
 use lib.Signed.{leZ}
 use lib.Ieee.{Float, fin, binary32, le, lt, eq, div, ofInt, round, size, inFloat}
-use lib.Ieee.Bits.{is-true}
 use lib.Ieee.Fits.{and-i, and-l, and-r}
 use Rattle.ieee.specs.Magnitude.{withinPower}
 use Rattle.rows.specs.Rows.{row, beatOf, allowedBeat}
@@ -24,7 +23,7 @@ use Rattle.rows.proofs.BeatsRise.{beat-allowed}
 use Rattle.limits.specs.Numbers.{rowIn, mostRow}
 use Rattle.rows.specs.RowKey.{rowKey}
 use Rattle.order.proofs.Compare.{below?}
-use Rattle.rows.proofs.RowKeys.{rows-at-most, row-keys-differ}
+use Rattle.rows.proofs.RowKeys.{row-keys-differ}
 use Rattle.order_search.proofs.FloatsInOrder.{float-le-trans}
 use Rattle.lookup.specs.Lookups.{keyOf}
 

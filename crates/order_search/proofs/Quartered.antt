@@ -2,15 +2,10 @@
 use Prim.Native.Nat.{ℕ, zero, suc, _+_, _-_, _*_, _/_, _≤_, _<_}
 use mathlib.Core.Path.{_≡_, refl, sym, _∙_}
 use mathlib.Core.Bool.{Bool}
-use mathlib.Core.List.{List}
-use mathlib.Core.Logic.{inl, inr}
 use native.Mathlib.Omega.{arith}
 use native.Mathlib.Nat.{mul-le-mul-left}
 use borrow.Author.Tests.{lt-ltb, le-ltb}
-use lib.ListN.{length, getD}
-use lib.Ieee.{Float, nan, le}
-use Rattle.order.proofs.Compare.{below?}
-use Rattle.order_search.specs.Search.{howMany, quartered, placeOf}
+use Rattle.order_search.specs.Search.{howMany, quartered}
 use Rattle.order_search.proofs.HowMany.{how-many-most}
 
 module _ (passes : ℕ → Bool) where

@@ -1,8 +1,4 @@
 -- `lookup_checked::beat_of_row` divides a row that an f32 has with nothing lost. Assumes nothing.
-use mathlib.Core.Path.{ap}
-use lib.IntN.{ℤ}
-use lib.Dec.{T}
-use lib.Ieee.{binary32, inFloat}
 use mir.Syntax.{w32}
 use mir.ValLaws.{toZ-ofZ}
 use Rattle.lookup_checked.proofs.OffRow.{in-f32}

@@ -1,11 +1,10 @@
 -- `lookup_checked::is_past_row` goes by the beat of the row beside. Assumes nothing.
-use mathlib.Core.Path.{_≡_, refl, sym, ap, _∙_, subst}
+use mathlib.Core.Path.{sym, ap, _∙_, subst}
 use lib.Dec.{T}
-use lib.Ieee.{binary32, le, ofBits, neg}
+use lib.Ieee.{binary32, ofBits, neg}
 use Rattle.rows.specs.Rows.{beatOf}
 use Rattle.lookup_tests.proofs.RowsRise.{never}
 use Rattle.lookup_checked.proofs.OffRow.{row-allowed, next-fits, next-is, next-near, past-row}
-use borrow.Author.Needs.{needs}
 use Rattle.lookup_checked.proofs.is_past_row.Statement.{statement}
 use Rattle.lookup_checked.proofs.is_past_row.Tie as tie
 

@@ -1,6 +1,5 @@
 -- `lookup_checked::is_paused` tests the entry on the row, at the place that is found or before it. Assumes nothing.
 use mathlib.Core.Path.{_∙_, sym}
-use native.Mathlib.Omega.{arith}
 use mir.Syntax.{w32}
 use mir.ValLaws.{toZ-ofZ}
 use lib.Ieee.{ofBits}

@@ -1,9 +1,8 @@
 -- `lookup_checked::is_unpaused` asks for stops and for delays. Assumes nothing.
-use mathlib.Core.Path.{sym, ap, _∙_}
+use mathlib.Core.Path.{sym, _∙_}
 use native.Mathlib.Omega.{arith}
 use mir.Syntax.{w32}
 use mir.ValLaws.{toZ-ofZ}
-use Rattle.rows.specs.RowKey.{rowKey}
 use Rattle.order_search.proofs.PlaceSplits.{place-within}
 use Rattle.lookup_checked.specs.Checked.{unpausedBy}
 use borrow.Author.Needs.{needs}
