@@ -20,6 +20,7 @@ use Rattle.rows.proofs.RowsKeepOrder.{row-mono}
 use Rattle.rows.proofs.RowOfBeat.{row-of-beat}
 use Rattle.rows.proofs.RowWithin.{row-within, in-i32}
 use Rattle.rows.proofs.BeatsRise.{beat-allowed}
+use Rattle.rows.proofs.Allowed.{within-allowed, allowed-within}
 use Rattle.limits.specs.Numbers.{rowIn, mostRow}
 use Rattle.rows.specs.RowKey.{rowKey}
 use Rattle.order.proofs.Compare.{below?}
@@ -93,15 +94,15 @@ lowest = fin true 1 (pos 16)
 
 allowed-between : (x : Float) → T (le lowest x) → T (le x most) → T (allowedBeat x)
 unfolding withinPower
-allowed-between x l m = and-i (le lowest x) (le x most) l m
+allowed-between x l m = within-allowed x (and-i (le lowest x) (le x most) l m)
 
 from-lowest : (x : Float) → T (allowedBeat x) → T (le lowest x)
 unfolding withinPower
-from-lowest x h = and-l (le lowest x) (le x most) h
+from-lowest x h = and-l (le lowest x) (le x most) (allowed-within x h)
 
 to-most : (x : Float) → T (allowedBeat x) → T (le x most)
 unfolding withinPower
-to-most x h = and-r (le lowest x) (le x most) h
+to-most x h = and-r (le lowest x) (le x most) (allowed-within x h)
 
 past-most : T (le (beatOf binary32 (pos 3145729)) most) → ⊥
 unfolding le lt eq div ofInt round size
