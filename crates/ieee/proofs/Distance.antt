@@ -18,7 +18,7 @@ use Rattle.ieee.proofs.Closest.{lt-or-ge}
 abbrev pub apart : Bool → ℕ → Bool → ℕ → ℕ
 apart s a t b = cond (Bool·beq s t) (gap b a) (a + b)
 
-abs-sub : (a b : ℕ) → natAbs (subℕ a b) ≡ gap b a
+pub abs-sub : (a b : ℕ) → natAbs (subℕ a b) ≡ gap b a
 abs-sub a b = go (ltb a b) (ltb→lt a b) (nltb→le a b)
   where
     go : (t : Bool) → (T t → a < b) → (T (not t) → b ≤ a) → natAbs (cond t (negsuc (b - suc a)) (pos (a - b))) ≡ gap b a

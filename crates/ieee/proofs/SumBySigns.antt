@@ -1,6 +1,6 @@
 -- A sum of two fractions ±a / c and ±b / c, over the format: it is the exact sum, rounded once; so it keeps the order of exact sums; its sign and its size; and what it is where nothing is left. Assumes nothing.
-use mathlib.Core.Path.{_≡_, refl, sym, ap, _∙_, subst, subst₂}
-use mathlib.Core.Logic.{_⊎_, inl, inr}
+use mathlib.Core.Path.{_≡_, refl, sym, ap, _∙_, subst₂}
+use mathlib.Core.Logic.{inl, inr}
 use Prim.Native.Nat.{ℕ, zero, suc, _+_, _-_, _*_, _≤_, _<_, zero-le}
 use native.Mathlib.Omega.{arith}
 use mathlib.Core.Bool.{Bool, true, false, not, _&&_, Bool·beq, cond}
@@ -13,7 +13,7 @@ use Rattle.ieee.specs.Rounding.{signed}
 use Rattle.ieee.specs.Constants.{plusZero}
 use Rattle.ieee.specs.inside.SumSize.{sumSize}
 use Rattle.ieee.proofs.Closest.{lt-or-ge}
-use Rattle.ieee.proofs.Distance.{signed-mul}
+use Rattle.ieee.proofs.Distance.{abs-sub, signed-mul}
 use Rattle.ieee.proofs.SignedSizes.{natAbs-signed}
 use Rattle.ieee.proofs.KeepsOrder.{round-zero, round-keeps-order}
 
@@ -39,24 +39,11 @@ minus-both (suc a) zero = let e : suc a - 0 ≡ suc a + 0 = omega arith in diffe
 minus-both (suc a) (suc b) = let e : suc (suc (a + b)) ≡ suc a + suc b = omega arith in ap (signed true) e
 
 -- the size of a sum of whole numbers
-size-of-difference : (a b : ℕ) → natAbs (subℕ a b) ≡ sumSize false b a
-size-of-difference a b = elim (lt-or-ge b a) [
-  | inl l ↦ ap natAbs (difference a b (omega arith)) ∙ sym (rw (lt-ltb b a l) refl)
-  | inr l ↦ elim (lt-or-ge a b) [
-    | inl g ↦ ap natAbs (difference-below a b g) ∙ natAbs-signed true (b - a) ∙ sym (rw (le-ltb b a l) refl)
-    | inr g ↦ ap natAbs (difference a b g) ∙ sym (rw (le-ltb b a l) (omega arith))
-  ]
-]
-
 size-of-sum : (s t : Bool) (a b : ℕ) → natAbs (signed s a +ℤ signed t b) ≡ sumSize (Bool·beq s t) a b
 size-of-sum false false a b = refl
 size-of-sum true true a b = ap natAbs (minus-both a b) ∙ natAbs-signed true (a + b)
-size-of-sum true false a b = ap natAbs (minus-first a b) ∙ size-of-difference b a
-size-of-sum false true a b = ap natAbs (minus-second a b) ∙ size-of-difference a b ∙ turned (lt-or-ge a b)
-  where
-    turned : (a < b) ⊎ (b ≤ a) → sumSize false b a ≡ sumSize false a b
-    turned (inl l) = rw (lt-ltb a b l, le-ltb b a (omega arith)) refl
-    turned (inr l) = elim (lt-or-ge b a) [ inl g ↦ rw (le-ltb a b l, lt-ltb b a g) refl | inr g ↦ rw (le-ltb a b l, le-ltb b a g) (omega arith) ]
+size-of-sum true false a b = ap natAbs (minus-first a b) ∙ abs-sub b a
+size-of-sum false true a b = ap natAbs (minus-second a b) ∙ abs-sub a b ∙ omega arith
 
 module _ (f : Format) where
   -- ---- a sum is the exact sum, rounded: n with the sign v is the sum of the two tops
@@ -97,27 +84,21 @@ module _ (f : Format) where
   sum-signed true true a b c J = refl
   sum-signed false false a b c J = refl
   sum-signed true false a b c J = elim (lt-or-ge a b) [
-    | inl l ↦ rw (lt-ltb a b l) refl
-    | inr l ↦ let J' : 0 < a - b = subst (λ (i : Bool). 0 < cond i (b - a) (a - b)) (le-ltb a b l) J in rw (le-ltb a b l, lt-ltb b a (omega arith)) refl
+    | inl l ↦ rw (lt-ltb a b l) (ap (λ (n : ℕ). round f false n c) (omega arith))
+    | inr l ↦ rw (le-ltb a b l, lt-ltb b a (omega arith)) (ap (λ (n : ℕ). round f true n c) (omega arith))
   ]
   sum-signed false true a b c J = elim (lt-or-ge a b) [
-    | inl l ↦ rw (lt-ltb a b l) refl
-    | inr l ↦ rw (le-ltb a b l) refl
+    | inl l ↦ rw (lt-ltb a b l) (ap (λ (n : ℕ). round f true n c) (omega arith))
+    | inr l ↦ rw (le-ltb a b l) (ap (λ (n : ℕ). round f false n c) (omega arith))
   ]
 
   -- ---- a sum of which nothing is left: -0 where both are negative, and +0 otherwise
-  none-below : (a b : ℕ) → sumSize false a b ≡ 0 → (b ≤ a) × (a ≤ b)
-  none-below a b J = elim (lt-or-ge a b) [
-    | inl l ↦ let e : b - a ≡ 0 = subst (λ (i : Bool). cond i (b - a) (a - b) ≡ 0) (lt-ltb a b l) J in absurd (omega arith)
-    | inr l ↦ let e : a - b ≡ 0 = subst (λ (i : Bool). cond i (b - a) (a - b) ≡ 0) (le-ltb a b l) J in (l, omega arith)
-  ]
-
   pub sum-zero : (s t : Bool) (a b c : ℕ) → 0 < c → sumSize (Bool·beq s t) a b ≡ 0 → sum f s a t b c ≡ fin (s && t) 0 (pos 0)
   unfolding sum
   sum-zero true true a b c C J = round-zero f true (a + b) c C J
   sum-zero false false a b c C J = round-zero f false (a + b) c C J
-  sum-zero true false a b c C J = let h = none-below a b J in rw (le-ltb a b (h .0), le-ltb b a (h .1)) (round-zero f false (a - b) c C (omega arith))
-  sum-zero false true a b c C J = let h = none-below a b J in rw (le-ltb a b (h .0)) (round-zero f false (a - b) c C (omega arith))
+  sum-zero true false a b c C J = rw (le-ltb a b (omega arith), le-ltb b a (omega arith)) (round-zero f false (a - b) c C (omega arith))
+  sum-zero false true a b c C J = rw (le-ltb a b (omega arith)) (round-zero f false (a - b) c C (omega arith))
 
   pub exact-zero-sum : (s t : Bool) (a b c : ℕ) → 0 < c → signed s a +ℤ signed t b ≡ pos 0 → sum f s a t b c ≡ fin (s && t) 0 (pos 0)
   exact-zero-sum s t a b c C e = sum-zero s t a b c C (sym (size-of-sum s t a b) ∙ ap natAbs e)

@@ -32,7 +32,7 @@ use Rattle.order.proofs.Compare.{below?}
 use Rattle.rows.proofs.RowKeys.{rows-at-most}
 use Rattle.order_search.specs.Search.{placeOf, SplitBy}
 use Rattle.order_search.proofs.PlaceSplits.{place-splits}
-use Rattle.order_search.proofs.FloatsInOrder.{float-le-trans}
+use Rattle.ieee.proofs.FloatsInOrder.{float-le-trans}
 use Rattle.lookup_tests.proofs.RowsRise.{Rising, rises}
 use Rattle.lookup.specs.inside.Finding.{keyAt, Passed, Split}
 use Rattle.lookup.specs.Lookups.{keyOf, rowsRise, risingNumber, askedNumber, warpNumber, fakeNumber, judgableNumber, warpCovers, fakeCovers, ofLast, lastPasses, isPaused, isWarped, isFake, isJudgable, askedRow, looked}

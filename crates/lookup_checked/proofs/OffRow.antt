@@ -25,7 +25,7 @@ use Rattle.limits.specs.Numbers.{rowIn, mostRow}
 use Rattle.rows.specs.RowKey.{rowKey}
 use Rattle.order.proofs.Compare.{below?}
 use Rattle.rows.proofs.RowKeys.{row-keys-differ}
-use Rattle.order_search.proofs.FloatsInOrder.{float-le-trans}
+use Rattle.ieee.proofs.FloatsInOrder.{float-le-trans}
 use Rattle.lookup.specs.Lookups.{keyOf}
 
 -- a row that an f32 has with nothing lost

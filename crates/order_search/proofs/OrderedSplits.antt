@@ -8,7 +8,7 @@ use lib.ListN.{length, getD}
 use lib.Ieee.{Float, nan, le}
 use lib.Ieee.Bits.{is-true}
 use Rattle.order_search.specs.Search.{placeOf, SplitBy}
-use Rattle.order_search.proofs.FloatsInOrder.{float-le-trans}
+use Rattle.ieee.proofs.FloatsInOrder.{float-le-trans}
 use Rattle.order_search.proofs.PlaceSplits.{place-splits}
 
 module _ (at : Float) (column : List Float) (ordered : (i : ℕ) → i + 1 < length column → T (le (getD column i nan) (getD column (i + 1) nan))) where
