@@ -23,14 +23,18 @@ use Rattle.process.specs.ByFormat.{ThreeLists}
 use Rattle.assembly_rows.specs.AssembledRows.{changeBy, assembledRows, RowsUntested, rowsFit}
 use Rattle.assembly_rows.proofs.QuantizedTaken.{quantized-taken}
 use Rattle.assembly_rows.proofs.Untested.{untested-taken}
-use Rattle.assembly_scrolls.specs.AssembledScrolls.{scrollsRoomNumber, scrollsLater}
+use Rattle.assembly_scrolls.specs.AssembledScrolls.{assembledScrolls, scrollsRoomNumber, scrollsLater}
 use Rattle.assembly_scrolls.proofs.Untested as scrolls
-use Rattle.assembly_speeds.specs.AssembledSpeeds.{speedsRoomNumber, speedsLater}
+use Rattle.assembly_speeds.specs.AssembledSpeeds.{assembledSpeeds, speedsRoomNumber, speedsLater}
 use Rattle.assembly_speeds.proofs.Untested as speeds
 use Rattle.assembly_tempos.specs.declared.AssembledTempos.{AssembledTempos}
 use Rattle.assembly_tempos.specs.AssembledTempos.{verdict, fitNumber, threeRooms, ThreeLaid}
 use Rattle.assembly_tempos.proofs.RowsFit.{fit-number}
-use Rattle.assembly.specs.Assembly.{listTests, assembledDelays, assembledFakes, othersNumber, othersLater, SpeedsLaid}
+use Rattle.chart.specs.declared.TimingFormat.{TimingFormat}
+use Rattle.chart.specs.ChartColumns.{ListColumns, SpeedColumns, ChartColumns}
+use Rattle.assembly.specs.declared.Assembled.{Assembled}
+use Rattle.assembly.specs.inside.ProcessedPart.{processedPart}
+use Rattle.assembly.specs.Assembly.{listTests, assembledDelays, assembledFakes, othersNumber, othersLater, sevenNumber, processedChart, roomOf, ListWritten, SpeedsWritten, SpeedsLaid, Assembles}
 
 -- ---- four columns under one number
 
@@ -79,49 +83,49 @@ same-later {raw} {later} {later′} {most} {lists} {outcome} {tempoBeatsOld} {te
 
 -- ---- the other lists
 
-pub record OthersTaken (delayBeats delayValues speedBeats speedRatios speedDelays : List Float) (speedUnits : List ℕ) (scrollBeats scrollValues fakeBeats fakeLengths : List Float) : Type 0 where
-  pub delays : listTests delayBeats delayValues ≡ 0
-  pub speeds : speedListNumber speedBeats speedRatios speedDelays speedUnits ≡ 0
-  pub scrolls : listTests scrollBeats scrollValues ≡ 0
-  pub fakes : listTests fakeBeats fakeLengths ≡ 0
+pub record OthersTaken (delay : ListColumns) (speed : SpeedColumns) (scroll fake : ListColumns) : Type 0 where
+  pub delays : listTests (delay .beats) (delay .values) ≡ 0
+  pub speeds : speedListNumber (speed .beats) (speed .ratios) (speed .delays) (speed .units) ≡ 0
+  pub scrolls : listTests (scroll .beats) (scroll .values) ≡ 0
+  pub fakes : listTests (fake .beats) (fake .values) ≡ 0
 
-module _ (delayBeats delayValues speedBeats speedRatios speedDelays : List Float) (speedUnits : List ℕ) (scrollBeats scrollValues fakeBeats fakeLengths : List Float) where
-  pub others-taken : othersNumber delayBeats delayValues speedBeats speedRatios speedDelays speedUnits scrollBeats scrollValues fakeBeats fakeLengths ≡ 0 → OthersTaken delayBeats delayValues speedBeats speedRatios speedDelays speedUnits scrollBeats scrollValues fakeBeats fakeLengths
+module _ (delay : ListColumns) (speed : SpeedColumns) (scroll fake : ListColumns) where
+  pub others-taken : othersNumber delay speed scroll fake ≡ 0 → OthersTaken delay speed scroll fake
   others-taken h =
-      let d = listTests delayBeats delayValues in
-      let s = speedListNumber speedBeats speedRatios speedDelays speedUnits in
-      let c = listTests scrollBeats scrollValues in
-      let f = listTests fakeBeats fakeLengths in
+      let d = listTests (delay .beats) (delay .values) in
+      let s = speedListNumber (speed .beats) (speed .ratios) (speed .delays) (speed .units) in
+      let c = listTests (scroll .beats) (scroll .values) in
+      let f = listTests (fake .beats) (fake .values) in
       let one = lower-none (lower (lower d s) c) f h in
       let two = lower-none (lower d s) c (one .0) in
       let three = lower-none d s (two .0) in
       record { delays = three .0; speeds = three .1; scrolls = two .1; fakes = one .1 }
 
   module _ (delayRoom speedRoom scrollRoom fakeRoom : ℕ) where
-    pub later-is : othersNumber delayBeats delayValues speedBeats speedRatios speedDelays speedUnits scrollBeats scrollValues fakeBeats fakeLengths ≡ 0
-        → lower (lower (lower (pick (rowsFit false delayBeats delayValues delayRoom) 0 7) (speedsLater speedBeats speedRatios speedDelays speedUnits speedRoom)) (scrollsLater scrollBeats scrollValues scrollRoom)) (pick (rowsFit true fakeBeats fakeLengths fakeRoom) 0 7)
-        ≡ othersLater delayBeats delayValues speedBeats speedRatios speedDelays speedUnits scrollBeats scrollValues fakeBeats fakeLengths delayRoom speedRoom scrollRoom fakeRoom
+    pub later-is : othersNumber delay speed scroll fake ≡ 0
+        → lower (lower (lower (pick (rowsFit false (delay .beats) (delay .values) delayRoom) 0 7) (speedsLater (speed .beats) (speed .ratios) (speed .delays) (speed .units) speedRoom)) (scrollsLater (scroll .beats) (scroll .values) scrollRoom)) (pick (rowsFit true (fake .beats) (fake .values) fakeRoom) 0 7)
+        ≡ othersLater delay speed scroll fake delayRoom speedRoom scrollRoom fakeRoom
     later-is h =
         let taken = others-taken h in
         rw (
-          fit-number false delayBeats delayValues delayRoom (taken .delays),
-          fit-number true fakeBeats fakeLengths fakeRoom (taken .fakes),
-          speeds.later-taken speedBeats speedRatios speedDelays speedUnits (taken .speeds) speedRoom,
-          scrolls.later-taken scrollBeats scrollValues (taken .scrolls) scrollRoom,
+          fit-number false (delay .beats) (delay .values) delayRoom (taken .delays),
+          fit-number true (fake .beats) (fake .values) fakeRoom (taken .fakes),
+          speeds.later-taken (speed .beats) (speed .ratios) (speed .delays) (speed .units) (taken .speeds) speedRoom,
+          scrolls.later-taken (scroll .beats) (scroll .values) (taken .scrolls) scrollRoom,
         )
 
     pub record OthersFit : Type 0 where
-      pub delaysFit : fitNumber (assembledDelays delayBeats delayValues) delayRoom ≡ 0
-      pub speedsFit : speedsRoomNumber speedBeats speedRatios speedDelays speedUnits speedRoom ≡ 0
-      pub scrollsFit : scrollsRoomNumber scrollBeats scrollValues scrollRoom ≡ 0
-      pub fakesFit : fitNumber (assembledFakes fakeBeats fakeLengths) fakeRoom ≡ 0
+      pub delaysFit : fitNumber (assembledDelays (delay .beats) (delay .values)) delayRoom ≡ 0
+      pub speedsFit : speedsRoomNumber (speed .beats) (speed .ratios) (speed .delays) (speed .units) speedRoom ≡ 0
+      pub scrollsFit : scrollsRoomNumber (scroll .beats) (scroll .values) scrollRoom ≡ 0
+      pub fakesFit : fitNumber (assembledFakes (fake .beats) (fake .values)) fakeRoom ≡ 0
 
-    pub others-fit : othersLater delayBeats delayValues speedBeats speedRatios speedDelays speedUnits scrollBeats scrollValues fakeBeats fakeLengths delayRoom speedRoom scrollRoom fakeRoom ≡ 0 → OthersFit
+    pub others-fit : othersLater delay speed scroll fake delayRoom speedRoom scrollRoom fakeRoom ≡ 0 → OthersFit
     others-fit h =
-        let d = fitNumber (assembledDelays delayBeats delayValues) delayRoom in
-        let s = speedsRoomNumber speedBeats speedRatios speedDelays speedUnits speedRoom in
-        let c = scrollsRoomNumber scrollBeats scrollValues scrollRoom in
-        let f = fitNumber (assembledFakes fakeBeats fakeLengths) fakeRoom in
+        let d = fitNumber (assembledDelays (delay .beats) (delay .values)) delayRoom in
+        let s = speedsRoomNumber (speed .beats) (speed .ratios) (speed .delays) (speed .units) speedRoom in
+        let c = scrollsRoomNumber (scroll .beats) (scroll .values) scrollRoom in
+        let f = fitNumber (assembledFakes (fake .beats) (fake .values)) fakeRoom in
         let one = lower-none (lower (lower d s) c) f h in
         let two = lower-none (lower d s) c (one .0) in
         let three = lower-none d s (two .0) in
@@ -159,3 +163,26 @@ module _ {raw later most : ℕ} {lists : ThreeLists} {outcome : AssembledTempos}
       let rooms = threeRooms lists (roomFor tempoBeatsOld tempoValuesOld) (roomFor stopBeatsOld stopValuesOld) (roomFor warpBeatsOld warpLengthsOld) in
       let passed = none-refused raw (length (lists .warps)) most (lower later rooms) (sym (p .number) ∙ taken) in
       (passed .rawTaken, lower-none later rooms (passed .laterTaken) .0)
+
+-- ---- the call
+
+-- what tempos, stops and warps leave, and what each other list does
+pub assembles : {most : ℕ} {format : TimingFormat} {raw : ChartColumns} {outcome : Assembled} {old new : ChartColumns}
+    → ThreeLaid (sevenNumber raw) (othersLater (raw .delays) (raw .speeds) (raw .scrolls) (raw .fakes) (roomOf old .delays) (roomOf old .speeds) (roomOf old .scrolls) (roomOf old .fakes)) most (processedChart format raw) (processedPart outcome)
+    (old .tempos .beats) (new .tempos .beats) (old .tempos .values) (new .tempos .values) (old .stops .beats) (new .stops .beats) (old .stops .values) (new .stops .values) (old .warps .beats) (new .warps .beats) (old .warps .values) (new .warps .values)
+    → ListWritten (outcome .number) (assembledDelays (raw .delays .beats) (raw .delays .values)) (outcome .delays) (old .delays) (new .delays)
+    → SpeedsWritten (outcome .number) (assembledSpeeds (raw .speeds .beats) (raw .speeds .ratios) (raw .speeds .delays) (raw .speeds .units)) (outcome .speeds) (old .speeds) (new .speeds)
+    → ListWritten (outcome .number) (assembledScrolls (raw .scrolls .beats) (raw .scrolls .values)) (outcome .scrolls) (old .scrolls) (new .scrolls)
+    → ListWritten (outcome .number) (assembledFakes (raw .fakes .beats) (raw .fakes .values)) (outcome .fakes) (old .fakes) (new .fakes)
+    → Assembles most format raw outcome old new
+assembles three delays speeds scrolls fakes = record {
+  numberIs = three .number;
+  temposAre = three .temposLaid;
+  stopsAre = three .stopsLaid;
+  delaysAre = delays;
+  warpsAre = three .warpsLaid;
+  speedsAre = speeds;
+  scrollsAre = scrolls;
+  fakesAre = fakes;
+  offsetIs = three .offsetIs;
+}

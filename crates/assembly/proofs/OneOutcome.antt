@@ -1,14 +1,53 @@
--- What is said of the speeds of a call that has several lists leaves one outcome: their count and the four rooms. Assumes nothing.
+-- What is said of an assembled chart leaves one outcome: the number, the seven counts and the offset, and all rooms to their last place. Assumes nothing.
 use Prim.Native.Nat.{ℕ}
-use mathlib.Core.Path.{_≡_}
+use mathlib.Core.Path.{_≡_, sym, _∙_}
 use mathlib.Core.List.{List}
 use lib.Ieee.{Float}
+use Rattle.columns.proofs.OneOutcome.{one-list}
+use Rattle.chart.specs.declared.TimingFormat.{TimingFormat}
+use Rattle.chart.specs.ChartColumns.{ChartColumns}
 use Rattle.tidy_speeds_entries.specs.Speed.{SpeedEntry}
-use Rattle.assembly.specs.Assembly.{SpeedsLaid}
+use Rattle.assembly.specs.declared.Assembled.{Assembled}
+use Rattle.assembly.specs.Assembly.{SpeedsLaid, Assembles}
 
-pub one-outcome : {number : ℕ} {result : List SpeedEntry} {countA countB : ℕ}
+one-speeds : {number : ℕ} {result : List SpeedEntry} {countA countB : ℕ}
     {beatsOld beatsA beatsB ratiosOld ratiosA ratiosB delaysOld delaysA delaysB : List Float} {unitsOld unitsA unitsB : List ℕ}
     → SpeedsLaid number result countA beatsOld beatsA ratiosOld ratiosA delaysOld delaysA unitsOld unitsA
     → SpeedsLaid number result countB beatsOld beatsB ratiosOld ratiosB delaysOld delaysB unitsOld unitsB
     → (countA ≡ countB) × (beatsA ≡ beatsB) × (ratiosA ≡ ratiosB) × (delaysA ≡ delaysB) × (unitsA ≡ unitsB)
-one-outcome x y = (cc, cc, cc, cc, cc)
+one-speeds x y = (cc, cc, cc, cc, cc)
+
+pub one-outcome : {most : ℕ} {format : TimingFormat} {raw old newA newB : ChartColumns} {a b : Assembled}
+    → Assembles most format raw a old newA → Assembles most format raw b old newB
+    → (a ≡ b) × (newA ≡ newB)
+one-outcome {a = a} {b = b} x y =
+    let number : a .number ≡ b .number = x .numberIs ∙ sym (y .numberIs) in
+    let tempos = one-list (x .temposAre) (rw (sym number) at (y .temposAre)) in
+    let stops = one-list (x .stopsAre) (rw (sym number) at (y .stopsAre)) in
+    let delays = one-list (x .delaysAre) (rw (sym number) at (y .delaysAre)) in
+    let warps = one-list (x .warpsAre) (rw (sym number) at (y .warpsAre)) in
+    let speeds = one-speeds (x .speedsAre) (rw (sym number) at (y .speedsAre)) in
+    let scrolls = one-list (x .scrollsAre) (rw (sym number) at (y .scrollsAre)) in
+    let fakes = one-list (x .fakesAre) (rw (sym number) at (y .fakesAre)) in
+    let offset = x .offsetIs ∙ sym (rw (sym number) at (y .offsetIs)) in (
+      λ i. record {
+        number = number i;
+        tempos = tempos .0 i;
+        stops = stops .0 i;
+        delays = delays .0 i;
+        warps = warps .0 i;
+        speeds = speeds .0 i;
+        scrolls = scrolls .0 i;
+        fakes = fakes .0 i;
+        offset = offset i;
+      },
+      λ i. record {
+        tempos = record { beats = tempos .1 i; values = tempos .2 i };
+        stops = record { beats = stops .1 i; values = stops .2 i };
+        delays = record { beats = delays .1 i; values = delays .2 i };
+        warps = record { beats = warps .1 i; values = warps .2 i };
+        speeds = record { beats = speeds .1 i; ratios = speeds .2 i; delays = speeds .3 i; units = speeds .4 i };
+        scrolls = record { beats = scrolls .1 i; values = scrolls .2 i };
+        fakes = record { beats = fakes .1 i; values = fakes .2 i };
+      },
+    )

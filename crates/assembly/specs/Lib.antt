@@ -1,1 +1,2 @@
 pub mod Assembly
+pub mod inside

@@ -2,16 +2,8 @@
 use chart::TimingFormat;
 use limits::Kind;
 ghost use mathlib.Core.Path.{_≡_};
-ghost use lib.ListN.{length};
-ghost use Rattle.limits.specs.Refusals.{lower};
-ghost use Rattle.columns.specs.Laying.{LaidList};
-ghost use Rattle.process_raw.specs.RawLists.{roomFor};
-ghost use Rattle.tidy_speeds_entries.specs.LaidSpeeds.{leastOf};
-ghost use Rattle.assembly_scrolls.specs.AssembledScrolls.{assembledScrolls};
-ghost use Rattle.assembly_speeds.specs.AssembledSpeeds.{assembledSpeeds};
-ghost use Rattle.assembly_warps.specs.MergedWarps.{threeNumber, mergedLists};
-ghost use Rattle.assembly_tempos.specs.AssembledTempos.{ThreeLaid};
-ghost use Rattle.assembly.specs.Assembly.{assembledDelays, assembledFakes, othersNumber, othersLater, processedPart, SpeedsLaid};
+ghost use Rattle.chart.specs.ChartColumns.{listColumns, speedColumns, lentColumns, lentSpeeds, LentChart, before, after};
+ghost use Rattle.assembly.specs.Assembly.{othersNumber, othersLater, Assembles};
 
 // The refusal number, 0 where all lists are taken, how many entries of each list were written, and the seconds that beat 0 is moved by.
 #[repr(C)]
@@ -42,7 +34,12 @@ fn others_number(
     fake_beats: &[f64],
     fake_lengths: &[f64],
 ) -> u32
-    ensures { λ r. ⌜ r ≡ othersNumber (now («delay_beats» .entry)) (now («delay_values» .entry)) (now («speed_beats» .entry)) (now («speed_ratios» .entry)) (now («speed_delays» .entry)) (now («speed_units» .entry)) (now («scroll_beats» .entry)) (now («scroll_values» .entry)) (now («fake_beats» .entry)) (now («fake_lengths» .entry)) ⌝ }
+    ensures { λ r.
+        let delays = listColumns «delay_beats».entry.now «delay_values».entry.now in
+        let speeds = speedColumns «speed_beats».entry.now «speed_ratios».entry.now «speed_delays».entry.now «speed_units».entry.now in
+        let scrolls = listColumns «scroll_beats».entry.now «scroll_values».entry.now in
+        let fakes = listColumns «fake_beats».entry.now «fake_lengths».entry.now in
+        ⌜ r ≡ othersNumber delays speeds scrolls fakes ⌝ }
 {
     let delays = limits::list_number(Kind::Beat, Kind::Value, delay_beats, delay_values);
     let speeds = tidy_speeds::speed_list_number(
@@ -76,7 +73,13 @@ fn others_later(
     scroll_room: usize,
     fake_room: usize,
 ) -> u32
-    ensures { λ r. ⌜ (othersNumber (now («delay_beats» .entry)) (now («delay_values» .entry)) (now («speed_beats» .entry)) (now («speed_ratios» .entry)) (now («speed_delays» .entry)) (now («speed_units» .entry)) (now («scroll_beats» .entry)) (now («scroll_values» .entry)) (now («fake_beats» .entry)) (now («fake_lengths» .entry)) ≡ 0 → r ≡ othersLater (now («delay_beats» .entry)) (now («delay_values» .entry)) (now («speed_beats» .entry)) (now («speed_ratios» .entry)) (now («speed_delays» .entry)) (now («speed_units» .entry)) (now («scroll_beats» .entry)) (now («scroll_values» .entry)) (now («fake_beats» .entry)) (now («fake_lengths» .entry)) «delay_room» «speed_room» «scroll_room» «fake_room») ⌝ }
+    ensures { λ r.
+        let delays = listColumns «delay_beats».entry.now «delay_values».entry.now in
+        let speeds = speedColumns «speed_beats».entry.now «speed_ratios».entry.now «speed_delays».entry.now «speed_units».entry.now in
+        let scrolls = listColumns «scroll_beats».entry.now «scroll_values».entry.now in
+        let fakes = listColumns «fake_beats».entry.now «fake_lengths».entry.now in
+        ⌜ (othersNumber delays speeds scrolls fakes ≡ 0
+        → r ≡ othersLater delays speeds scrolls fakes «delay_room» «speed_room» «scroll_room» «fake_room») ⌝ }
 {
     let delays = limits::no_room(assembly_rows::rows_fit(
         delay_beats,
@@ -140,11 +143,26 @@ pub fn compute_timing_segments(
     out_fake_beats: &mut [f32],
     out_fake_lengths: &mut [f32],
 ) -> Assembled
-    ensures { λ r. ⌜ ThreeLaid (lower (threeNumber (now («tempo_beats» .entry)) (now («tempo_values» .entry)) (now («stop_beats» .entry)) (now («stop_values» .entry)) (now («warp_beats» .entry)) (now («warp_lengths» .entry))) (othersNumber (now («delay_beats» .entry)) (now («delay_values» .entry)) (now («speed_beats» .entry)) (now («speed_ratios» .entry)) (now («speed_delays» .entry)) (now («speed_units» .entry)) (now («scroll_beats» .entry)) (now («scroll_values» .entry)) (now («fake_beats» .entry)) (now («fake_lengths» .entry)))) (othersLater (now («delay_beats» .entry)) (now («delay_values» .entry)) (now («speed_beats» .entry)) (now («speed_ratios» .entry)) (now («speed_delays» .entry)) (now («speed_units» .entry)) (now («scroll_beats» .entry)) (now («scroll_values» .entry)) (now («fake_beats» .entry)) (now («fake_lengths» .entry)) (roomFor (now («out_delay_beats» .entry)) (now («out_delay_values» .entry))) (leastOf (length (now («out_speed_beats» .entry))) (length (now («out_speed_ratios» .entry))) (length (now («out_speed_delays» .entry))) (length (now («out_speed_units» .entry)))) (roomFor (now («out_scroll_beats» .entry)) (now («out_scroll_values» .entry))) (roomFor (now («out_fake_beats» .entry)) (now («out_fake_lengths» .entry)))) «most_warps» (mergedLists format (now («tempo_beats» .entry)) (now («tempo_values» .entry)) (now («stop_beats» .entry)) (now («stop_values» .entry)) (now («warp_beats» .entry)) (now («warp_lengths» .entry))) (processedPart r) (now («out_tempo_beats» .entry)) (now («out_tempo_beats» .exit)) (now («out_tempo_values» .entry)) (now («out_tempo_values» .exit)) (now («out_stop_beats» .entry)) (now («out_stop_beats» .exit)) (now («out_stop_values» .entry)) (now («out_stop_values» .exit)) (now («out_warp_beats» .entry)) (now («out_warp_beats» .exit)) (now («out_warp_lengths» .entry)) (now («out_warp_lengths» .exit)) ⌝ }
-    ensures { λ r. ⌜ LaidList (r .number) (assembledDelays (now («delay_beats» .entry)) (now («delay_values» .entry))) (r .delays) (now («out_delay_beats» .entry)) (now («out_delay_beats» .exit)) (now («out_delay_values» .entry)) (now («out_delay_values» .exit)) ⌝ }
-    ensures { λ r. ⌜ SpeedsLaid (r .number) (assembledSpeeds (now («speed_beats» .entry)) (now («speed_ratios» .entry)) (now («speed_delays» .entry)) (now («speed_units» .entry))) (r .speeds) (now («out_speed_beats» .entry)) (now («out_speed_beats» .exit)) (now («out_speed_ratios» .entry)) (now («out_speed_ratios» .exit)) (now («out_speed_delays» .entry)) (now («out_speed_delays» .exit)) (now («out_speed_units» .entry)) (now («out_speed_units» .exit)) ⌝ }
-    ensures { λ r. ⌜ LaidList (r .number) (assembledScrolls (now («scroll_beats» .entry)) (now («scroll_values» .entry))) (r .scrolls) (now («out_scroll_beats» .entry)) (now («out_scroll_beats» .exit)) (now («out_scroll_values» .entry)) (now («out_scroll_values» .exit)) ⌝ }
-    ensures { λ r. ⌜ LaidList (r .number) (assembledFakes (now («fake_beats» .entry)) (now («fake_lengths» .entry))) (r .fakes) (now («out_fake_beats» .entry)) (now («out_fake_beats» .exit)) (now («out_fake_lengths» .entry)) (now («out_fake_lengths» .exit)) ⌝ }
+    ensures { λ r.
+        let raw : LentChart = record {
+          tempos = lentColumns «tempo_beats» «tempo_values»;
+          stops = lentColumns «stop_beats» «stop_values»;
+          delays = lentColumns «delay_beats» «delay_values»;
+          warps = lentColumns «warp_beats» «warp_lengths»;
+          speeds = lentSpeeds «speed_beats» «speed_ratios» «speed_delays» «speed_units»;
+          scrolls = lentColumns «scroll_beats» «scroll_values»;
+          fakes = lentColumns «fake_beats» «fake_lengths»;
+        } in
+        let rooms : LentChart = record {
+          tempos = lentColumns «out_tempo_beats» «out_tempo_values»;
+          stops = lentColumns «out_stop_beats» «out_stop_values»;
+          delays = lentColumns «out_delay_beats» «out_delay_values»;
+          warps = lentColumns «out_warp_beats» «out_warp_lengths»;
+          speeds = lentSpeeds «out_speed_beats» «out_speed_ratios» «out_speed_delays» «out_speed_units»;
+          scrolls = lentColumns «out_scroll_beats» «out_scroll_values»;
+          fakes = lentColumns «out_fake_beats» «out_fake_lengths»;
+        } in
+        ⌜ Assembles «most_warps» format (before raw) r (before rooms) (after rooms) ⌝ }
 {
     let other = others_number(
         delay_beats,

@@ -1,1 +1,2 @@
+pub mod ChartColumns
 pub mod Timing

@@ -1,4 +1,4 @@
-// The words that all layers speak: the format of a chart, and how far a walk through a timing has come. A timing's columns stand in specs/.
+// The words that all layers speak: the format of a chart, and how far a walk through a timing has come. The columns of a chart's lists and of a timing stand in specs/.
 
 // The file format of a chart, which decides how tempos and stops are meant.
 pub enum TimingFormat {

@@ -5,6 +5,7 @@ pub mod Held
 pub mod Tests
 pub mod SignedSizes
 pub mod FloatOrder
+pub mod FloatsInOrder
 pub mod ByValue
 pub mod Snap
 pub mod RintBySum

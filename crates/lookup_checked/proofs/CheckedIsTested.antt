@@ -3,7 +3,7 @@ use Prim.Native.Nat.{ℕ, zero, suc, _+_, _-_, _≤_, _<_}
 use mathlib.Core.Path.{_≡_, refl, sym, ap, _∙_, subst}
 use mathlib.Core.Bool.{Bool, true, false}
 use mathlib.Core.List.{List}
-use mathlib.Core.Logic.{⊎-elim}
+use mathlib.Core.Logic.{⊎-elim, inl, inr}
 use native.Mathlib.Omega.{arith}
 use native.Mathlib.Numerals.{add-one}
 use borrow.Author.Tests.{leb-true}
@@ -14,14 +14,12 @@ use lib.ListN.{length, getD}
 use lib.Ieee.{Float, nan, binary32, le}
 use lib.Ieee.Bits.{is-true}
 use Rattle.picks.specs.Pick.{pick}
-use Rattle.ieee.specs.Narrowing.{narrow}
 use Rattle.ieee.proofs.FloatOrder.{lt-or-le, lt-le}
 use Rattle.rows.specs.Rows.{row, beatOf, allowedBeat}
 use Rattle.rows.proofs.RowsKeepOrder.{row-mono}
 use Rattle.rows.proofs.RowOfBeat.{row-of-beat}
 use Rattle.rows.proofs.RowWithin.{row-within, in-i32}
 use Rattle.rows.proofs.BeatsRise.{beat-allowed}
-use Rattle.rows.proofs.Quantizing.{narrow-allowed}
 use Rattle.limits.specs.declared.Range.{Range}
 use Rattle.limits.specs.declared.Kind.the-variants.{Beat, Pause, Value}
 use Rattle.limits.specs.Numbers.{rangeOf, inRange, rowIn, mostRow}
@@ -30,17 +28,23 @@ use Rattle.limits.proofs.NoRefusal.{lower-none}
 use Rattle.limits.proofs.ListTaken.{Taken}
 use Rattle.limits.proofs.Every.{every-at}
 use Rattle.rows.specs.RowKey.{rowKey}
+use Rattle.order.proofs.Compare.{below?}
 use Rattle.rows.proofs.RowKeys.{rows-at-most}
+use Rattle.order_search.specs.Search.{placeOf, SplitBy}
+use Rattle.order_search.proofs.PlaceSplits.{place-splits}
+use Rattle.ieee.proofs.FloatsInOrder.{float-le-trans}
 use Rattle.lookup_tests.proofs.RowsRise.{Rising, rises}
 use Rattle.lookup.specs.inside.Finding.{keyAt, Passed, Split}
-use Rattle.lookup.specs.Lookups.{keyOf, rowsRise, risingNumber, askedNumber, warpNumber, fakeNumber, judgableNumber, warpCovers, fakeCovers, lastPasses, isPaused, isWarped, isFake, isJudgable, askedRow, looked}
+use Rattle.lookup.specs.Lookups.{keyOf, rowsRise, risingNumber, askedNumber, warpNumber, fakeNumber, judgableNumber, warpCovers, fakeCovers, ofLast, lastPasses, isPaused, isWarped, isFake, isJudgable, askedRow, looked}
 use Rattle.lookup.proofs.UsableLists.{rising-taken}
 use Rattle.lookup.proofs.FoundEntries.{passed-to, past-from, last-found, pause-found}
 use Rattle.rows.proofs.Allowed.{taken-allowed, allowed-finite}
-use Rattle.lookup_checked.specs.Checked.{placeOf, isOnRow, upToRow, lastCounted, pausedBy, unpausedBy, fakeBy, warpedBy, judgableBy, atRow}
+use Rattle.lookup_checked.specs.Checked.{isOnRow, lastCovers, pausedBy, unpausedBy, fakeBy, warpedBy, judgableBy, atRow}
 use Rattle.lookup_checked.specs.SameAnswers.{SameAnswers}
-use Rattle.lookup_checked.proofs.WhereHalvesEnd.{Around, place-ends}
-use Rattle.lookup_checked.proofs.LastCounted.{on-row, off-row}
+use Rattle.lookup_checked.proofs.OffRow.{row-allowed}
+use Rattle.lookup_checked.proofs.OnRow.{on-row, off-row}
+use Rattle.lookup_checked.proofs.LastCounted.{next-last, warps-end, fakes-end}
+use Rattle.lookup_checked.proofs.AnswersAtRow.{asked-allowed}
 
 -- ---- a list: the entries that count are just those at or before the row
 module _ (value : Range) (beats values : List Float) (taken : risingNumber value beats values ≡ 0) (asked : ℤ) (allowed : natAbs asked ≤ mostRow) where
@@ -80,11 +84,24 @@ module _ (value : Range) (beats values : List Float) (taken : risingNumber value
   rising : Rising beats
   rising = rises beats (list-is .1)
 
-  abbrev place : ℕ
-  place = placeOf beats at
+  -- beats whose rows rise have those up to the row's beat first
+  first : (i j : ℕ) → i ≤ j → j < length beats → le (getD beats j nan) at ≡ true → le (getD beats i nan) at ≡ true
+  first i j h l e = elim (below? i j) [
+    | inl less ↦
+        let x = getD beats i nan in
+        let y = getD beats j nan in
+        let p = beat-in i (omega arith) in
+        let q = beat-in j l in
+        let up : T (le x y) = ⊎-elim (λ t. lt-le x y t) (λ t. absurd (omega (arith, keys-follow y x q p t, rising i j less l))) (lt-or-le x y (allowed-finite x p) (allowed-finite y q)) in
+        is-true (le x at) (float-le-trans x y at up (subst T (sym e) tt))
+    | inr same ↦ let one : i ≡ j = omega arith in rw one e
+  ]
 
-  ends : Around (λ (i : ℕ). le (getD beats i nan) at) (length beats) place place
-  ends = place-ends beats at
+  abbrev place : ℕ
+  place = placeOf at beats
+
+  ends : SplitBy at beats place
+  ends = place-splits at beats first
 
   before-passed : Passed (rowKey asked) beats place
   before-passed = go place refl
@@ -92,13 +109,15 @@ module _ (value : Range) (beats values : List Float) (taken : risingNumber value
       go : (n : ℕ) → n ≡ place → Passed (rowKey asked) beats n
       go zero e = (omega arith, λ i l. absurd (omega arith))
       go (suc m) e =
-          let here : place - 1 ≡ m = omega arith in
           let inside : m < length beats = omega (arith, ends .within) in
-          let last = up-to m inside (rw here at (ends .before (omega arith))) in
+          let last = up-to m inside (ends .before m (omega arith)) in
           rw (sym (add-one m)) (passed-to (rowKey asked) beats rising m inside last)
 
-  pub counted-splits : Split (rowKey asked) beats (upToRow at (rowKey asked) beats)
-  unfolding upToRow
+  -- the entries that count
+  abbrev counted : ℕ
+  counted = pick (isOnRow beats place (rowKey asked)) (place + 1) place
+
+  pub counted-splits : Split (rowKey asked) beats counted
   counted-splits = go (isOnRow beats place (rowKey asked)) refl
     where
       go : (t : Bool) → isOnRow beats place (rowKey asked) ≡ t → Split (rowKey asked) beats (pick t (place + 1) place)
@@ -111,27 +130,34 @@ module _ (value : Range) (beats values : List Float) (taken : risingNumber value
       go false e = record { passed = before-passed; past = λ i h l. past-from (rowKey asked) beats rising place (behind (omega arith) e) i h l }
         where
           behind : place < length beats → isOnRow beats place (rowKey asked) ≡ false → rowKey asked < keyAt beats place
-          behind h e = let least = past place h (ends .after h) in omega (arith, off-row beats place (rowKey asked) h e)
+          behind h e = let least = past place h (ends .after place (omega arith) h) in omega (arith, off-row beats place (rowKey asked) h e)
 
   -- so its last entry is the tested one, and so is a pause
-  module _ (test : Float → Float → Bool) where
-    pub last-same : lastCounted test at (rowKey asked) beats values ≡ lastPasses test (rowKey asked) false beats values
-    last-same = sym (last-found test (rowKey asked) false beats values (upToRow at (rowKey asked) beats) (list-is .0 .even) counted-splits)
+  module _ (test : Float → Float → Bool) (only : (beat value : Float) → le beat at ≡ false → test beat value ≡ false) where
+    last-is : lastCovers test place (rowKey asked) beats values ≡ ofLast test false beats values counted
+    last-is = go (isOnRow beats place (rowKey asked)) refl
+      where
+        go : (t : Bool) → isOnRow beats place (rowKey asked) ≡ t → pick t false (ofLast test false beats values place) ≡ ofLast test false beats values (pick t (place + 1) place)
+        go true e = sym (next-last test beats values place ∙ only (getD beats place nan) (getD values place nan) (ends .after place (omega arith) (on-row beats place (rowKey asked) e .0)))
+        go false e = refl
+
+    pub last-same : lastCovers test place (rowKey asked) beats values ≡ lastPasses test (rowKey asked) false beats values
+    last-same = last-is ∙ sym (last-found test (rowKey asked) false beats values counted (list-is .0 .even) counted-splits)
 
   pub pause-same : pausedBy at (rowKey asked) beats values ≡ isPaused (rowKey asked) beats values
-  pause-same = sym (pause-found (rowKey asked) beats values (upToRow at (rowKey asked) beats) (list-is .0 .even) rising counted-splits)
+  pause-same = sym (pause-found (rowKey asked) beats values counted (list-is .0 .even) rising counted-splits)
 
 -- ---- the questions
 module _ (fakeBeats fakeLengths : List Float) (asked : ℤ) (allowed : natAbs asked ≤ mostRow) where
   fake-same : risingNumber (rangeOf Value) fakeBeats fakeLengths ≡ 0 → atRow (fakeBy fakeBeats fakeLengths) asked ≡ isFake fakeBeats fakeLengths asked
   unfolding fakeBy isFake
-  fake-same f = last-same (rangeOf Value) fakeBeats fakeLengths f asked allowed (fakeCovers (beatOf binary32 asked))
+  fake-same f = last-same (rangeOf Value) fakeBeats fakeLengths f asked allowed (fakeCovers (beatOf binary32 asked)) (fakes-end (beatOf binary32 asked))
 
 module _ (stopBeats stopValues delayBeats delayValues warpBeats warpLengths : List Float) (stops : risingNumber (rangeOf Pause) stopBeats stopValues ≡ 0) (delays : risingNumber (rangeOf Pause) delayBeats delayValues ≡ 0) (warps : risingNumber (rangeOf Value) warpBeats warpLengths ≡ 0) (asked : ℤ) (allowed : natAbs asked ≤ mostRow) where
   warp-same : atRow (warpedBy stopBeats stopValues delayBeats delayValues warpBeats warpLengths) asked ≡ isWarped stopBeats stopValues delayBeats delayValues warpBeats warpLengths asked
   unfolding warpedBy unpausedBy isWarped
   warp-same =
-      rw (last-same (rangeOf Value) warpBeats warpLengths warps asked allowed (warpCovers (beatOf binary32 asked)), pause-same (rangeOf Pause) stopBeats stopValues stops asked allowed, pause-same (rangeOf Pause) delayBeats delayValues delays asked allowed)
+      rw (last-same (rangeOf Value) warpBeats warpLengths warps asked allowed (warpCovers (beatOf binary32 asked)) (warps-end (beatOf binary32 asked)), pause-same (rangeOf Pause) stopBeats stopValues stops asked allowed, pause-same (rangeOf Pause) delayBeats delayValues delays asked allowed)
 
   judgable-same : (fakeBeats fakeLengths : List Float) → risingNumber (rangeOf Value) fakeBeats fakeLengths ≡ 0 → atRow (judgableBy stopBeats stopValues delayBeats delayValues warpBeats warpLengths fakeBeats fakeLengths) asked ≡ isJudgable stopBeats stopValues delayBeats delayValues warpBeats warpLengths fakeBeats fakeLengths asked
   unfolding judgableBy isJudgable
@@ -147,13 +173,6 @@ twice : (allowed : Bool) → lower (askedNumber allowed) (askedNumber allowed) �
 unfolding lower
 twice true = refl
 twice false = refl
-
-row-allowed : (asked : ℤ) → rowIn asked ≡ true → natAbs asked ≤ mostRow
-unfolding rowIn
-row-allowed asked h = leb-true (natAbs asked) mostRow h
-
-beat-allowed-too : (beat : Float) → inRange (rangeOf Beat) beat ≡ true → natAbs (askedRow beat) ≤ mostRow
-beat-allowed-too beat h = row-within binary32 (narrow beat) (narrow-allowed beat (taken-allowed beat h))
 
 module _ (stopBeats stopValues delayBeats delayValues warpBeats warpLengths fakeBeats fakeLengths : List Float) (checked : judgableNumber stopBeats stopValues delayBeats delayValues warpBeats warpLengths fakeBeats fakeLengths true ≡ 0) where
   both : (warpNumber stopBeats stopValues delayBeats delayValues warpBeats warpLengths true ≡ 0) × (fakeNumber fakeBeats fakeLengths true ≡ 0)
@@ -183,9 +202,9 @@ module _ (stopBeats stopValues delayBeats delayValues warpBeats warpLengths fake
   pub checked-is-tested : SameAnswers stopBeats stopValues delayBeats delayValues warpBeats warpLengths fakeBeats fakeLengths
   checked-is-tested = record {
     warpAtRow = λ asked. same (rowIn asked) _ _ _ (of-warps (rowIn asked)) (λ h. warp-same stopBeats stopValues delayBeats delayValues warpBeats warpLengths (pauses .0) (pauses .1) warps asked (row-allowed asked h));
-    warpAtBeat = λ beat. same (inRange (rangeOf Beat) beat) _ _ _ (of-warps (inRange (rangeOf Beat) beat)) (λ h. warp-same stopBeats stopValues delayBeats delayValues warpBeats warpLengths (pauses .0) (pauses .1) warps (askedRow beat) (beat-allowed-too beat h));
+    warpAtBeat = λ beat. same (inRange (rangeOf Beat) beat) _ _ _ (of-warps (inRange (rangeOf Beat) beat)) (λ h. warp-same stopBeats stopValues delayBeats delayValues warpBeats warpLengths (pauses .0) (pauses .1) warps (askedRow beat) (asked-allowed beat h));
     fakeAtRow = λ asked. same (rowIn asked) _ _ _ (of-fakes (rowIn asked)) (λ h. fake-same fakeBeats fakeLengths asked (row-allowed asked h) fakes);
-    fakeAtBeat = λ beat. same (inRange (rangeOf Beat) beat) _ _ _ (of-fakes (inRange (rangeOf Beat) beat)) (λ h. fake-same fakeBeats fakeLengths (askedRow beat) (beat-allowed-too beat h) fakes);
+    fakeAtBeat = λ beat. same (inRange (rangeOf Beat) beat) _ _ _ (of-fakes (inRange (rangeOf Beat) beat)) (λ h. fake-same fakeBeats fakeLengths (askedRow beat) (asked-allowed beat h) fakes);
     judgableAtRow = λ asked. same (rowIn asked) _ _ _ (of-all (rowIn asked)) (λ h. judgable-same stopBeats stopValues delayBeats delayValues warpBeats warpLengths (pauses .0) (pauses .1) warps asked (row-allowed asked h) fakeBeats fakeLengths fakes);
-    judgableAtBeat = λ beat. same (inRange (rangeOf Beat) beat) _ _ _ (of-all (inRange (rangeOf Beat) beat)) (λ h. judgable-same stopBeats stopValues delayBeats delayValues warpBeats warpLengths (pauses .0) (pauses .1) warps (askedRow beat) (beat-allowed-too beat h) fakeBeats fakeLengths fakes);
+    judgableAtBeat = λ beat. same (inRange (rangeOf Beat) beat) _ _ _ (of-all (inRange (rangeOf Beat) beat)) (λ h. judgable-same stopBeats stopValues delayBeats delayValues warpBeats warpLengths (pauses .0) (pauses .1) warps (askedRow beat) (asked-allowed beat h) fakeBeats fakeLengths fakes);
   }

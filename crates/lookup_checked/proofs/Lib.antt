@@ -1,4 +1,5 @@
-pub mod WhereHalvesEnd
+pub mod OffRow
+pub mod OnRow
 pub mod LastCounted
 pub mod AnswersAtRow
 pub mod CheckedIsTested

@@ -1,44 +1,42 @@
 -- Lookups into lists that were tested before: what each answers, whatever the lists' order and lengths. Definitions only.
 --
--- A search by halves for the beat of the asked row finds a place in a list. The entries before that place count as those at or before the row, and so does
+-- A search for the beat of the asked row finds a place in a list. The entries before that place count as those at or before the row, and so does
 -- the next one where it is on the row as well, a little past its beat. The last that counts is tested; a number that a shorter column lacks is a NaN, which passes no test.
 use Prim.Native.Nat.{ℕ, _+_}
 use mathlib.Core.Bool.{Bool, false, not}
 use mathlib.Core.List.{List}
 use lib.Dec.{ltb, eqb}
 use lib.IntN.{ℤ}
-use lib.ListN.{length, getD}
-use lib.Ieee.{Float, nan, binary32, le}
+use lib.ListN.{length}
+use lib.Ieee.{Float, binary32}
 use Rattle.picks.specs.Pick.{pick}
 use Rattle.rows.specs.Rows.{beatOf}
 use Rattle.rows.specs.RowKey.{rowKey}
-use Rattle.tidy_kept.specs.Searching.{halved}
+use Rattle.order_search.specs.Search.{placeOf}
 use Rattle.lookup_tests.specs.Refused.{keyAt}
 use Rattle.lookup.specs.Lookups.{ofLast, pausesOn, warpCovers, fakeCovers}
-
--- where the search ends: in beats that rise, after those that are not above `at`
-unfoldable pub placeOf : List Float → Float → ℕ
-placeOf beats at = halved (λ (i : ℕ). le (getD beats i nan) at) (length beats) 0 (length beats)
 
 -- whether there is an entry at a place and it is on a row
 unfoldable pub isOnRow : List Float → ℕ → ℕ → Bool
 isOnRow beats place key = pick (ltb place (length beats)) (eqb (keyAt beats place) key) false
 
--- how many entries count as at or before the row with a beat and a key
-unfoldable pub upToRow : Float → ℕ → List Float → ℕ
-upToRow at key beats = pick (isOnRow beats (placeOf beats at) key) (placeOf beats at + 1) (placeOf beats at)
+-- ---- the last that counts, by the place that is found and the row's key
 
--- what a test says of the last of them; no where there is none
-abbrev pub lastCounted : (Float → Float → Bool) → Float → ℕ → List Float → List Float → Bool
-lastCounted test at key beats values = ofLast test false beats values (upToRow at key beats)
+-- a warp's or a fake's test of it: one that is past the row's beat covers nothing there
+abbrev pub lastCovers : (Float → Float → Bool) → ℕ → ℕ → List Float → List Float → Bool
+lastCovers test place key beats values = pick (isOnRow beats place key) false (ofLast test false beats values place)
+
+-- whether it pauses
+abbrev pub lastPauses : ℕ → ℕ → List Float → List Float → Bool
+lastPauses place key beats values = ofLast (pausesOn key) false beats values (pick (isOnRow beats place key) (place + 1) place)
 
 -- ---- the questions, of a row by its beat and its key
 
 abbrev pub pausedBy : Float → ℕ → List Float → List Float → Bool
-pausedBy at key beats values = lastCounted (pausesOn key) at key beats values
+pausedBy at key beats values = lastPauses (placeOf at beats) key beats values
 
 unfoldable pub fakeBy : (fakeBeats fakeLengths : List Float) → Float → ℕ → Bool
-fakeBy fakeBeats fakeLengths at key = lastCounted (fakeCovers at) at key fakeBeats fakeLengths
+fakeBy fakeBeats fakeLengths at key = lastCovers (fakeCovers at) (placeOf at fakeBeats) key fakeBeats fakeLengths
 
 -- no stop and no delay above 0 is on the row
 unfoldable pub unpausedBy : (stopBeats stopValues delayBeats delayValues : List Float) → Float → ℕ → Bool
@@ -47,7 +45,7 @@ unpausedBy stopBeats stopValues delayBeats delayValues at key = pick (pausedBy a
 module _ (stopBeats stopValues delayBeats delayValues warpBeats warpLengths : List Float) where
   -- in the last warp, and not paused
   unfoldable pub warpedBy : Float → ℕ → Bool
-  warpedBy at key = pick (lastCounted (warpCovers at) at key warpBeats warpLengths) (unpausedBy stopBeats stopValues delayBeats delayValues at key) false
+  warpedBy at key = pick (lastCovers (warpCovers at) (placeOf at warpBeats) key warpBeats warpLengths) (unpausedBy stopBeats stopValues delayBeats delayValues at key) false
 
   -- neither warped nor fake
   unfoldable pub judgableBy : (fakeBeats fakeLengths : List Float) → Float → ℕ → Bool

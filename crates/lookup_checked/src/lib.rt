@@ -3,11 +3,15 @@ use limits::Kind;
 use lookup::Looked;
 ghost use mathlib.Core.Path.{_≡_};
 ghost use mathlib.Core.Bool.{true};
-ghost use lib.Ieee.{nan};
-ghost use lib.ListN.{getD};
+ghost use lib.IntN.{natAbs};
+ghost use lib.Ieee.{nan, binary32};
+ghost use Rattle.rows.specs.Rows.{beatOf};
+ghost use lib.ListN.{length, getD};
+ghost use Prim.Native.Nat.{_≤_, _<_};
+ghost use Rattle.rows.specs.RowKey.{rowKey};
 ghost use Rattle.limits.specs.Numbers.{rangeOf, inRange, rowIn};
-ghost use Rattle.lookup.specs.Lookups.{warpCovers, fakeCovers, askedRow, looked, askedNumber, judgableNumber};
-ghost use Rattle.lookup_checked.specs.Checked.{placeOf, isOnRow, lastCounted, pausedBy, unpausedBy, fakeBy, warpedBy, judgableBy, atRow};
+ghost use Rattle.lookup.specs.Lookups.{keyOf, warpCovers, fakeCovers, askedRow, looked, askedNumber, judgableNumber};
+ghost use Rattle.lookup_checked.specs.Checked.{isOnRow, lastCovers, lastPauses, unpausedBy, fakeBy, warpedBy, judgableBy, atRow};
 
 // ---- the test of the lists
 
@@ -42,32 +46,63 @@ pub fn check_lookups(
     )
 }
 
-// ---- the entries at or before a row
+// ---- an entry on a row
 
-// Where a search by halves for a beat ends.
-fn place_of(beats: &[f32], at: f32) -> usize
-    ensures { λ r. ⌜ r ≡ placeOf (now (beats .entry)) at ⌝ }
+// The beat of a row that is allowed, or next to one: an f32 has such rows with nothing lost.
+fn beat_of_row(row: i32) -> f32
+    requires { ⌜ natAbs row ≤ 3145729 ⌝ }
+    ensures { λ r. ⌜ r ≡ beatOf binary32 row ⌝ }
 {
-    let mut low = 0;
-    let mut high = beats.len();
-    while low < high {
-        let middle = low + (high - low) / 2;
-        if beats[middle] <= at {
-            low = middle + 1;
-            continue;
-        }
-        high = middle;
-    }
-    low
+    (row as f32) / (rows::ROWS_PER_BEAT as f32)
 }
 
-fn is_on_row(beats: &[f32], place: usize, key: u32) -> bool
-    ensures { λ r. ⌜ r ≡ isOnRow (now (beats .entry)) place key ⌝ }
+// The row of an entry is only worked out where the beat of the next row, or of the row before, does not tell that it is another.
+
+// From the beat of the next row on.
+fn is_past_row(beat: f32, row: i32) -> bool
+    requires { ⌜ rowIn row ≡ true ⌝ }
+    ensures { λ r. ⌜ (r ≡ true → keyOf beat ≡ rowKey row → ⊥) ⌝ }
 {
-    if place < beats.len() {
-        return rows::row_key_f32(beats[place]) == key;
+    if beat_of_row(row + 1) <= beat {
+        return beat <= 65536.0;
     }
     false
+}
+
+// Up to the beat of the row before.
+fn is_before_row(beat: f32, row: i32) -> bool
+    requires { ⌜ rowIn row ≡ true ⌝ }
+    ensures { λ r. ⌜ (r ≡ true → keyOf beat ≡ rowKey row → ⊥) ⌝ }
+{
+    if beat <= beat_of_row(row - 1) {
+        return -65536.0 <= beat;
+    }
+    false
+}
+
+// Whether there is an entry at the place that is found and it is on the row.
+fn next_on_row(beats: &[f32], place: usize, row: i32) -> bool
+    requires { ⌜ rowIn row ≡ true ⌝ }
+    ensures { λ r. ⌜ r ≡ isOnRow (now (beats .entry)) place (rowKey row) ⌝ }
+{
+    if place < beats.len() {
+        if is_past_row(beats[place], row) {
+            return false;
+        }
+        return rows::row_key_f32(beats[place]) == rows::key_of_row(row);
+    }
+    false
+}
+
+// Whether the entry at the place before it is.
+fn last_on_row(beats: &[f32], place: usize, row: i32) -> bool
+    requires { ⌜ (place < length (now beats)) × (rowIn row ≡ true) ⌝ }
+    ensures { λ r. ⌜ r ≡ isOnRow (now (beats .entry)) place (rowKey row) ⌝ }
+{
+    if is_before_row(beats[place], row) {
+        return false;
+    }
+    rows::row_key_f32(beats[place]) == rows::key_of_row(row)
 }
 
 // The number at a place of a column; a NaN past its end.
@@ -103,74 +138,86 @@ fn fake_covers(beat: f32, length: f32, at: f32) -> bool
     false
 }
 
-// ---- the questions, of a row by its beat and its key
+// ---- the last entry that counts, by the place that is found
 
-// An entry on the row that is past the row's beat covers nothing there, and is the last that counts: only an entry that covers has to look for it.
-fn in_warp(warp_beats: &[f32], warp_lengths: &[f32], at: f32, key: u32) -> bool
-    ensures { λ r. ⌜ r ≡ lastCounted (warpCovers at) at key (now («warp_beats» .entry)) (now («warp_lengths» .entry)) ⌝ }
+// The tests of warps and fakes come last, since no branch is made of them.
+
+fn in_warp(warp_beats: &[f32], warp_lengths: &[f32], place: usize, at: f32, row: i32) -> bool
+    requires { ⌜ (place ≤ length (now «warp_beats»)) × (rowIn row ≡ true) ⌝ }
+    ensures { λ r. ⌜ r ≡ lastCovers (warpCovers at) place (rowKey row) (now («warp_beats» .entry)) (now («warp_lengths» .entry)) ⌝ }
 {
-    let place = place_of(warp_beats, at);
+    if next_on_row(warp_beats, place, row) {
+        return false;
+    }
     if place == 0 {
         return false;
     }
-    if warp_covers(
+    warp_covers(
         warp_beats[place - 1],
         number_at(warp_lengths, place - 1),
         at,
-    ) {
-        return !is_on_row(warp_beats, place, key);
-    }
-    false
+    )
 }
 
-fn is_fake(fake_beats: &[f32], fake_lengths: &[f32], at: f32, key: u32) -> bool
-    ensures { λ r. ⌜ r ≡ fakeBy (now («fake_beats» .entry)) (now («fake_lengths» .entry)) at key ⌝ }
+fn in_fake(fake_beats: &[f32], fake_lengths: &[f32], place: usize, at: f32, row: i32) -> bool
+    requires { ⌜ (place ≤ length (now «fake_beats»)) × (rowIn row ≡ true) ⌝ }
+    ensures { λ r. ⌜ r ≡ lastCovers (fakeCovers at) place (rowKey row) (now («fake_beats» .entry)) (now («fake_lengths» .entry)) ⌝ }
 {
-    let place = place_of(fake_beats, at);
+    if next_on_row(fake_beats, place, row) {
+        return false;
+    }
     if place == 0 {
         return false;
     }
-    if fake_covers(
+    fake_covers(
         fake_beats[place - 1],
         number_at(fake_lengths, place - 1),
         at,
-    ) {
-        return !is_on_row(fake_beats, place, key);
-    }
-    false
+    )
 }
 
-fn is_paused(beats: &[f32], values: &[f32], at: f32, key: u32) -> bool
-    ensures { λ r. ⌜ r ≡ pausedBy at key (now (beats .entry)) (now (values .entry)) ⌝ }
+fn is_paused(beats: &[f32], values: &[f32], place: usize, row: i32) -> bool
+    requires { ⌜ (place ≤ length (now beats)) × (rowIn row ≡ true) ⌝ }
+    ensures { λ r. ⌜ r ≡ lastPauses place (rowKey row) (now (beats .entry)) (now (values .entry)) ⌝ }
 {
-    let place = place_of(beats, at);
-    if is_on_row(beats, place, key) {
+    if next_on_row(beats, place, row) {
         return number_at(values, place) > 0.0;
     }
     if place == 0 {
         return false;
     }
-    if is_on_row(beats, place - 1, key) {
+    if last_on_row(beats, place - 1, row) {
         return number_at(values, place - 1) > 0.0;
     }
     false
 }
 
-// Both lists are only looked into in a warp. Named by two functions, so that it stays a call and what stands around it is inlined.
+// Both lists are only looked into in a warp. Named by several functions, so that it stays a call and what stands around it is inlined.
 fn is_unpaused(
     stop_beats: &[f32],
     stop_values: &[f32],
     delay_beats: &[f32],
     delay_values: &[f32],
     at: f32,
-    key: u32,
+    row: i32,
 ) -> bool
-    ensures { λ r. ⌜ r ≡ unpausedBy (now («stop_beats» .entry)) (now («stop_values» .entry)) (now («delay_beats» .entry)) (now («delay_values» .entry)) at key ⌝ }
+    requires { ⌜ rowIn row ≡ true ⌝ }
+    ensures { λ r. ⌜ r ≡ unpausedBy (now («stop_beats» .entry)) (now («stop_values» .entry)) (now («delay_beats» .entry)) (now («delay_values» .entry)) at (rowKey row) ⌝ }
 {
-    if is_paused(stop_beats, stop_values, at, key) {
+    if is_paused(
+        stop_beats,
+        stop_values,
+        order_search::place_of(stop_beats, at),
+        row,
+    ) {
         return false;
     }
-    !is_paused(delay_beats, delay_values, at, key)
+    !is_paused(
+        delay_beats,
+        delay_values,
+        order_search::place_of(delay_beats, at),
+        row,
+    )
 }
 
 // The answer to a question that is taken.
@@ -186,7 +233,7 @@ fn answered(yes: bool) -> Looked
 // ---- the calls
 
 // Each takes any lists and refuses only what is asked, a row or beat beyond the limit, with 3: the lists are those that `check_lookups` took.
-// Over any others it still ends, and answers what the search by halves comes to. Each asks the lists by itself and not by its twin, so that the searches are inlined.
+// Over any others it still ends, and answers what the search comes to. Each searches the lists by itself and not by its twin, so that the searches are inlined.
 
 // Whether a row is warped.
 pub fn is_warp_at_row_checked(
@@ -204,16 +251,16 @@ pub fn is_warp_at_row_checked(
         (now («warp_beats» .entry)) (now («warp_lengths» .entry))) row) ⌝ }
 {
     if limits::row_taken(row) {
-        let at = rows::note_row_to_beat_f32(row);
-        let key = rows::key_of_row(row);
-        if in_warp(warp_beats, warp_lengths, at, key) {
+        let at = beat_of_row(row);
+        let place = order_search::place_of(warp_beats, at);
+        if in_warp(warp_beats, warp_lengths, place, at, row) {
             return answered(is_unpaused(
                 stop_beats,
                 stop_values,
                 delay_beats,
                 delay_values,
                 at,
-                key,
+                row,
             ));
         }
         return answered(false);
@@ -241,16 +288,16 @@ pub fn is_warp_at_beat_checked(
 {
     if limits::taken(Kind::Beat, beat) {
         let row = lookup::asked_row(beat);
-        let at = rows::note_row_to_beat_f32(row);
-        let key = rows::key_of_row(row);
-        if in_warp(warp_beats, warp_lengths, at, key) {
+        let at = beat_of_row(row);
+        let place = order_search::place_of(warp_beats, at);
+        if in_warp(warp_beats, warp_lengths, place, at, row) {
             return answered(is_unpaused(
                 stop_beats,
                 stop_values,
                 delay_beats,
                 delay_values,
                 at,
-                key,
+                row,
             ));
         }
         return answered(false);
@@ -266,9 +313,9 @@ pub fn is_fake_at_row_checked(fake_beats: &[f32], fake_lengths: &[f32], row: i32
     ensures { λ r. ⌜ r ≡ looked (askedNumber (rowIn row)) (atRow (fakeBy (now («fake_beats» .entry)) (now («fake_lengths» .entry))) row) ⌝ }
 {
     if limits::row_taken(row) {
-        let at = rows::note_row_to_beat_f32(row);
-        let key = rows::key_of_row(row);
-        return answered(is_fake(fake_beats, fake_lengths, at, key));
+        let at = beat_of_row(row);
+        let place = order_search::place_of(fake_beats, at);
+        return answered(in_fake(fake_beats, fake_lengths, place, at, row));
     }
     Looked {
         number: limits::BAD_BEAT,
@@ -282,9 +329,9 @@ pub fn is_fake_at_beat_checked(fake_beats: &[f32], fake_lengths: &[f32], beat: f
 {
     if limits::taken(Kind::Beat, beat) {
         let row = lookup::asked_row(beat);
-        let at = rows::note_row_to_beat_f32(row);
-        let key = rows::key_of_row(row);
-        return answered(is_fake(fake_beats, fake_lengths, at, key));
+        let at = beat_of_row(row);
+        let place = order_search::place_of(fake_beats, at);
+        return answered(in_fake(fake_beats, fake_lengths, place, at, row));
     }
     Looked {
         number: limits::BAD_BEAT,
@@ -311,14 +358,18 @@ pub fn is_judgable_at_row_checked(
         (now («fake_beats» .entry)) (now («fake_lengths» .entry))) row) ⌝ }
 {
     if limits::row_taken(row) {
-        let at = rows::note_row_to_beat_f32(row);
-        let key = rows::key_of_row(row);
-        if in_warp(warp_beats, warp_lengths, at, key) {
-            if is_unpaused(stop_beats, stop_values, delay_beats, delay_values, at, key) {
-                return answered(false);
+        let at = beat_of_row(row);
+        let warp = order_search::place_of(warp_beats, at);
+        let fake = order_search::place_of(fake_beats, at);
+        let faked = in_fake(fake_beats, fake_lengths, fake, at, row);
+        if in_warp(warp_beats, warp_lengths, warp, at, row) {
+            if !faked {
+                return answered(
+                    !is_unpaused(stop_beats, stop_values, delay_beats, delay_values, at, row),
+                );
             }
         }
-        return answered(!is_fake(fake_beats, fake_lengths, at, key));
+        return answered(!faked);
     }
     Looked {
         number: limits::BAD_BEAT,
@@ -346,14 +397,18 @@ pub fn is_judgable_at_beat_checked(
 {
     if limits::taken(Kind::Beat, beat) {
         let row = lookup::asked_row(beat);
-        let at = rows::note_row_to_beat_f32(row);
-        let key = rows::key_of_row(row);
-        if in_warp(warp_beats, warp_lengths, at, key) {
-            if is_unpaused(stop_beats, stop_values, delay_beats, delay_values, at, key) {
-                return answered(false);
+        let at = beat_of_row(row);
+        let warp = order_search::place_of(warp_beats, at);
+        let fake = order_search::place_of(fake_beats, at);
+        let faked = in_fake(fake_beats, fake_lengths, fake, at, row);
+        if in_warp(warp_beats, warp_lengths, warp, at, row) {
+            if !faked {
+                return answered(
+                    !is_unpaused(stop_beats, stop_values, delay_beats, delay_values, at, row),
+                );
             }
         }
-        return answered(!is_fake(fake_beats, fake_lengths, at, key));
+        return answered(!faked);
     }
     Looked {
         number: limits::BAD_BEAT,

@@ -16,7 +16,7 @@ use Rattle.order.specs.FloatKey.{floatKey}
 use Rattle.order.proofs.Compare.{below?}
 use Rattle.order.proofs.FloatKeys.{floats-below, floats-at-most}
 use Rattle.order_search.specs.F32UpTo.{nextBelow, f32UpTo}
-use Rattle.order_search.proofs.FloatsInOrder.{float-le-trans, float-lt-or-le, float-lt-not-le}
+use Rattle.ieee.proofs.FloatsInOrder.{float-le-trans, float-lt-or-le, float-lt-not-le}
 use Rattle.order_search.proofs.PatternBelow.{rounded-up, below-number, key-below}
 
 agree : (p q : Bool) → (T p → T q) → (T q → T p) → p ≡ q

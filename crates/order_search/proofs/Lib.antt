@@ -1,7 +1,6 @@
 pub mod HowMany
 pub mod Quartered
 pub mod PlaceSplits
-pub mod FloatsInOrder
 pub mod PatternBelow
 pub mod OrderedSplits
 pub mod F32UpToIsLe

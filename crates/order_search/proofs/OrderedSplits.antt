@@ -1,7 +1,6 @@
 -- In a column of which no number is above the next a search ends between those that are not above the number looked for and those that are. Assumes nothing.
-use Prim.Native.Nat.{ℕ, zero, suc, _+_, _-_, _≤_, _<_}
+use Prim.Native.Nat.{ℕ, zero, suc, _+_, _-_, _<_}
 use mathlib.Core.Path.{_≡_, sym, subst}
-use mathlib.Core.Bool.{true}
 use mathlib.Core.List.{List}
 use native.Mathlib.Omega.{arith}
 use lib.Dec.{T}
@@ -9,7 +8,7 @@ use lib.ListN.{length, getD}
 use lib.Ieee.{Float, nan, le}
 use lib.Ieee.Bits.{is-true}
 use Rattle.order_search.specs.Search.{placeOf, SplitBy}
-use Rattle.order_search.proofs.FloatsInOrder.{float-le-trans}
+use Rattle.ieee.proofs.FloatsInOrder.{float-le-trans}
 use Rattle.order_search.proofs.PlaceSplits.{place-splits}
 
 module _ (at : Float) (column : List Float) (ordered : (i : ℕ) → i + 1 < length column → T (le (getD column i nan) (getD column (i + 1) nan))) where

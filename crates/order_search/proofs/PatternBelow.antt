@@ -1,7 +1,7 @@
 -- An f32 that its f64 rounds up to has an f32 below it: the pattern one less, or one more where the sign is set, is a number's, and its key is one less. Assumes nothing.
 use Prim.Native.Nat.{ℕ, _+_, _-_, _*_, _%_, _≤_, _<_}
 use mathlib.Core.Path.{_≡_, refl, sym, ap, _∙_, subst}
-use mathlib.Core.Bool.{Bool, true, false, not}
+use mathlib.Core.Bool.{true, false, not}
 use mathlib.Core.Logic.{inl, inr}
 use native.Mathlib.Omega.{arith}
 use native.Mathlib.Nat.{mul-pos}
@@ -10,7 +10,7 @@ use lib.Pow.{pow-pos}
 use lib.Dec.{T}
 use lib.IntN.{ℤ}
 use lib.Ieee.{Float, nan, inf, fin, binary32, prec, hid, ones, top, up, down, fits, isNan, lt, toBits, ofBits, nanBits}
-use lib.Ieee.Bits.{toBits-lt, toBits-ofBits, nanBits-is, nanBits-above}
+use lib.Ieee.Bits.{toBits-ofBits, nanBits-is, nanBits-above}
 use lib.Ieee.Fits.{two}
 use Rattle.ieee.specs.Nearest.{signOf}
 use Rattle.ieee.specs.Narrowing.{narrow}

@@ -53,7 +53,7 @@ module _ (passes : ℕ → Bool) where
   ends-within : (steps base size : ℕ) → quartered passes steps base size ≤ base + size
   unfolding quartered
   ends-within zero base size = omega (arith, how-many-most (λ (i : ℕ). passes (base + i)) size)
-  ends-within (suc steps) base size = elim (below? 4 size) [
+  ends-within (suc steps) base size = elim (below? 16 size) [
     | inl h ↦ rw (goes-on passes steps base size h) (omega (arith, gained-most passes base size, ends-within steps (base + gained passes base size) (left passes size)))
     | inr h ↦ rw (stays passes (suc steps) base size h) (omega (arith, how-many-most (λ (i : ℕ). passes (base + i)) size))
   ]
@@ -90,7 +90,7 @@ module _ (passes : ℕ → Bool) where
       abbrev count : ℕ
       count = howMany (λ (i : ℕ). passes (mark i)) 3
 
-      module _ (more : 4 < size) where
+      module _ (more : 16 < size) where
         marks : Split (λ (i : ℕ). passes (mark i)) 3 count
         marks = count-splits (λ (i : ℕ). passes (mark i)) 3 (λ i j h k. f (mark i) (mark j) (omega (arith, mul-le-mul-left part (suc-le h))) (omega (arith, a .within, mul-le-mul-left part (below-three j k))))
           where
@@ -119,7 +119,7 @@ module _ (passes : ℕ → Bool) where
 
     splits : (steps base size : ℕ) → size ≤ steps → Among base size → Split passes n (quartered passes steps base size)
     splits zero base size h a = rw (stays passes zero base size (omega arith)) (counted base size a)
-    splits (suc steps) base size h a = elim (below? 4 size) [
+    splits (suc steps) base size h a = elim (below? 16 size) [
       | inl more ↦ rw (goes-on passes steps base size more) (splits steps (base + gained passes base size) (left passes size) (omega arith) (among base size a more))
       | inr few ↦ rw (stays passes (suc steps) base size few) (counted base size a)
     ]

@@ -13,13 +13,13 @@ unfoldable pub howMany : (ℕ → Bool) → ℕ → ℕ
 howMany passes zero = 0
 howMany passes (suc n) = howMany passes n + pick (passes n) 1 0
 
--- Where a search ends that has found `base` entries to pass, with `size` to look at: more than four are cut in quarters, the last of which has what is over,
--- and the search goes on behind as many of the first three as have a last entry that passes; of four or less it is counted how many pass.
+-- Where a search ends that has found `base` entries to pass, with `size` to look at: more than sixteen are cut in quarters, the last of which has what is over,
+-- and the search goes on behind as many of the first three as have a last entry that passes; of sixteen or less it is counted how many pass.
 -- It takes `steps` turns at the most.
 unfoldable pub quartered : (ℕ → Bool) → (steps base size : ℕ) → ℕ
 quartered passes zero base size = base + howMany (λ (i : ℕ). passes (base + i)) size
 quartered passes (suc steps) base size =
-    pick (ltb 4 size)
+    pick (ltb 16 size)
     (quartered passes steps (base + size / 4 * howMany (λ (i : ℕ). passes (base + size / 4 * (i + 1) - 1)) 3) (size - size / 4 * 3))
     (base + howMany (λ (i : ℕ). passes (base + i)) size)
 

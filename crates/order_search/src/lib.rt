@@ -13,7 +13,7 @@ pub fn place_of(column: &[f32], at: f32) -> usize
 {
     let mut base = 0;
     let mut size = column.len();
-    while size > 4 {
+    while size > 16 {
         let part = size / 4;
         base += part * quarters_passed(column, base, part, at);
         size -= part * 3;

@@ -22,6 +22,7 @@ use Rattle.assembly_tempos.specs.AssembledTempos.{assembledTempos, assembledSto
 use Rattle.assembly_tempos.proofs.ProcessedColumns.{all-fit}
 use Rattle.assembly_scrolls.specs.AssembledScrolls.{assembledScrolls}
 use Rattle.assembly_speeds.specs.AssembledSpeeds.{assembledSpeeds}
+use Rattle.chart.specs.ChartColumns.{listColumns, speedColumns}
 use Rattle.assembly.specs.Assembly.{assembledDelays, assembledFakes, othersNumber, othersLater}
 use Rattle.assembly.proofs.Ends.{none-refused, others-fit}
 use Rattle.report_text.specs.Output.{answerLine}
@@ -48,7 +49,7 @@ module _ (format : TimingFormat) (tempoBeats tempoValues stopBeats stopValues de
       let made = processedOf format tempoBeats tempoValues stopBeats stopValues delayBeats delayValues warpBeats warpLengths speedBeats speedRatios speedDelays speedUnits scrollBeats scrollValues fakeBeats fakeLengths in
       let later = none-refused _ _ _ _ z .laterTaken in
       let three = all-fit _ _ _ _ later in
-      let others = others-fit delayBeats delayValues speedBeats speedRatios speedDelays speedUnits scrollBeats scrollValues fakeBeats fakeLengths 256 256 256 256 (lower-none _ _ later .0) in
+      let others = others-fit (listColumns delayBeats delayValues) (speedColumns speedBeats speedRatios speedDelays speedUnits) (listColumns scrollBeats scrollValues) (listColumns fakeBeats fakeLengths) 256 256 256 256 (lower-none _ _ later .0) in
       lists-size _ _ _ _ _ _ _ _ _ _ _ _ _ _ _ _ _
       (few-of first 0 (assembledTempos made) (three .tempoFit))
       (few-of first 0 (assembledStops made) (three .stopFit))

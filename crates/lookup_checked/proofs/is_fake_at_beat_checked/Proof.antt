@@ -1,12 +1,13 @@
--- `lookup_checked::is_fake_at_beat_checked` answers by the beat and the key of the asked beat's row, or refuses the beat. Assumes nothing.
+-- `lookup_checked::is_fake_at_beat_checked` answers by the row's beat, or refuses the beat. Assumes nothing.
 use mathlib.Core.Path.{sym, _∙_}
 use mir.Syntax.{w32}
+use mir.Val.{toZ, ofZ}
 use mir.ValLaws.{toZ-ofZ}
-use Rattle.lookup.specs.Lookups.{askedRow}
 use Rattle.limits.specs.declared.Kind.the-variants.{Beat}
 use Rattle.limits.specs.Numbers.{rangeOf, inRange}
+use Rattle.lookup.specs.Lookups.{askedRow}
 use Rattle.lookup_checked.specs.Checked.{fakeBy}
-use Rattle.lookup_checked.proofs.AnswersAtRow.{taken-row, refused-row}
+use Rattle.lookup_checked.proofs.AnswersAtRow.{taken-row, refused-row, near, found-in, asked-in}
 use borrow.Author.Needs.{needs}
 use Rattle.lookup_checked.proofs.is_fake_at_beat_checked.Statement.{statement}
 use Rattle.lookup_checked.proofs.is_fake_at_beat_checked.Tie as tie
@@ -17,29 +18,47 @@ taken-requires c κs = search needs
 asked-row-requires : tie.Need-asked-row-requires
 asked-row-requires c κs = search needs
 
-note-row-to-beat-f32-requires : tie.Need-note-row-to-beat-f32-requires
-note-row-to-beat-f32-requires c κs = search needs
+beat-of-row-requires : tie.Need-beat-of-row-requires
+beat-of-row-requires c κs =
+    let allowed = c .before in
+    let start = allowed .before .before .before .before in
+    let back = toZ-ofZ w32 (c .asked-row .result) (record { sfits = c .asked-row .ok }) ∙ c .asked-row .ensures in
+    near (askedRow (start .args .beat)) (toZ w32 (ofZ w32 (c .asked-row .result))) back (asked-in (start .args .beat) (sym (allowed .before .taken .ensures) ∙ allowed .if1 .taken))
 
-key-of-row-requires : tie.Need-key-of-row-requires
-key-of-row-requires c κs = search needs
+place-of-requires : tie.Need-place-of-requires
+place-of-requires c κs = search needs
 
-is-fake-requires : tie.Need-is-fake-requires
-is-fake-requires c κs = search needs
+in-fake-requires : tie.Need-in-fake-requires
+in-fake-requires c κs =
+    let beat = c .before in
+    let asked = beat .before in
+    let allowed = asked .before in
+    let start = allowed .before .before .before .before in
+    let row = askedRow (start .args .beat) in
+    let through = toZ w32 (ofZ w32 (asked .asked-row .result)) in
+    let back = toZ-ofZ w32 (asked .asked-row .result) (record { sfits = asked .asked-row .ok }) ∙ asked .asked-row .ensures in
+    let yes = sym (allowed .before .taken .ensures) ∙ allowed .if1 .taken in
+    let taken = asked-in (start .args .beat) yes in
+    found-in row through back taken (beat .beat-of-row .result) (start .args .fake-beats .now) (c .place-of .result) (c .place-of .ensures)
 
 answered-requires : tie.Need-answered-requires
 answered-requires c κs = search needs
 
 returns : tie.Need-returns
+unfolding fakeBy
 returns c =
     let fake = c .before in
-    let key = fake .before in
-    let at = key .before in
-    let asked = at .before in
+    let found = fake .before in
+    let beat = found .before in
+    let asked = beat .before in
     let allowed = asked .before in
     let start = allowed .before .before .before .before in
+    let row = askedRow (start .args .beat) in
+    let through = toZ w32 (ofZ w32 (asked .asked-row .result)) in
     let back = toZ-ofZ w32 (asked .asked-row .result) (record { sfits = asked .asked-row .ok }) ∙ asked .asked-row .ensures in
-    c .answered .ensures
-    ∙ taken-row (fakeBy (start .args .fake-beats .now) (start .args .fake-lengths .now)) (askedRow (start .args .beat)) (inRange (rangeOf Beat) (start .args .beat)) (at .note-row-to-beat-f32 .result) (key .key-of-row .result) (fake .is-fake .result) (rw back at (at .note-row-to-beat-f32 .ensures)) (rw back at (key .key-of-row .ensures)) (sym (allowed .before .taken .ensures) ∙ allowed .if1 .taken) (fake .is-fake .ensures)
+    let yes = sym (allowed .before .taken .ensures) ∙ allowed .if1 .taken in
+    let taken = asked-in (start .args .beat) yes in
+    c .answered .ensures ∙ taken-row (fakeBy (start .args .fake-beats .now) (start .args .fake-lengths .now)) row (inRange (rangeOf Beat) (start .args .beat)) through back yes (beat .beat-of-row .result) (beat .beat-of-row .ensures) (fake .in-fake .result) (rw (found .place-of .ensures) at (fake .in-fake .ensures))
 
 returns-2 : tie.Need-returns-2
 returns-2 c =
@@ -47,4 +66,14 @@ returns-2 c =
     refused-row (fakeBy (start .args .fake-beats .now) (start .args .fake-lengths .now)) (askedRow (start .args .beat)) (inRange (rangeOf Beat) (start .args .beat)) (sym (c .before .taken .ensures) ∙ c .if1 .left)
 
 pub is-fake-at-beat-checked-spec : {M : Type 1} → statement M
-is-fake-at-beat-checked-spec = tie.close (tie.spec taken-requires asked-row-requires note-row-to-beat-f32-requires key-of-row-requires is-fake-requires answered-requires returns returns-2)
+is-fake-at-beat-checked-spec =
+    tie.close
+    (tie.spec
+    taken-requires
+    asked-row-requires
+    beat-of-row-requires
+    place-of-requires
+    in-fake-requires
+    answered-requires
+    returns
+    returns-2)

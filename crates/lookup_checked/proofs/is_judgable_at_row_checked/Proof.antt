@@ -1,12 +1,16 @@
--- `lookup_checked::is_judgable_at_row_checked` answers by the row's beat and key, or refuses the row. Assumes nothing.
-use mathlib.Core.Path.{sym, _∙_}
+-- `lookup_checked::is_judgable_at_row_checked` answers by the row's beat, or refuses the row. Assumes nothing.
+use mathlib.Core.Path.{sym, ap, _∙_}
+use mathlib.Core.Bool.{not}
 use mathlib.Core.Logic.{inl, inr}
-use mathlib.Core.Bool.{false, not}
 use mir.Syntax.{w32}
+use mir.Val.{toZ, ofZ}
 use mir.ValLaws.{toZ-ofZ}
 use Rattle.limits.specs.Numbers.{rowIn}
-use Rattle.lookup_checked.specs.Checked.{warpedBy, judgableBy}
-use Rattle.lookup_checked.proofs.AnswersAtRow.{taken-row, refused-row}
+use Rattle.rows.specs.RowKey.{rowKey}
+use Rattle.order_search.specs.Search.{placeOf}
+use Rattle.lookup.specs.Lookups.{warpCovers}
+use Rattle.lookup_checked.specs.Checked.{lastCovers, unpausedBy, fakeBy, warpedBy, judgableBy}
+use Rattle.lookup_checked.proofs.AnswersAtRow.{taken-row, refused-row, near, found-in, still-taken, in-warp-only, elsewhere}
 use borrow.Author.Needs.{needs}
 use Rattle.lookup_checked.proofs.is_judgable_at_row_checked.Statement.{statement}
 use Rattle.lookup_checked.proofs.is_judgable_at_row_checked.Tie as tie
@@ -14,57 +18,109 @@ use Rattle.lookup_checked.proofs.is_judgable_at_row_checked.Tie as tie
 row-taken-requires : tie.Need-row-taken-requires
 row-taken-requires c κs = search needs
 
-note-row-to-beat-f32-requires : tie.Need-note-row-to-beat-f32-requires
-note-row-to-beat-f32-requires c κs = search needs
+beat-of-row-requires : tie.Need-beat-of-row-requires
+beat-of-row-requires c κs =
+    let start = c .before .before .before .before .before .before .before .before .before .before in
+    let row = start .args .row in
+    let back = toZ-ofZ w32 row (start .fits .row) in
+    near row (toZ w32 (ofZ w32 row)) back (sym (rw back at (c .before .row-taken .ensures)) ∙ c .if1 .taken)
 
-key-of-row-requires : tie.Need-key-of-row-requires
-key-of-row-requires c κs = search needs
+place-of-requires : tie.Need-place-of-requires
+place-of-requires c κs = search needs
+
+place-of-requires-2 : tie.Need-place-of-requires-2
+place-of-requires-2 c κs = search needs
+
+in-fake-requires : tie.Need-in-fake-requires
+in-fake-requires c κs =
+    let beat = c .before .before in
+    let allowed = beat .before in
+    let start = allowed .before .before .before .before .before .before .before .before .before .before in
+    let row = start .args .row in
+    let through = toZ w32 (ofZ w32 row) in
+    let back = toZ-ofZ w32 row (start .fits .row) in
+    let yes = sym (rw back at (allowed .before .row-taken .ensures)) ∙ allowed .if1 .taken in
+    let taken = yes in
+    found-in row through back taken (beat .beat-of-row .result) (start .args .fake-beats .now) (c .place-of2 .result) (c .place-of2 .ensures)
 
 in-warp-requires : tie.Need-in-warp-requires
-in-warp-requires c κs = search needs
+in-warp-requires c κs =
+    let warp = c .before .before in
+    let beat = warp .before in
+    let allowed = beat .before in
+    let start = allowed .before .before .before .before .before .before .before .before .before .before in
+    let row = start .args .row in
+    let through = toZ w32 (ofZ w32 row) in
+    let back = toZ-ofZ w32 row (start .fits .row) in
+    let yes = sym (rw back at (allowed .before .row-taken .ensures)) ∙ allowed .if1 .taken in
+    let taken = yes in
+    found-in row through back taken (beat .beat-of-row .result) (start .args .warp-beats .now) (warp .place-of .result) (warp .place-of .ensures)
 
 is-unpaused-requires : tie.Need-is-unpaused-requires
-is-unpaused-requires c κs = search needs
+is-unpaused-requires c κs =
+    let beat = c .before .before .before .before .before .before in
+    let allowed = beat .before in
+    let start = allowed .before .before .before .before .before .before .before .before .before .before in
+    let row = start .args .row in
+    let through = toZ w32 (ofZ w32 row) in
+    let back = toZ-ofZ w32 row (start .fits .row) in
+    let yes = sym (rw back at (allowed .before .row-taken .ensures)) ∙ allowed .if1 .taken in
+    let taken = yes in
+    still-taken row through back taken
 
 answered-requires : tie.Need-answered-requires
 answered-requires c κs = search needs
 
 returns : tie.Need-returns
-unfolding judgableBy warpedBy
+unfolding judgableBy warpedBy fakeBy
 returns c =
-    let pauses = c .before .before in
-    let inside = pauses .before in
+    let pauses = c .before in
+    let shown = pauses .before in
+    let inside = shown .before in
     let warp = inside .before in
-    let key = warp .before in
-    let at = key .before in
-    let allowed = at .before in
+    let fake = warp .before in
+    let second = fake .before in
+    let first = second .before in
+    let beat = first .before in
+    let allowed = beat .before in
     let start = allowed .before .before .before .before .before .before .before .before .before .before in
-    let back = toZ-ofZ w32 (start .args .row) (start .fits .row) in
-    c .answered .ensures
-    ∙ taken-row (judgableBy (start .args .stop-beats .now) (start .args .stop-values .now) (start .args .delay-beats .now) (start .args .delay-values .now) (start .args .warp-beats .now) (start .args .warp-lengths .now) (start .args .fake-beats .now) (start .args .fake-lengths .now)) (start .args .row) (rowIn (start .args .row)) (at .note-row-to-beat-f32 .result) (key .key-of-row .result) false (rw back at (at .note-row-to-beat-f32 .ensures)) (rw back at (key .key-of-row .ensures)) (sym (rw back at (allowed .before .row-taken .ensures)) ∙ allowed .if1 .taken) (rw (← warp .in-warp .ensures, inside .if2 .taken, ← pauses .is-unpaused .ensures, c .before .if3 .taken))
-
-is-fake-requires : tie.Need-is-fake-requires
-is-fake-requires c κs = search needs
+    let row = start .args .row in
+    let through = toZ w32 (ofZ w32 row) in
+    let back = toZ-ofZ w32 row (start .fits .row) in
+    let yes = sym (rw back at (allowed .before .row-taken .ensures)) ∙ allowed .if1 .taken in
+    let taken = yes in
+    let covers = rw (first .place-of .ensures) at (warp .in-warp .ensures) in
+    let hides = rw (second .place-of2 .ensures) at (fake .in-fake .ensures) in
+    let at = beat .beat-of-row .result in
+    c .answered .ensures ∙ taken-row (judgableBy (start .args .stop-beats .now) (start .args .stop-values .now) (start .args .delay-beats .now) (start .args .delay-values .now) (start .args .warp-beats .now) (start .args .warp-lengths .now) (start .args .fake-beats .now) (start .args .fake-lengths .now)) row (rowIn row) through back yes (beat .beat-of-row .result) (beat .beat-of-row .ensures) (not (pauses .is-unpaused .result)) (rw (pauses .is-unpaused .ensures) (in-warp-only (lastCovers (warpCovers at) (placeOf at (start .args .warp-beats .now)) (rowKey through) (start .args .warp-beats .now) (start .args .warp-lengths .now)) (fakeBy (start .args .fake-beats .now) (start .args .fake-lengths .now) at (rowKey through)) (unpausedBy (start .args .stop-beats .now) (start .args .stop-values .now) (start .args .delay-beats .now) (start .args .delay-values .now) at (rowKey through)) (sym covers ∙ inside .if2 .taken) (ap not (sym hides) ∙ shown .if3 .taken)))
 
 answered-requires-2 : tie.Need-answered-requires-2
 answered-requires-2 c κs = search needs
 
 returns-2 : tie.Need-returns-2
-unfolding judgableBy warpedBy
+unfolding judgableBy warpedBy fakeBy
 returns-2 c =
-    let fake = c .before in
-    let judged = fake .before in
-    let warp = judged .before in
-    let key = warp .before in
-    let at = key .before in
-    let allowed = at .before in
+    let other = c .before in
+    let warp = other .before in
+    let fake = warp .before in
+    let second = fake .before in
+    let first = second .before in
+    let beat = first .before in
+    let allowed = beat .before in
     let start = allowed .before .before .before .before .before .before .before .before .before .before in
-    let back = toZ-ofZ w32 (start .args .row) (start .fits .row) in
+    let row = start .args .row in
+    let through = toZ w32 (ofZ w32 row) in
+    let back = toZ-ofZ w32 row (start .fits .row) in
+    let yes = sym (rw back at (allowed .before .row-taken .ensures)) ∙ allowed .if1 .taken in
+    let taken = yes in
+    let covers = rw (first .place-of .ensures) at (warp .in-warp .ensures) in
+    let hides = rw (second .place-of2 .ensures) at (fake .in-fake .ensures) in
+    let at = beat .beat-of-row .result in
     c .answered2 .ensures
-    ∙ taken-row (judgableBy (start .args .stop-beats .now) (start .args .stop-values .now) (start .args .delay-beats .now) (start .args .delay-values .now) (start .args .warp-beats .now) (start .args .warp-lengths .now) (start .args .fake-beats .now) (start .args .fake-lengths .now)) (start .args .row) (rowIn (start .args .row)) (at .note-row-to-beat-f32 .result) (key .key-of-row .result) (not (fake .is-fake .result)) (rw back at (at .note-row-to-beat-f32 .ensures)) (rw back at (key .key-of-row .ensures)) (sym (rw back at (allowed .before .row-taken .ensures)) ∙ allowed .if1 .taken) (rw (← warp .in-warp .ensures, ← fake .is-fake .ensures) (elim (judged .if2 .came) [
-      | inl p ↦ rw (p .0 .taken, ← p .1 .ensures, p .2 .left)
-      | inr p ↦ rw (p .left)
-    ]))
+    ∙ taken-row (judgableBy (start .args .stop-beats .now) (start .args .stop-values .now) (start .args .delay-beats .now) (start .args .delay-values .now) (start .args .warp-beats .now) (start .args .warp-lengths .now) (start .args .fake-beats .now) (start .args .fake-lengths .now)) row (rowIn row) through back yes (beat .beat-of-row .result) (beat .beat-of-row .ensures) (not (fake .in-fake .result)) (rw hides (elsewhere (lastCovers (warpCovers at) (placeOf at (start .args .warp-beats .now)) (rowKey through) (start .args .warp-beats .now) (start .args .warp-lengths .now)) (fakeBy (start .args .fake-beats .now) (start .args .fake-lengths .now) at (rowKey through)) (unpausedBy (start .args .stop-beats .now) (start .args .stop-values .now) (start .args .delay-beats .now) (start .args .delay-values .now) at (rowKey through)) (elim (other .if2 .came) [
+      | inl p ↦ inl (ap not (sym hides) ∙ p .1 .left)
+      | inr p ↦ inr (sym covers ∙ p .left)
+    ])))
 
 returns-3 : tie.Need-returns-3
 returns-3 c =
@@ -72,4 +128,18 @@ returns-3 c =
     refused-row (judgableBy (start .args .stop-beats .now) (start .args .stop-values .now) (start .args .delay-beats .now) (start .args .delay-values .now) (start .args .warp-beats .now) (start .args .warp-lengths .now) (start .args .fake-beats .now) (start .args .fake-lengths .now)) (start .args .row) (rowIn (start .args .row)) (sym (rw (toZ-ofZ w32 (start .args .row) (start .fits .row)) at (c .before .row-taken .ensures)) ∙ c .if1 .left)
 
 pub is-judgable-at-row-checked-spec : {M : Type 1} → statement M
-is-judgable-at-row-checked-spec = tie.close (tie.spec row-taken-requires note-row-to-beat-f32-requires key-of-row-requires in-warp-requires is-unpaused-requires answered-requires returns is-fake-requires answered-requires-2 returns-2 returns-3)
+is-judgable-at-row-checked-spec =
+    tie.close
+    (tie.spec
+    row-taken-requires
+    beat-of-row-requires
+    place-of-requires
+    place-of-requires-2
+    in-fake-requires
+    in-warp-requires
+    is-unpaused-requires
+    answered-requires
+    returns
+    answered-requires-2
+    returns-2
+    returns-3)

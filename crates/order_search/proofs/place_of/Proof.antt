@@ -1,4 +1,4 @@
--- `order_search::place_of` takes the quarters that pass, until four or less are left to count. Assumes nothing.
+-- `order_search::place_of` takes the quarters that pass, until sixteen or less are left to count. Assumes nothing.
 use Prim.Native.Nat.{ℕ, _+_, _*_, _/_, _≤_}
 use mathlib.Core.Bool.{Bool}
 use mathlib.Core.List.{List}

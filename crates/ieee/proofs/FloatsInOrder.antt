@@ -2,15 +2,15 @@
 use Prim.Native.Nat.{ℕ, _*_, _≤_, _<_, zero-le}
 use mathlib.Core.Path.{_≡_, refl, sym, ap, _∙_, subst}
 use mathlib.Core.Logic.{_⊎_, inl, inr}
-use mathlib.Core.Bool.{Bool, true, false, not, _||_}
+use mathlib.Core.Bool.{Bool, true, false, not}
 use native.Mathlib.Omega.{arith}
 use native.Mathlib.Nat.{le-trans, le-of-eq, le-of-mul-le-mul-right, mul-le-mul-right, mul-right-comm, zero-mul}
 use lib.Dec.{T}
 use lib.IntN.{ℤ}
 use lib.Ieee.{Float, nan, inf, fin, up, down, isNan, lt, eq, le}
 use lib.Ieee.Fits.{down-pos}
 use Rattle.ieee.proofs.SignedSizes.{Ordered, test-ordered, ordered-test}
 use Rattle.ieee.proofs.FloatOrder.{lt-or-le, lt-not-le}
 
 -- ---- fractions: a / x up to b / y, and that up to c / z
 none : (n k : ℕ) → 0 < k → n * k ≡ 0 → n ≡ 0
