@@ -985,7 +985,34 @@ fn same_displayed(
     )
 }
 
-// Each beat by itself, by the call that tests all and, where the scrolls are taken, by the player's over their prefix.
+// A beat by itself, by the call that tests all and, where the scrolls are taken, by the player's over their prefix.
+fn same_position(
+    words: &[u64],
+    numbers_at: usize,
+    positions_at: usize,
+    i: usize,
+    scroll_beats: &[f32],
+    scroll_ratios: &[f32],
+    prefix: &[f64],
+    number: u32,
+    beat: f64,
+) -> bool {
+    let tested = notes_displayed::get_displayed_beat(scroll_beats, scroll_ratios, beat);
+    let player = notes_displayed::get_displayed_beat_checked(
+        scroll_beats,
+        scroll_ratios,
+        prefix,
+        beat,
+    );
+    both(
+        same_displayed(words, numbers_at, positions_at, i, tested),
+        if_taken(
+            number,
+            same_displayed(words, numbers_at, positions_at, i, player),
+        ),
+    )
+}
+
 fn same_positions(
     words: &[u64],
     numbers_at: usize,
@@ -999,30 +1026,82 @@ fn same_positions(
     let mut same = true;
     let mut i = 0;
     while i < asked.len() {
-        let tested = notes_displayed::get_displayed_beat(scroll_beats, scroll_ratios, asked[i]);
-        let player = notes_displayed::get_displayed_beat_checked(
+        let one = same_position(
+            words,
+            numbers_at,
+            positions_at,
+            i,
             scroll_beats,
             scroll_ratios,
             prefix,
+            number,
             asked[i],
         );
-        same = both(
-            same,
-            same_displayed(words, numbers_at, positions_at, i, tested),
-        );
-        same = both(
-            same,
-            if_taken(
-                number,
-                same_displayed(words, numbers_at, positions_at, i, player),
-            ),
-        );
+        same = both(same, one);
         i += 1;
     }
     same
 }
 
-// The prefix of scrolls, and beats drawn by them: all at once, and each by itself.
+// The prefix of scrolls, and beats drawn by it, each by itself.
+fn same_one_by_one(
+    words: &[u64],
+    prefix_at: usize,
+    numbers_at: usize,
+    positions_at: usize,
+    scroll_beats: &[f32],
+    scroll_ratios: &[f32],
+    asked: &[f64],
+) -> bool {
+    let mut prefix_room = [1.5; ROOM];
+    let built = notes_displayed::build_scroll_prefix(scroll_beats, scroll_ratios, &mut prefix_room);
+    let each = same_positions(
+        words,
+        numbers_at,
+        positions_at,
+        scroll_beats,
+        scroll_ratios,
+        &prefix_room,
+        built.number,
+        asked,
+    );
+    let prefix = same_f64s(words, prefix_at, &prefix_room);
+    let answer_at = behind(words, prefix_at);
+    let number = is_u32(built.number, word_at(words, answer_at));
+    let count = built.count == size_at(words, prefix_at);
+    both(both(each, prefix), both(number, count))
+}
+
+// Beats drawn by scrolls, all at once.
+fn same_at_once(
+    words: &[u64],
+    prefix_at: usize,
+    numbers_at: usize,
+    positions_at: usize,
+    scroll_beats: &[f32],
+    scroll_ratios: &[f32],
+    asked: &[f64],
+) -> bool {
+    let mut numbers_room = [77u32; ROOM];
+    let mut positions_room = [1.5; ROOM];
+    let shown = notes_displayed::get_displayed_beats(
+        scroll_beats,
+        scroll_ratios,
+        asked,
+        &mut numbers_room,
+        &mut positions_room,
+    );
+    let numbers = same_u32s(words, numbers_at, &numbers_room);
+    let positions = same_f64s(words, positions_at, &positions_room);
+    let number = is_u32(shown.number, word_at(words, behind(words, prefix_at)));
+    let count = shown.count == asked.len();
+    both(
+        number,
+        if_taken(shown.number, both(count, both(numbers, positions))),
+    )
+}
+
+// Beats drawn by scrolls.
 fn replay_displayed(words: &[u64], floats: &[f32], numbers: &[f64], at: usize) -> Replayed {
     let beats_at = further(at, 1);
     let ratios_at = behind(words, beats_at);
@@ -1030,59 +1109,30 @@ fn replay_displayed(words: &[u64], floats: &[f32], numbers: &[f64], at: usize) -
     let numbers_at = behind(words, asked_at);
     let positions_at = behind(words, numbers_at);
     let prefix_at = behind(words, positions_at);
-    let answer_at = behind(words, prefix_at);
-    let mut prefix_room = [1.5; ROOM];
-    let mut numbers_room = [77u32; ROOM];
-    let mut positions_room = [1.5; ROOM];
-    let built = notes_displayed::build_scroll_prefix(
-        f32_column(floats, words, beats_at),
-        f32_column(floats, words, ratios_at),
-        &mut prefix_room,
+    let scroll_beats = f32_column(floats, words, beats_at);
+    let scroll_ratios = f32_column(floats, words, ratios_at);
+    let asked = f64_column(numbers, words, asked_at);
+    let singly = same_one_by_one(
+        words,
+        prefix_at,
+        numbers_at,
+        positions_at,
+        scroll_beats,
+        scroll_ratios,
+        asked,
     );
-    let shown = notes_displayed::get_displayed_beats(
-        f32_column(floats, words, beats_at),
-        f32_column(floats, words, ratios_at),
-        f64_column(numbers, words, asked_at),
-        &mut numbers_room,
-        &mut positions_room,
-    );
-    let mut same = both(
-        is_u32(built.number, word_at(words, answer_at)),
-        built.count == size_at(words, prefix_at),
-    );
-    same = both(same, same_f64s(words, prefix_at, &prefix_room));
-    same = both(same, shown.number == built.number);
-    same = both(
-        same,
-        if_taken(shown.number, shown.count == size_at(words, asked_at)),
-    );
-    same = both(
-        same,
-        if_taken(shown.number, same_u32s(words, numbers_at, &numbers_room)),
-    );
-    same = both(
-        same,
-        if_taken(
-            shown.number,
-            same_f64s(words, positions_at, &positions_room),
-        ),
-    );
-    same = both(
-        same,
-        same_positions(
-            words,
-            numbers_at,
-            positions_at,
-            f32_column(floats, words, beats_at),
-            f32_column(floats, words, ratios_at),
-            &prefix_room,
-            built.number,
-            f64_column(numbers, words, asked_at),
-        ),
+    let at_once = same_at_once(
+        words,
+        prefix_at,
+        numbers_at,
+        positions_at,
+        scroll_beats,
+        scroll_ratios,
+        asked,
     );
     Replayed {
-        same: same,
-        next: further(answer_at, 1),
+        same: both(singly, at_once),
+        next: further(behind(words, prefix_at), 1),
     }
 }
 
