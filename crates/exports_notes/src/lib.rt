@@ -4,7 +4,7 @@ use notes_displayed::Displayed;
 ghost use mathlib.Core.Path.{_≡_};
 ghost use lib.Ieee.{binary32, binary64};
 ghost use Rattle.ieee_mul_add.specs.MulAdd.{mulAdd};
-ghost use Rattle.notes_displayed.specs.Answers.{displayedAt, checkedAt, PrefixLaid, BeatsDisplayed};
+ghost use Rattle.notes_displayed.specs.Answers.{displayedAt, checkedAt, PrefixLaid};
 ghost use Rattle.notes_rows.specs.RowBeats.{RowsToBeats};
 
 // x * y + z with one rounding.
@@ -58,20 +58,6 @@ pub extern "C" fn marrighentu_get_displayed_beat_checked(
     ensures { λ r. ⌜ r ≡ checkedAt (now («scroll_beats» .entry)) (now («scroll_ratios» .entry)) (now (prefix .entry)) beat ⌝ }
 {
     notes_displayed::get_displayed_beat_checked(scroll_beats, scroll_ratios, prefix, beat)
-}
-
-// Where each of many beats is drawn, after one test of the scrolls.
-#[no_mangle]
-pub extern "C" fn marrighentu_get_displayed_beats(
-    scroll_beats: &[f32],
-    scroll_ratios: &[f32],
-    beats: &[f64],
-    numbers: &mut [u32],
-    positions: &mut [f64],
-) -> Outcome
-    ensures { λ r. ⌜ BeatsDisplayed (now («scroll_beats» .entry)) (now («scroll_ratios» .entry)) (now (beats .entry)) r (now (numbers .entry)) (now (numbers .exit)) (now (positions .entry)) (now (positions .exit)) ⌝ }
-{
-    notes_displayed::get_displayed_beats(scroll_beats, scroll_ratios, beats, numbers, positions)
 }
 
 // The beat of each row of note data.
