@@ -18,7 +18,7 @@ pub fn place_of(column: &[f32], at: f32) -> usize
         base += part * quarters_passed(column, base, part, at);
         size -= part * 3;
     }
-    base + entries_passed(column, base, size, at)
+    base + (entries_passed(column, base, size, at) as usize)
 }
 
 // How many of three quarters have a last entry that is not above a number. Their count goes into a product, so that there is no branch to foresee.
@@ -31,21 +31,27 @@ fn quarters_passed(column: &[f32], base: usize, part: usize, at: f32) -> usize
         + one_if(column[base + part * 3 - 1] <= at)
 }
 
-// How many of some entries in a row are not above a number.
-fn entries_passed(column: &[f32], base: usize, size: usize, at: f32) -> usize
-    requires { ⌜ base + size ≤ length (now column) ⌝ }
+// How many of a few entries in a row are not above a number. Counted in as many bits as an entry has, so that several are counted at a time.
+fn entries_passed(column: &[f32], base: usize, size: usize, at: f32) -> u32
+    requires { ⌜ (base + size ≤ length (now column)) × (size ≤ 16) ⌝ }
     ensures { λ r. ⌜ r ≡ howMany (λ (i : ℕ). le (getD (now (column .entry)) (base + i) nan) at) size ⌝ }
 {
-    let mut passed = 0;
+    let mut passed: u32 = 0;
     let mut i = 0;
     while i < size {
-        passed += one_if(column[base + i] <= at);
+        passed += counted(column[base + i] <= at);
         i += 1;
     }
     passed
 }
 
 fn one_if(yes: bool) -> usize
+    ensures { λ r. ⌜ (r ≡ pick yes 1 0) × (r ≤ 1) ⌝ }
+{
+    if yes { 1 } else { 0 }
+}
+
+fn counted(yes: bool) -> u32
     ensures { λ r. ⌜ (r ≡ pick yes 1 0) × (r ≤ 1) ⌝ }
 {
     if yes { 1 } else { 0 }

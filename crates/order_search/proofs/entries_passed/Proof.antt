@@ -26,17 +26,17 @@ loop-holds : tie.Need-loop-holds Inv-loop μ-loop
 unfolding howMany
 loop-holds c = (omega arith, refl)
 
-add-one-if : tie.Need-add-one-if Inv-loop μ-loop
-add-one-if c = search needs
+add-counted : tie.Need-add-counted Inv-loop μ-loop
+add-counted c = search needs
 
-mul-one-if : tie.Need-mul-one-if Inv-loop μ-loop
-mul-one-if c = search needs
+mul-counted : tie.Need-mul-counted Inv-loop μ-loop
+mul-counted c = search needs
 
-shared-slice-read-one-if : tie.Need-shared-slice-read-one-if Inv-loop μ-loop
-shared-slice-read-one-if c = search needs
+shared-slice-read-counted : tie.Need-shared-slice-read-counted Inv-loop μ-loop
+shared-slice-read-counted c = search needs
 
-one-if-requires : tie.Need-one-if-requires Inv-loop μ-loop
-one-if-requires c κs = search needs
+counted-requires : tie.Need-counted-requires Inv-loop μ-loop
+counted-requires c κs = search needs
 
 add-passed : tie.Need-add-passed Inv-loop μ-loop
 add-passed c =
@@ -44,6 +44,7 @@ add-passed c =
     let start = turn .before .before in
     let i = turn .loop .i in
     let tests = passes (start .args .column .now) (start .args .base) (start .args .at) in
+    let few = start .pre .1 in
     record { fits = omega (arith, how-many-most tests i) }
 
 add-i : tie.Need-add-i Inv-loop μ-loop
@@ -58,7 +59,7 @@ loop-again c =
     let start = turn .before .before in
     let i = turn .loop .i in
     let tests = passes (start .args .column .now) (start .args .base) (start .args .at) in
-    (omega arith, rw (turn .loop .inv .1, c .one-if .ensures .0) (one-more tests i))
+    (omega arith, rw (turn .loop .inv .1, c .counted .ensures .0) (one-more tests i))
 
 returns : tie.Need-returns Inv-loop μ-loop
 returns c =
@@ -74,10 +75,10 @@ entries-passed-spec =
     Inv-loop
     μ-loop
     loop-holds
-    add-one-if
-    mul-one-if
-    shared-slice-read-one-if
-    one-if-requires
+    add-counted
+    mul-counted
+    shared-slice-read-counted
+    counted-requires
     add-passed
     add-i
     loop-less

@@ -62,7 +62,10 @@ loop-again c =
     rw (c .quarters-passed .ensures) (quartering-on (passes (start .args .column .now) (start .args .at)) (length (start .args .column .now)) (turn .loop .base) (turn .loop .size) (turn .loop .inv) (omega arith))
 
 entries-passed-requires : tie.Need-entries-passed-requires Inv-loop μ-loop
-entries-passed-requires c κs = c .before .loop .inv .within
+entries-passed-requires c κs = (c .before .loop .inv .within, omega arith)
+
+cast-result : tie.Need-cast-result Inv-loop μ-loop
+cast-result c = search needs
 
 add-result : tie.Need-add-result Inv-loop μ-loop
 add-result c =
@@ -93,5 +96,6 @@ place-of-spec =
     loop-less
     loop-again
     entries-passed-requires
+    cast-result
     add-result
     returns)
