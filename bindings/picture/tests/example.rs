@@ -35,6 +35,28 @@ fn lists_times_and_a_picture() {
 }
 
 #[test]
+fn where_beats_are_drawn() {
+    let chart = |scrolls: &str| format!("#VERSION:0.83;#BPMS:0=120;#SCROLLS:{scrolls};");
+    let twice = written("drawn-twice.ssc", &chart("4=2"));
+    let lines = said(&[&twice, "--header", "--beats", "3,6"]);
+    assert!(
+        lines.ends_with(
+            "at      beat 3 row 144 1.5 s, judged, drawn at 3\nat      beat 6 row 288 3 s, judged, drawn at 8\n"
+        ),
+        "{lines}"
+    );
+    let json = said(&[&twice, "--header", "--beats", "6", "--json"]);
+    assert!(json.contains("\"displayed\": 8"), "{json}");
+    // an old chart's scrolls fall: nothing is said of asked beats, and the picture says why
+    let svg = scratch("drawn-fallen.svg");
+    let fallen = written("drawn-fallen.ssc", &chart("4=1,8=2,0=2"));
+    let lines = said(&[&fallen, "--header", "--beats", "6", "--svg", svg.to_str().unwrap()]);
+    assert!(lines.ends_with("at      beat 6 row 288 3 s, judged\n"), "{lines}");
+    let picture = fs::read_to_string(svg).unwrap();
+    assert!(picture.contains("no note can be drawn by these scrolls") && picture.contains("(refusal 5)"));
+}
+
+#[test]
 fn the_whole_file() {
     let done = run(&["example.ssc", "--header", "--beats", "1"]);
     assert_eq!(
@@ -117,6 +139,9 @@ fn pictures_have_what_they_are_for() {
     has(1, ">-2 back</text>");
     has(1, ">1.5 over 1.5 s</text>");
     has(1, "scroll at beat 92: -1 times");
+    // and where they draw the beats
+    has(1, ">drawn at beat</text>");
+    has(1, "; -1 times as far apart from there on");
     // values that can be read among more than three hundred tempos
     has(2, "338 tempos, 42 stops, 3 warps");
     let values =
