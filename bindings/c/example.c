@@ -146,6 +146,35 @@ int main(void) {
     for (size_t i = 0; i < filled.count && i < 4; i++) printf("SM stop at beat %g of %g s\n", (double)work[2 * i], (double)work[2 * i + 1]);
     expect(work[0] == 4.0f && work[1] == -4.0f && work[2] == 16.0f && work[3] == 1.0f, "the stops for SM");
 
+    /* where notes are drawn: twice as far apart from beat 4 on, and standing still from beat 8 on */
+    const float scroll_beats[] = {4.0f, 8.0f}, scroll_ratios[] = {2.0f, 0.0f};
+    const double noted[] = {3, 5, 8.5, 1e9}, drawn[] = {3, 6, 12, 0};
+    double prefix[2], positions[4];
+    uint32_t drawn_numbers[4];
+    outcome = marrighentu_build_scroll_prefix(scroll_beats, 2, scroll_ratios, 2, prefix, 2);
+    expect(outcome.number == MARRIGHENTU_TAKEN && outcome.count == 2 && prefix[0] == 4.0 && prefix[1] == 12.0, "the prefix of the scrolls");
+    outcome = marrighentu_get_displayed_beats(scroll_beats, 2, scroll_ratios, 2, noted, 4, drawn_numbers, 4, positions, 4);
+    expect(outcome.number == MARRIGHENTU_TAKEN && outcome.count == 4, "many displayed beats");
+    for (size_t i = 0; i < 4; i++) {
+        marrighentu_displayed one = marrighentu_get_displayed_beat(scroll_beats, 2, scroll_ratios, 2, noted[i]);
+        marrighentu_displayed player = marrighentu_get_displayed_beat_checked(scroll_beats, 2, scroll_ratios, 2, prefix, 2, noted[i]);
+        expect(one.beat == drawn[i] && player.beat == drawn[i] && positions[i] == drawn[i], "a displayed beat");
+        expect(one.number == drawn_numbers[i] && player.number == drawn_numbers[i], "its number");
+        if (one.number == MARRIGHENTU_TAKEN) printf("beat %g is drawn at %g\n", noted[i], one.beat);
+    }
+    expect(drawn_numbers[3] == MARRIGHENTU_BAD_BEAT, "a beat that is not drawn");
+
+    /* the beats of note data's rows, one measure of them empty */
+    const uint8_t note_data[] = "1000\n0100\n,\n,\n0001\n";
+    float row_beats[3];
+    outcome = marrighentu_compute_row_to_beat(note_data, sizeof note_data - 1, row_beats, 3);
+    expect(outcome.number == MARRIGHENTU_TAKEN && outcome.count == 3, "rows of note data");
+    expect(row_beats[0] == 0.0f && row_beats[1] == 2.0f && row_beats[2] == 8.0f, "the beats of the rows");
+
+    /* one rounding where two would lose the answer: (1 + e)(1 - e) - 1 with e = 2^-27 */
+    expect(marrighentu_mul_add_f64(1 + 0x1p-27, 1 - 0x1p-27, -1) == -0x1p-54, "one rounding");
+    expect(marrighentu_mul_add_f32(1 + 0x1p-13f, 1 - 0x1p-13f, -1) == -0x1p-26f, "one rounding at 32 bits");
+
     printf(wrong ? "failed\n" : "all as expected\n");
     return wrong;
 }

@@ -42,11 +42,11 @@ static inline void *marrighentu_room(void *room) {
 /* Why a call is refused. */
 enum marrighentu_refusal {
     MARRIGHENTU_TAKEN = 0,
-    MARRIGHENTU_TOO_LONG = 1,    /* a list has more than 1,024 entries, made warps included */
+    MARRIGHENTU_TOO_LONG = 1,    /* a list has more than 1,024 entries, made warps included, or note data more than 2^20 bytes */
     MARRIGHENTU_UNEVEN = 2,      /* the columns of a list differ in length, or a flat list is odd */
     MARRIGHENTU_BAD_BEAT = 3,    /* a beat beyond 65,536 or a row beyond 3,145,728 on either side, or one that is not finite */
     MARRIGHENTU_BAD_VALUE = 4,   /* a value, a unit or an offset beyond its limit */
-    MARRIGHENTU_NOT_RISING = 5,  /* rows of a list do not rise strictly, or the tempos do not start at beat 0 */
+    MARRIGHENTU_NOT_RISING = 5,  /* rows of a list do not rise strictly, the tempos do not start at beat 0, or scroll beats fall where notes are drawn */
     MARRIGHENTU_FALLS = 6,       /* scrolls or speeds out of order, so that an entry has no place */
     MARRIGHENTU_NO_ROOM = 7,     /* a result is longer than its room */
     MARRIGHENTU_NO_TEMPO = 8,    /* SM stops: a warp and no tempo */
@@ -112,6 +112,12 @@ typedef struct {
     uint32_t number;
     size_t count;
 } marrighentu_outcome;
+
+/* A number, and the beat at which a note is drawn; 0 after a refusal. */
+typedef struct {
+    uint32_t number;
+    double beat;
+} marrighentu_displayed;
 
 /* A number, and how many rows each part of the row store has. */
 typedef struct {
@@ -588,6 +594,52 @@ marrighentu_filled marrighentu_convert_warps_and_delays_to_sm_stops(
     const float *warp_lengths, size_t warp_lengths_length,
     float *work, size_t work_length);
 
+/* ---- where notes stand, and where they are drawn */
+
+/* Where a note on a beat is drawn, in beats, by a timing's scrolls: before the first of them, and where there is none, at the beat itself; else
+ * (beat - its beat) x its ratio behind the last scroll at or before the beat, the last of those on one beat. The list's beats may repeat and may not
+ * fall (MARRIGHENTU_NOT_RISING). All is tested at each question, and the list is walked once.
+ */
+marrighentu_displayed marrighentu_get_displayed_beat(
+    const float *scroll_beats, size_t scroll_beats_length,
+    const float *scroll_ratios, size_t scroll_ratios_length,
+    double beat);
+
+/* For a player: tests a list of scrolls once, and writes for each how far the display has moved up to it. */
+marrighentu_outcome marrighentu_build_scroll_prefix(
+    const float *scroll_beats, size_t scroll_beats_length,
+    const float *scroll_ratios, size_t scroll_ratios_length,
+    double *prefix, size_t prefix_length);
+
+/* The player's question, over scrolls and the prefix that marrighentu_build_scroll_prefix wrote for them: a search by halves. Only the beat is tested;
+ * over another prefix it still returns, with a position that means nothing.
+ */
+marrighentu_displayed marrighentu_get_displayed_beat_checked(
+    const float *scroll_beats, size_t scroll_beats_length,
+    const float *scroll_ratios, size_t scroll_ratios_length,
+    const double *prefix, size_t prefix_length,
+    double beat);
+
+/* Many beats at once: the scrolls are tested once. For each beat its number, MARRIGHENTU_BAD_BEAT where it is refused, and its position, 0 then. */
+marrighentu_outcome marrighentu_get_displayed_beats(
+    const float *scroll_beats, size_t scroll_beats_length,
+    const float *scroll_ratios, size_t scroll_ratios_length,
+    const double *beats, size_t beats_length,
+    uint32_t *numbers, size_t numbers_length,
+    double *positions, size_t positions_length);
+
+/* The beat of each row of note data: measures between commas, the rows of a measure spread evenly over its four beats. A row is a line with a byte
+ * in it that is not blank (9, 10, 12, 13 and 32 are); only a line feed, a comma or the end of the data ends one. A measure without rows writes nothing
+ * and is four beats long. At most 2^20 bytes are taken; half as many places of room, rounded up, always do.
+ */
+marrighentu_outcome marrighentu_compute_row_to_beat(
+    const uint8_t *note_data, size_t note_data_length,
+    float *beats, size_t beats_length);
+
+/* x * y + z with one rounding, as IEEE 754's fusedMultiplyAdd and C's fma, on every machine alike. */
+double marrighentu_mul_add_f64(double x, double y, double z);
+float marrighentu_mul_add_f32(float x, float y, float z);
+
 /* ---- the layout that the port's functions have: a compiler that lays a struct out otherwise is refused */
 
 #ifdef __cplusplus
@@ -606,6 +658,7 @@ MARRIGHENTU_LAYOUT(sizeof(marrighentu_reply) == 24 && offsetof(marrighentu_reply
 MARRIGHENTU_LAYOUT(sizeof(marrighentu_made) == 72 && offsetof(marrighentu_made, cursor) == 8);
 MARRIGHENTU_LAYOUT(sizeof(marrighentu_looked) == 8 && offsetof(marrighentu_looked, yes) == 4);
 MARRIGHENTU_LAYOUT(sizeof(marrighentu_outcome) == 16 && offsetof(marrighentu_outcome, count) == 8);
+MARRIGHENTU_LAYOUT(sizeof(marrighentu_displayed) == 16 && offsetof(marrighentu_displayed, beat) == 8);
 MARRIGHENTU_LAYOUT(sizeof(marrighentu_stored) == 40 && offsetof(marrighentu_stored, fakes) == 32);
 MARRIGHENTU_LAYOUT(sizeof(marrighentu_filled) == 24 && offsetof(marrighentu_filled, own) == 16);
 MARRIGHENTU_LAYOUT(sizeof(marrighentu_processed) == 40 && offsetof(marrighentu_processed, warps) == 24 && offsetof(marrighentu_processed, offset) == 32);

@@ -25,6 +25,8 @@ pub mod clock;
 pub mod lists;
 #[cfg(feature = "port")]
 pub mod lookups;
+#[cfg(feature = "port")]
+pub mod notes;
 pub mod numbers;
 #[cfg(feature = "port")]
 pub mod processing;

@@ -168,6 +168,7 @@ fn timing(seen: &Seen) -> Vec<(&'static str, Json)> {
             ("beat", Json::number(asked.beat)),
             ("row", Json::number(asked.row)),
             ("time", Json::number(asked.time)),
+            ("displayed", asked.displayed.map_or(Json::Null, Json::number)),
             ("warped", Json::Truth(asked.warped)),
             ("fake", Json::Truth(asked.fake)),
             ("judged", Json::Truth(asked.judged())),
@@ -197,6 +198,7 @@ fn timing(seen: &Seen) -> Vec<(&'static str, Json)> {
                 ("row", Json::number(row.row)),
                 ("beat", Json::number(row.beat)),
                 ("time", Json::number(row.time)),
+                ("displayed", row.displayed.map_or(Json::Null, Json::number)),
                 ("judged", Json::Truth(row.judged)),
                 ("notes", Json::List(notes.collect())),
             ])

@@ -8,6 +8,8 @@ pub struct Asked {
     pub beat: f64,
     pub row: i32,
     pub time: f64,
+    /// Where a note there is drawn; none where the scrolls can't be drawn by.
+    pub displayed: Option<f64>,
     pub warped: bool,
     pub fake: bool,
 }
@@ -23,6 +25,8 @@ pub struct NoteRow {
     pub row: i32,
     pub beat: f64,
     pub time: f64,
+    /// Where it is drawn; none where the scrolls can't be drawn by.
+    pub displayed: Option<f64>,
     pub judged: bool,
     pub notes: Vec<Note>,
 }
@@ -49,6 +53,7 @@ fn asked(timing: &Timing, beats: &[f64]) -> Result<Vec<Asked>, String> {
             beat: *beat,
             row: beat_to_note_row(*beat),
             time: time.map_err(refused)?,
+            displayed: timing.displayed_beat(*beat).ok(),
             warped: timing.is_warp_at_beat(*beat).map_err(refused)?,
             fake: timing.is_fake_at_beat(*beat).map_err(refused)?,
         })
@@ -71,7 +76,8 @@ fn note_rows(timing: &Timing, notes: &[Note]) -> Result<Vec<NoteRow>, String> {
     let found = chunks.iter().zip(timing.times(&beats)).zip(judged).map(|((chunk, time), judged)| {
         let row = chunk[0].row;
         let time = time.map_err(|refusal| format!("row {row}: {refusal}"))?;
-        Ok(NoteRow { row, beat: note_row_to_beat(row), time, judged, notes: chunk.to_vec() })
+        let beat = note_row_to_beat(row);
+        Ok(NoteRow { row, beat, time, displayed: timing.displayed_beat(beat).ok(), judged, notes: chunk.to_vec() })
     });
     found.collect()
 }

@@ -33,6 +33,14 @@ fn lanes(row: &NoteRow, count: usize) -> String {
     lanes.into_iter().collect()
 }
 
+/// Where a beat is drawn, where there are scrolls that can be drawn by.
+fn drawn(timing: &Timing, displayed: Option<f64>) -> String {
+    match displayed {
+        Some(position) if !timing.scrolls().is_empty() => format!(", drawn at {position}"),
+        _ => String::new(),
+    }
+}
+
 /// The lists, the asked beats and the notes.
 pub fn seen(seen: &Seen) -> String {
     let mut out = String::new();
@@ -44,14 +52,16 @@ pub fn seen(seen: &Seen) -> String {
             (false, true) => "fake, not judged",
             (true, true) => "warped and fake, not judged",
         };
-        let _ = writeln!(out, "at      beat {} row {} {} s, {judged}", asked.beat, asked.row, asked.time);
+        let drawn = drawn(&seen.timing, asked.displayed);
+        let _ = writeln!(out, "at      beat {} row {} {} s, {judged}{drawn}", asked.beat, asked.row, asked.time);
     }
     let rows = seen.notes.as_deref().unwrap_or(&[]);
     let count = rows.iter().flat_map(|row| &row.notes).map(|note| note.lane + 1).max().unwrap_or(0);
     for row in rows {
         let judged = if row.judged { "judged" } else { "not judged" };
-        let _ =
-            writeln!(out, "note    beat {} row {} {} s, {judged}, {}", row.beat, row.row, row.time, lanes(row, count));
+        let drawn = drawn(&seen.timing, row.displayed);
+        let lanes = lanes(row, count);
+        let _ = writeln!(out, "note    beat {} row {} {} s, {judged}, {lanes}{drawn}", row.beat, row.row, row.time);
     }
     out
 }

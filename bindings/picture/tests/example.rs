@@ -29,8 +29,31 @@ fn lists_times_and_a_picture() {
     for asked in ["beat 4: 2.25 s", "beat 5: 3.75 s", "beat 17: 11.75 s, not judged", "beat 30: 17.083 s"] {
         assert!(texts(&picture).iter().any(|shown| shown.text == asked), "{asked} is not in the picture");
     }
-    // the asked beats, and where the two speeds are reached
-    assert_eq!(picture.matches("<circle").count(), 5 + 2);
+    // the asked beats, where the two speeds are reached, and the scroll from which beats are drawn
+    assert_eq!(picture.matches("<circle").count(), 5 + 2 + 1);
+    assert!(picture.contains("beat 0 is drawn at 0; 1 times as far apart from there on"));
+}
+
+#[test]
+fn where_beats_are_drawn() {
+    let chart = |scrolls: &str| format!("#VERSION:0.83;#BPMS:0=120;#SCROLLS:{scrolls};");
+    let twice = written("drawn-twice.ssc", &chart("4=2"));
+    let lines = said(&[&twice, "--header", "--beats", "3,6"]);
+    assert!(
+        lines.ends_with(
+            "at      beat 3 row 144 1.5 s, judged, drawn at 3\nat      beat 6 row 288 3 s, judged, drawn at 8\n"
+        ),
+        "{lines}"
+    );
+    let json = said(&[&twice, "--header", "--beats", "6", "--json"]);
+    assert!(json.contains("\"displayed\": 8"), "{json}");
+    // an old chart's scrolls fall: nothing is said of asked beats, and the picture says why
+    let svg = scratch("drawn-fallen.svg");
+    let fallen = written("drawn-fallen.ssc", &chart("4=1,8=2,0=2"));
+    let lines = said(&[&fallen, "--header", "--beats", "6", "--svg", svg.to_str().unwrap()]);
+    assert!(lines.ends_with("at      beat 6 row 288 3 s, judged\n"), "{lines}");
+    let picture = fs::read_to_string(svg).unwrap();
+    assert!(picture.contains("no note can be drawn by these scrolls") && picture.contains("(refusal 5)"));
 }
 
 #[test]
@@ -116,6 +139,9 @@ fn pictures_have_what_they_are_for() {
     has(1, ">-2 back</text>");
     has(1, ">1.5 over 1.5 s</text>");
     has(1, "scroll at beat 92: -1 times");
+    // and where they draw the beats
+    has(1, ">drawn at beat</text>");
+    has(1, "; -1 times as far apart from there on");
     // values that can be read among more than three hundred tempos
     has(2, "338 tempos, 42 stops, 3 warps");
     let values =

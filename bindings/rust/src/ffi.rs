@@ -56,6 +56,13 @@ pub struct Outcome {
 
 #[derive(Clone, Copy, Debug)]
 #[repr(C)]
+pub struct Displayed {
+    pub number: u32,
+    pub beat: f64,
+}
+
+#[derive(Clone, Copy, Debug)]
+#[repr(C)]
 pub struct Stored {
     pub number: u32,
     pub stops: usize,
@@ -243,6 +250,20 @@ calls! {
         list warps: f32,
         room work: f32,
     ) -> Filled = "marrighentu_convert_warps_and_delays_to_sm_stops";
+    fn get_displayed_beat(list scrolls: f32, value beat: f64) -> Displayed = "marrighentu_get_displayed_beat";
+    fn build_scroll_prefix(list scrolls: f32, room prefix: f64) -> Outcome = "marrighentu_build_scroll_prefix";
+    fn get_displayed_beat_checked(
+        list scrolls: f32,
+        slice prefix: f64,
+        value beat: f64,
+    ) -> Displayed = "marrighentu_get_displayed_beat_checked";
+    fn get_displayed_beats(
+        list scrolls: f32,
+        slice beats: f64,
+        room numbers: u32,
+        room positions: f64,
+    ) -> Outcome = "marrighentu_get_displayed_beats";
+    fn compute_row_to_beat(slice note_data: u8, room beats: f32) -> Outcome = "marrighentu_compute_row_to_beat";
 }
 
 /// The layout of each struct is that of the C header, where the same figures stand.
@@ -257,6 +278,7 @@ const _: () = {
     assert!(size_of::<Numbered>() == 72 && offset_of!(Numbered, cursor) == 8);
     assert!(size_of::<Looked>() == 8 && offset_of!(Looked, yes) == 4);
     assert!(size_of::<Outcome>() == 16 && offset_of!(Outcome, count) == 8);
+    assert!(size_of::<Displayed>() == 16 && offset_of!(Displayed, beat) == 8);
     assert!(size_of::<Stored>() == 40 && offset_of!(Stored, fakes) == 32);
     assert!(size_of::<Filled>() == 24 && offset_of!(Filled, own) == 16);
     assert!(size_of::<Assembled>() == 72 && offset_of!(Assembled, offset) == 64);

@@ -65,3 +65,25 @@ pub fn note_row_to_beat(row: i32) -> f64 {
 pub fn beat_to_note_row(beat: f64) -> i32 {
     ffi::beat_to_note_row(beat)
 }
+
+/// The most bytes of note data.
+const MOST_NOTE_BYTES: usize = 1 << 20;
+
+/// The beat of each row of note data: measures between commas, the rows of each spread evenly over its four beats. A row is a line with a byte
+/// in it that is not blank, and may end at a comma or at the end of the data too; a measure without rows is four beats all the same.
+///
+/// ```
+/// assert_eq!(marrighentu::row_to_beat(b"1000\n0000\n0100\n0000\n,\n,\n1000\n0001\n")?, [0.0, 1.0, 2.0, 3.0, 8.0, 10.0]);
+/// # Ok::<(), marrighentu::Refusal>(())
+/// ```
+///
+/// # Errors
+/// [`Refusal::TooLong`] for more than 2^20 bytes.
+pub fn row_to_beat(note_data: &[u8]) -> Result<Vec<f32>, Refusal> {
+    // a row has a byte, and another that ends it or is the data's last
+    let mut beats = vec![0.0; note_data.len().min(MOST_NOTE_BYTES).div_ceil(2)];
+    let outcome = ffi::compute_row_to_beat(note_data, &mut beats);
+    refusal::taken(outcome.number, ())?;
+    beats.truncate(outcome.count);
+    Ok(beats)
+}

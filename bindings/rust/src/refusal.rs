@@ -21,7 +21,7 @@ use std::fmt;
 #[non_exhaustive]
 #[repr(u32)]
 pub enum Refusal {
-    /// A list has more than 1,024 entries, or given and made warps together have.
+    /// A list has more than 1,024 entries, or given and made warps together have; or note data has more than 2^20 bytes.
     TooLong = 1,
     /// The columns of one list differ in length.
     Uneven = 2,
@@ -29,7 +29,7 @@ pub enum Refusal {
     BadBeat = 3,
     /// A tempo, a length, a unit or an offset is beyond its limit.
     BadValue = 4,
-    /// The rows of a list do not rise strictly, or the tempos do not start at beat 0.
+    /// The rows of a list do not rise strictly, or the tempos do not start at beat 0; where notes are to be drawn, the beats of the scrolls fall.
     NotRising = 5,
     /// Scrolls or speeds are out of order in such a way that a place for the next one can't be told.
     Falls = 6,

@@ -21,6 +21,8 @@ pub struct Timing {
     speeds: Vec<Speed<f32>>,
     scrolls: Columns<f32>,
     fakes: Columns<f32>,
+    /// how far the display has moved at each scroll; none where the scrolls can't be drawn
+    shown: Option<Vec<f64>>,
     pub(crate) offset: f64,
     pub(crate) global: f64,
     /// by which a cursor's state knows its timing; a clone has the same
@@ -159,6 +161,7 @@ impl Timing {
             speeds,
             scrolls: front(out_scrolls, made.scrolls),
             fakes: front(out_fakes, made.fakes),
+            shown: None,
             offset: song_offset + f64::from(made.offset),
             global: global_offset,
             number: next_number(),
@@ -180,6 +183,7 @@ impl Timing {
             speeds: lists.speeds.clone(),
             scrolls: Columns::of(&lists.scrolls),
             fakes: Columns::of(&lists.fakes),
+            shown: None,
             offset,
             global: global_offset,
             number: next_number(),
@@ -188,10 +192,12 @@ impl Timing {
     }
 
     /// The lists as the clock and as the lookups test them, once: the questions after that refuse only what is asked.
-    fn checked(self) -> Result<Timing, Refusal> {
+    fn checked(mut self) -> Result<Timing, Refusal> {
         let clock = ffi::check_timing(&self.tempos, &self.stops, &self.delays, &self.warps, self.offset, self.global);
         let lookups = ffi::check_lookups(&self.stops, &self.delays, &self.warps, &self.fakes);
         let lowest = [clock, lookups].into_iter().filter(|number| *number != 0).min();
+        let mut shown = vec![0.0; self.scrolls.len()];
+        self.shown = (ffi::build_scroll_prefix(&self.scrolls, &mut shown).number == 0).then_some(shown);
         taken(lowest.unwrap_or(0), self)
     }
 
@@ -291,6 +297,50 @@ impl Timing {
     #[must_use]
     pub fn times(&self, beats: &[f64]) -> Vec<Result<f64, Refusal>> {
         self.cursor().ask_all(beats).into_iter().map(|answer| answer.map(|answer| answer.time)).collect()
+    }
+
+    /// Where a note on a beat is drawn, in beats: scrolls stretch and squeeze the distance between beats, and a negative one draws backward.
+    /// Before the first scroll, and without one, that is the beat itself.
+    ///
+    /// ```
+    /// use marrighentu::{Chart, Format, Timing};
+    ///
+    /// // twice as far apart from beat 4 on
+    /// let chart = Chart { scrolls: vec![(4.0, 2.0)], ..Chart::default() };
+    /// let timing = Timing::assemble(Format::Ssc, &chart, 0.0, 0.0)?;
+    /// assert_eq!(timing.displayed_beat(3.0)?, 3.0);
+    /// assert_eq!(timing.displayed_beat(6.0)?, 8.0);
+    /// # Ok::<(), marrighentu::Refusal>(())
+    /// ```
+    ///
+    /// # Errors
+    /// [`Refusal::BadBeat`] for a beat beyond 65,536. Else [`Refusal::NotRising`] where the beats of the scrolls fall somewhere, as those of some
+    /// old charts do; and of a timing [from lists](Timing::from_lists), whose scrolls are kept as they are given, what else those are refused by.
+    pub fn displayed_beat(&self, beat: f64) -> Result<f64, Refusal> {
+        let shown = match &self.shown {
+            Some(prefix) => ffi::get_displayed_beat_checked(&self.scrolls, prefix, beat),
+            None => ffi::get_displayed_beat(&self.scrolls, beat),
+        };
+        taken(shown.number, shown.beat)
+    }
+
+    /// Where notes on many beats are drawn. A beat that is refused does not stop the ones after it.
+    ///
+    /// ```
+    /// use marrighentu::{Chart, Format, Refusal, Timing};
+    ///
+    /// let chart = Chart { scrolls: vec![(0.0, 0.5), (8.0, -1.0)], ..Chart::default() };
+    /// let timing = Timing::assemble(Format::Ssc, &chart, 0.0, 0.0)?;
+    /// assert_eq!(timing.displayed_beats(&[4.0, 1e9, 10.0])?, [Ok(2.0), Err(Refusal::BadBeat), Ok(2.0)]);
+    /// # Ok::<(), Refusal>(())
+    /// ```
+    ///
+    /// # Errors
+    /// What the scrolls are refused by, as [`displayed_beat`](Timing::displayed_beat) says.
+    pub fn displayed_beats(&self, beats: &[f64]) -> Result<Vec<Result<f64, Refusal>>, Refusal> {
+        let (mut numbers, mut positions) = (vec![0; beats.len()], vec![0.0; beats.len()]);
+        taken(ffi::get_displayed_beats(&self.scrolls, beats, &mut numbers, &mut positions).number, ())?;
+        Ok(numbers.into_iter().zip(positions).map(|(number, position)| taken(number, position)).collect())
     }
 
     /// Whether a row is warped: the last warp that starts at or before it reaches beyond it, and no positive stop or delay is on the row.
@@ -429,6 +479,31 @@ mod tests {
         // two rows for the clock, one for the lookups
         let warps = vec![(41_666.74, 1.0), (41_666.75, 1.0)];
         assert_eq!(made(Lists { warps, ..Lists::default() }), Err(Refusal::NotRising));
+    }
+
+    /// Scrolls that can't be drawn make a timing all the same, and are refused when a note is to be drawn.
+    #[test]
+    fn scrolls_that_fall_are_refused_where_notes_are_drawn() {
+        let scrolls = |scrolls| made(Lists { scrolls, ..Lists::default() }).unwrap();
+        let fallen = scrolls(vec![(4.0, 1.0), (0.0, 2.0)]);
+        assert_eq!(fallen.displayed_beat(1.0), Err(Refusal::NotRising));
+        assert_eq!(fallen.displayed_beat(f64::NAN), Err(Refusal::BadBeat));
+        assert_eq!(fallen.displayed_beats(&[1.0]), Err(Refusal::NotRising));
+        assert_eq!(scrolls(vec![(4.0, f32::NAN)]).displayed_beat(1.0), Err(Refusal::BadValue));
+        assert_eq!(scrolls(vec![]).displayed_beat(-7.5), Ok(-7.5));
+        // of two on one beat the last counts
+        let twice = scrolls(vec![(4.0, 9.0), (4.0, 3.0)]);
+        assert_eq!(twice.displayed_beat(5.0), Ok(7.0));
+        assert_eq!(twice.displayed_beats(&[4.0, 65_537.0, 3.0]), Ok(vec![Ok(4.0), Err(Refusal::BadBeat), Ok(3.0)]));
+    }
+
+    #[test]
+    fn rows_of_note_data_have_beats() {
+        assert_eq!(crate::row_to_beat(b""), Ok(vec![]));
+        // only a line feed ends a row, 11 is no blank, and a row may end at a comma
+        assert_eq!(crate::row_to_beat(b" \t\r\x0c\n1\r2\n\x0b,3"), Ok(vec![0.0, 2.0, 4.0]));
+        assert_eq!(crate::row_to_beat(&vec![b'1'; (1 << 20) + 1]), Err(Refusal::TooLong));
+        assert_eq!(crate::row_to_beat(&b"1\n".repeat(1 << 19)).map(|beats| beats.len()), Ok(1 << 19));
     }
 
     #[test]

@@ -8,6 +8,7 @@ use columns::Outcome;
 use libc::STDIN_FILENO;
 use libc::STDOUT_FILENO;
 use lookup::Looked;
+use notes_displayed::Displayed;
 use process_raw::Processed;
 ghost use Prim.Native.Nat.{_≤_};
 ghost use lib.ListN.{length};
@@ -23,7 +24,7 @@ const ROOM: usize = 300;
 // The bytes that are read at once, and the most words that are stored.
 const PIECE: usize = 4096 * LINE;
 
-const WORDS: usize = 61440;
+const WORDS: usize = 81920;
 
 // Whether a case's call answered as stored, and where the next case begins.
 struct Replayed {
@@ -968,6 +969,192 @@ fn replay_run(words: &[u64], floats: &[f32], numbers: &[f64], at: usize) -> Repl
     }
 }
 
+// ---- notes
+
+// A position, and why there is none.
+fn same_displayed(
+    words: &[u64],
+    numbers_at: usize,
+    positions_at: usize,
+    i: usize,
+    shown: Displayed,
+) -> bool {
+    both(
+        is_u32(shown.number, entry_at(words, numbers_at, i)),
+        is_f64(shown.beat, entry_at(words, positions_at, i)),
+    )
+}
+
+// A beat by itself, by the call that tests all and, where the scrolls are taken, by the player's over their prefix.
+fn same_position(
+    words: &[u64],
+    numbers_at: usize,
+    positions_at: usize,
+    i: usize,
+    scroll_beats: &[f32],
+    scroll_ratios: &[f32],
+    prefix: &[f64],
+    number: u32,
+    beat: f64,
+) -> bool {
+    let tested = notes_displayed::get_displayed_beat(scroll_beats, scroll_ratios, beat);
+    let player = notes_displayed::get_displayed_beat_checked(
+        scroll_beats,
+        scroll_ratios,
+        prefix,
+        beat,
+    );
+    both(
+        same_displayed(words, numbers_at, positions_at, i, tested),
+        if_taken(
+            number,
+            same_displayed(words, numbers_at, positions_at, i, player),
+        ),
+    )
+}
+
+fn same_positions(
+    words: &[u64],
+    numbers_at: usize,
+    positions_at: usize,
+    scroll_beats: &[f32],
+    scroll_ratios: &[f32],
+    prefix: &[f64],
+    number: u32,
+    asked: &[f64],
+) -> bool {
+    let mut same = true;
+    let mut i = 0;
+    while i < asked.len() {
+        let one = same_position(
+            words,
+            numbers_at,
+            positions_at,
+            i,
+            scroll_beats,
+            scroll_ratios,
+            prefix,
+            number,
+            asked[i],
+        );
+        same = both(same, one);
+        i += 1;
+    }
+    same
+}
+
+// The prefix of scrolls, and beats drawn by it, each by itself.
+fn same_one_by_one(
+    words: &[u64],
+    prefix_at: usize,
+    numbers_at: usize,
+    positions_at: usize,
+    scroll_beats: &[f32],
+    scroll_ratios: &[f32],
+    asked: &[f64],
+) -> bool {
+    let mut prefix_room = [1.5; ROOM];
+    let built = notes_displayed::build_scroll_prefix(scroll_beats, scroll_ratios, &mut prefix_room);
+    let each = same_positions(
+        words,
+        numbers_at,
+        positions_at,
+        scroll_beats,
+        scroll_ratios,
+        &prefix_room,
+        built.number,
+        asked,
+    );
+    let prefix = same_f64s(words, prefix_at, &prefix_room);
+    let answer_at = behind(words, prefix_at);
+    let number = is_u32(built.number, word_at(words, answer_at));
+    let count = built.count == size_at(words, prefix_at);
+    both(both(each, prefix), both(number, count))
+}
+
+// Beats drawn by scrolls, all at once.
+fn same_at_once(
+    words: &[u64],
+    prefix_at: usize,
+    numbers_at: usize,
+    positions_at: usize,
+    scroll_beats: &[f32],
+    scroll_ratios: &[f32],
+    asked: &[f64],
+) -> bool {
+    let mut numbers_room = [77u32; ROOM];
+    let mut positions_room = [1.5; ROOM];
+    let shown = notes_displayed::get_displayed_beats(
+        scroll_beats,
+        scroll_ratios,
+        asked,
+        &mut numbers_room,
+        &mut positions_room,
+    );
+    let numbers = same_u32s(words, numbers_at, &numbers_room);
+    let positions = same_f64s(words, positions_at, &positions_room);
+    let number = is_u32(shown.number, word_at(words, behind(words, prefix_at)));
+    let count = shown.count == asked.len();
+    both(
+        number,
+        if_taken(shown.number, both(count, both(numbers, positions))),
+    )
+}
+
+// Beats drawn by scrolls.
+fn replay_displayed(words: &[u64], floats: &[f32], numbers: &[f64], at: usize) -> Replayed {
+    let beats_at = further(at, 1);
+    let ratios_at = behind(words, beats_at);
+    let asked_at = behind(words, ratios_at);
+    let numbers_at = behind(words, asked_at);
+    let positions_at = behind(words, numbers_at);
+    let prefix_at = behind(words, positions_at);
+    let scroll_beats = f32_column(floats, words, beats_at);
+    let scroll_ratios = f32_column(floats, words, ratios_at);
+    let asked = f64_column(numbers, words, asked_at);
+    let singly = same_one_by_one(
+        words,
+        prefix_at,
+        numbers_at,
+        positions_at,
+        scroll_beats,
+        scroll_ratios,
+        asked,
+    );
+    let at_once = same_at_once(
+        words,
+        prefix_at,
+        numbers_at,
+        positions_at,
+        scroll_beats,
+        scroll_ratios,
+        asked,
+    );
+    Replayed {
+        same: both(singly, at_once),
+        next: further(behind(words, prefix_at), 1),
+    }
+}
+
+// The beats of note data's rows.
+fn replay_row_to_beat(words: &[u64], bytes: &[u8], at: usize) -> Replayed {
+    let data_at = further(at, 1);
+    let beats_at = behind(words, data_at);
+    let answer_at = behind(words, beats_at);
+    let mut beats_room = [1.5f32; ROOM];
+    let outcome = notes_rows::compute_row_to_beat(
+        byte_column(bytes, words, data_at),
+        &mut beats_room,
+    );
+    Replayed {
+        same: both(
+            same_outcome(words, answer_at, outcome),
+            same_f32s(words, beats_at, &beats_room),
+        ),
+        next: further(answer_at, 2),
+    }
+}
+
 // ---- all cases
 
 // A call's number that names none differs, and nothing can follow it.
@@ -992,6 +1179,8 @@ fn replay_case(
         10 => replay_judgable_rows(words, floats, rows, at),
         11 => replay_question(words, floats, at),
         12 => replay_run(words, floats, numbers, at),
+        13 => replay_displayed(words, floats, numbers, at),
+        14 => replay_row_to_beat(words, bytes, at),
         _ => Replayed {
             same: false,
             next: words.len(),

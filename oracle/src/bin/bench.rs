@@ -6,12 +6,13 @@ use oracle::cases::Cases;
 use oracle::charts;
 use oracle::clock::{self, Columns, Cursor};
 use oracle::lookups::{self, Lists};
+use oracle::notes::{self, Scrolls as ScrollList};
 use oracle::processing::{self, Format, Rooms, Sm, Ssc};
 use oracle::random::Random;
 use oracle::sm_stops;
 use oracle::speeds::{self, Columns as SpeedColumns};
 use oracle::tidying::{self, Rows, Scrolls, Tempos, Tidying};
-use oracle::timing::{convert_warps_and_delays_to_sm_stops, probe};
+use oracle::timing::{compute_row_to_beat, convert_warps_and_delays_to_sm_stops, get_displayed_beat, probe};
 use oracle::timings::{Chart, DELAYS, STOPS, TEMPOS, WARPS};
 use std::hint::black_box;
 use std::time::{Duration, Instant};
@@ -63,6 +64,18 @@ fn main() {
     for (name, chart) in [("a typical chart", chart([50, 30, 10, 10])), ("1,000 tempos", chart([1_000, 0, 0, 0]))] {
         ASKED.iter().for_each(|order| bench.clock(name, &chart, *order));
     }
+    println!("nanoseconds a beat of 2,000 in no order, and a multiply-add; the original has the processor's own");
+    for entries in [16, 256, 1_024] {
+        bench.displayed(entries, "usual ratios", &[1.0, 0.5, 2.0, 1.37]);
+        bench.displayed(entries, "any ratio", &[]);
+    }
+    println!("nanoseconds a call");
+    for (name, rows) in
+        [("rows of 4 to 192 a measure", &[4, 8, 12, 16, 24, 32, 48, 64, 192][..]), ("16 rows a measure", &[16])]
+    {
+        bench.row_to_beat(name, rows);
+    }
+    bench.mul_add();
     println!("worst ratio {:.2} ({})", bench.worst.0, bench.worst.1);
 }
 
@@ -273,6 +286,123 @@ impl Bench {
                 black_box(F::port(black_box(&lists), &mut rooms, &lengths));
             },
             || drop(black_box(F::original(black_box(&list), black_box(&segments)))),
+        );
+    }
+}
+
+impl Bench {
+    /// A scroll every beat and a half, with the ratios one after the other or, where none is given, any; beats of rows in no order.
+    fn displayed(&mut self, entries: usize, name: &str, ratios: &[f32]) {
+        let random = &mut Random::new(1, "bench of displayed beats");
+        let ratio = |place: usize, random: &mut Random| match ratios.len() {
+            0 => 0.01 + random.part() as f32 * 4.0,
+            count => ratios[place % count],
+        };
+        let scrolls = ScrollList {
+            beats: (0..entries).map(|place| place as f32 * 1.5).collect(),
+            ratios: (0..entries).map(|place| ratio(place, random)).collect(),
+        };
+        let rows = entries as u64 * 72;
+        let beats: Vec<f64> = (0..2_000).map(|_| random.below(rows) as f64 / 48.0).collect();
+        let (timing, mut prefix) = (scrolls.original(), vec![0.0; entries]);
+        assert_eq!(scrolls.prefix(&mut prefix).number, 0);
+        let (mut numbers, mut positions, mut others) = (vec![0; 2_000], vec![0.0; 2_000], vec![0.0; 2_000]);
+        let mut original = || {
+            for (beat, other) in black_box(&beats).iter().zip(black_box(&mut others)) {
+                *other = get_displayed_beat(black_box(&timing), *beat);
+            }
+        };
+        self.line(
+            &format!("get_displayed_beat_checked over {entries} scrolls, {name}"),
+            beats.len(),
+            || {
+                for (beat, position) in black_box(&beats).iter().zip(black_box(&mut positions)) {
+                    *position = black_box(&scrolls).displayed_checked(black_box(&prefix), *beat).beat;
+                }
+            },
+            &mut original,
+        );
+        self.line(
+            &format!("get_displayed_beats over {entries} scrolls, {name}"),
+            beats.len(),
+            || {
+                black_box(black_box(&scrolls).displayed_each(black_box(&beats), &mut numbers, &mut positions));
+            },
+            &mut original,
+        );
+        self.line(
+            &format!("get_displayed_beat over {entries} scrolls, {name}, tests of the list and all"),
+            beats.len(),
+            || {
+                for (beat, position) in black_box(&beats).iter().zip(black_box(&mut positions)) {
+                    *position = black_box(&scrolls).displayed(*beat).beat;
+                }
+            },
+            &mut original,
+        );
+    }
+
+    /// 200 measures of four lanes, of so many rows in turn.
+    fn row_to_beat(&mut self, name: &str, rows: &[usize]) {
+        let mut data = Vec::new();
+        for measure in 0..200 {
+            (0..rows[measure % rows.len()]).for_each(|row| data.extend_from_slice([b"0100\n", b"0000\n"][row % 2]));
+            data.extend_from_slice(b",\n");
+        }
+        let mut beats = vec![0.0; data.len()];
+        self.line(
+            &format!("compute_row_to_beat of 200 measures, {name}"),
+            1,
+            || {
+                black_box(notes::row_to_beat(black_box(&data), &mut beats));
+            },
+            || drop(black_box(compute_row_to_beat(black_box(&data)))),
+        );
+    }
+
+    /// The multiply-add alone, beside the processor's.
+    fn mul_add(&mut self) {
+        let random = &mut Random::new(1, "bench of the multiply-add");
+        let beat = |random: &mut Random| random.below(48_000) as f64 / 48.0;
+        let grid: Vec<[f64; 3]> = (0..ENTRIES)
+            .map(|place| [beat(random), [1.0, 0.5, 2.0, f64::from(1.37f32)][place % 4], beat(random)])
+            .collect();
+        let seconds: Vec<[f64; 3]> =
+            (0..ENTRIES).map(|_| [random.part() * 200.0, random.part() * 4.0, beat(random)]).collect();
+        let mut out = vec![0.0; ENTRIES];
+        let mut hardware = vec![0.0; ENTRIES];
+        for (name, numbers) in [("beats on rows, usual ratios", grid), ("seconds and any tempo", seconds)] {
+            self.line(
+                &format!("mul_add_f64, {name}"),
+                ENTRIES,
+                || {
+                    for ([a, b, c], out) in black_box(&numbers).iter().zip(black_box(&mut out)) {
+                        *out = notes::mul_add_f64(*a, *b, *c);
+                    }
+                },
+                || {
+                    for ([a, b, c], out) in black_box(&numbers).iter().zip(black_box(&mut hardware)) {
+                        *out = a.mul_add(*b, *c);
+                    }
+                },
+            );
+        }
+        let rows: Vec<[f32; 3]> =
+            (0..ENTRIES).map(|place| [(place % 48) as f32, 4.0 / 48.0, (place / 48) as f32 * 4.0]).collect();
+        let (mut out, mut hardware) = (vec![0.0; ENTRIES], vec![0.0; ENTRIES]);
+        self.line(
+            "mul_add_f32, rows of measures",
+            ENTRIES,
+            || {
+                for ([a, b, c], out) in black_box(&rows).iter().zip(black_box(&mut out)) {
+                    *out = notes::mul_add_f32(*a, *b, *c);
+                }
+            },
+            || {
+                for ([a, b, c], out) in black_box(&rows).iter().zip(black_box(&mut hardware)) {
+                    *out = a.mul_add(*b, *c);
+                }
+            },
         );
     }
 }

@@ -1,6 +1,6 @@
 //! list_vectors: the original's answers to a sample of lists, charts and timings, for the program `replay_lists`.
 
-use oracle::{clock, lookups, processing, sm_stops, speeds, stored, tidying};
+use oracle::{clock, lookups, notes, processing, sm_stops, speeds, stored, tidying};
 
 fn main() {
     let mut cases = Vec::new();
@@ -10,5 +10,6 @@ fn main() {
     sm_stops::stored_cases(&mut cases);
     lookups::stored_cases(&mut cases);
     clock::stored_cases(&mut cases);
+    notes::stored_cases(&mut cases);
     stored::print(&cases);
 }

@@ -50,7 +50,12 @@ fn inputs() -> Vec<Vec<u8>> {
 fn compare(step: usize, program: &str, words: &[String]) -> std::io::Result<ExitCode> {
     let (mut compared, mut different) = (0, 0);
     for input in inputs().into_iter().step_by(step) {
-        let mut child = Command::new(program).args(words).stdin(Stdio::piped()).stdout(Stdio::piped()).stderr(Stdio::null()).spawn()?;
+        let mut child = Command::new(program)
+            .args(words)
+            .stdin(Stdio::piped())
+            .stdout(Stdio::piped())
+            .stderr(Stdio::null())
+            .spawn()?;
         child.stdin.take().expect("a pipe").write_all(&input)?;
         let written = child.wait_with_output()?.stdout;
         compared += 1;

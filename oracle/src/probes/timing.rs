@@ -125,3 +125,13 @@ impl<'a> BeatCursor<'a> {
         }
     }
 }
+
+/// A timing that has a scroll list and nothing else, with the prefix that the original makes of it.
+pub fn scrolled_timing(scrolls: Vec<super::Segment>) -> super::TimingData {
+    super::timing_data_build(0.0, 0.0, Vec::new(), Vec::new(), [0; 5], Vec::new(), [0; 5], Vec::new(), scrolls)
+}
+
+/// How far the display has moved at each scroll.
+pub fn scroll_prefix(timing: &super::TimingData) -> Vec<f64> {
+    timing.scroll_prefix.iter().map(|entry| entry.cum_displayed).collect()
+}

@@ -1,6 +1,8 @@
-//! The picture: time against beat above, then tempos, then pauses, warps and fakes on strips, then scrolls and speeds, over one axis of beats.
+//! The picture: time against beat above, then tempos, then pauses, warps and fakes on strips, then scrolls and speeds, then where scrolls draw the
+//! beats, over one axis of beats.
 
 mod axes;
+mod drawn;
 mod ratios;
 mod steps;
 mod strips;
@@ -9,6 +11,7 @@ mod time;
 use crate::seen::Seen;
 use crate::svg::{Anchor, Area, Svg, Words};
 use axes::{Beats, draw_axis, draw_measures, short};
+use drawn::draw_drawn;
 use marrighentu::Timing;
 use ratios::draw_ratios;
 use steps::draw_tempos;
@@ -79,7 +82,15 @@ pub fn draw(title: &str, seen: &Seen, from: Option<f64>, to: Option<f64>) -> Res
     let first_strip = tempo.bottom + 8.0;
     let below = first_strip + STRIP * strips.len() as f64;
     let ratio = panel(below + 30.0, 110.0);
-    let bottom = if ratios { ratio.bottom } else { below.max(tempo.bottom) };
+    let scrolled = !timing.scrolls().is_empty();
+    let drawn = panel(ratio.bottom + 30.0, 150.0);
+    let bottom = if scrolled {
+        drawn.bottom
+    } else if ratios {
+        ratio.bottom
+    } else {
+        below.max(tempo.bottom)
+    };
 
     let mut svg = Svg::new(WIDTH, bottom + 34.0);
     let mut title: String = title.replace(char::is_control, " ");
@@ -113,6 +124,9 @@ pub fn draw(title: &str, seen: &Seen, from: Option<f64>, to: Option<f64>) -> Res
     }
     if ratios {
         draw_ratios(&mut svg, timing, beats, ratio);
+    }
+    if scrolled {
+        draw_drawn(&mut svg, timing, beats, drawn);
     }
     Ok(svg.end())
 }

@@ -1,0 +1,12 @@
+pub mod OneStepOn
+pub mod WalkedTo
+pub mod ScrollsTaken
+pub mod ByCount
+pub mod EachTwice
+pub mod CheckedIsTested
+pub mod BeforeTheFirst
+pub mod TheLastCounts
+pub mod Outcomes
+pub mod OneOutcome
+pub mod RatioOne
+pub mod AnExample

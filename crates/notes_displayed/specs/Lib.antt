@@ -1,0 +1,3 @@
+pub mod Scrolls
+pub mod Answers
+pub mod inside

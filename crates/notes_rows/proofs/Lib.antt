@@ -1,0 +1,16 @@
+pub mod RowsByteByByte
+pub mod FewRows
+pub mod CountingRows
+pub mod MeasureByMeasure
+pub mod RowByRow
+pub mod MeasureWritesRows
+pub mod WritingMeasures
+pub mod RowsOutcome
+pub mod OneOutcome
+pub mod RowUnits
+pub mod BeatsNeverFall
+pub mod BlankBytesChangeNothing
+pub mod PartsAreTheData
+pub mod RowInItsMeasure
+pub mod OneRoundingMatters
+pub mod MeasuresBeforeIt
