@@ -14,7 +14,7 @@ use Rattle.picks.specs.Pick.{pick}
 use Rattle.rows.specs.Rows.{row}
 use Rattle.chart.specs.Timing.{Timing}
 use Rattle.clock_walk.specs.Events.{sooner, offered, nextEvent, next}
-use Rattle.clock_walk.specs.Passing.{arrived, eventPassed, step, afterWarpEnd, afterTempo, afterDelay, afterStop, afterWarp}
+use Rattle.clock_walk.specs.Passing.{arrived, eventPassed, passing, step, afterWarpEnd, afterTempo, afterDelay, afterStop, afterWarp}
 use Rattle.clock_walk.specs.Walk.{isEvent, due, eventsLeft, walkWithin, walkOn}
 use Rattle.chart.specs.declared.State.{State}
 use Rattle.clock_walk.specs.declared.Next.{Next}
@@ -24,19 +24,19 @@ use Rattle.clock_walk.proofs.RowOrder.{no, le-trans, lt-not, lt-not-sel
 use Rattle.clock_walk.proofs.EarlyTempoApart.{step-grows}
 
 -- the row of an event that is passed is the last row after it
-row-at : (t : Timing) (s : State) (at : ℤ) (time : Float) (k : Event) → isEvent k ≡ true → arrived (t .stopValues) (t .delayValues) (t .warpBeats) (t .warpLengths) s at time k .row ≡ at
+row-at : (t : Timing) (s : State) (at : ℤ) (time number : Float) (k : Event) → isEvent k ≡ true → arrived s at time number k .row ≡ at
 unfolding afterWarpEnd afterTempo afterDelay afterStop afterWarp
-row-at t s at time WarpEnd h = refl
-row-at t s at time Tempo h = refl
-row-at t s at time Delay h = refl
-row-at t s at time Stop h = refl
-row-at t s at time Warp h = refl
-row-at t s at time Asked h = no h
-row-at t s at time NotFound h = no h
+row-at t s at time number WarpEnd h = refl
+row-at t s at time number Tempo h = refl
+row-at t s at time number Delay h = refl
+row-at t s at time number Stop h = refl
+row-at t s at time number Warp h = refl
+row-at t s at time number Asked h = no h
+row-at t s at time number NotFound h = no h
 
 pub step-row : (early : Float) (t : Timing) (r : ℤ) (s : State) → due t r s ≡ true → step early t r s .row ≡ next t r s .row
 unfolding eventPassed
-step-row early t r s e = row-at t s (next t r s .row) _ (next t r s .kind) e
+step-row early t r s e = row-at t s (next t r s .row) _ _ (next t r s .kind) e
 
 -- at most a row
 abbrev pub UpTo : ℤ → ℤ → Type 0

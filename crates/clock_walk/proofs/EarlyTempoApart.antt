@@ -9,7 +9,7 @@ use lib.IntN.{ℤ}
 use lib.Ieee.{Float, add, binary64}
 use Rattle.chart.specs.Timing.{Timing}
 use Rattle.clock_walk.specs.Events.{next}
-use Rattle.clock_walk.specs.Passing.{inForce, timeTo, arrived, eventPassed, step, afterWarpEnd, afterTempo, afterDelay, afterStop, afterWarp}
+use Rattle.clock_walk.specs.Passing.{inForce, timeTo, brings, arrived, eventPassed, passing, step, afterWarpEnd, afterTempo, afterDelay, afterStop, afterWarp}
 use Rattle.clock_walk.specs.Walk.{due, eventsLeft, timeAt, ended, walkWithin, walkOn}
 use Rattle.chart.specs.declared.State.{State}
 use Rattle.clock_walk.specs.declared.Next.{Next}
@@ -18,19 +18,19 @@ use Rattle.clock_walk.specs.declared.Event.{Event}
 use Rattle.clock_walk.specs.declared.Event.the-variants.{WarpEnd, Tempo, Delay, Asked, Stop, Warp, NotFound}
 
 -- places only move on
-pub tempos-grow : (t : Timing) (s : State) (at : ℤ) (time : Float) (k : Event) → s .tempos ≤ arrived (t .stopValues) (t .delayValues) (t .warpBeats) (t .warpLengths) s at time k .tempos
+pub tempos-grow : (t : Timing) (s : State) (at : ℤ) (time number : Float) (k : Event) → s .tempos ≤ arrived s at time number k .tempos
 unfolding afterWarpEnd afterTempo afterDelay afterStop afterWarp
-tempos-grow t s at time WarpEnd = omega arith
-tempos-grow t s at time Tempo = omega arith
-tempos-grow t s at time Delay = omega arith
-tempos-grow t s at time Stop = omega arith
-tempos-grow t s at time Warp = omega arith
-tempos-grow t s at time Asked = omega arith
-tempos-grow t s at time NotFound = omega arith
+tempos-grow t s at time number WarpEnd = omega arith
+tempos-grow t s at time number Tempo = omega arith
+tempos-grow t s at time number Delay = omega arith
+tempos-grow t s at time number Stop = omega arith
+tempos-grow t s at time number Warp = omega arith
+tempos-grow t s at time number Asked = omega arith
+tempos-grow t s at time number NotFound = omega arith
 
 pub step-grows : (early : Float) (t : Timing) (r : ℤ) (s : State) → s .tempos ≤ step early t r s .tempos
 unfolding eventPassed
-step-grows early t r s = tempos-grow t s (next t r s .row) _ (next t r s .kind)
+step-grows early t r s = tempos-grow t s (next t r s .row) _ _ (next t r s .kind)
 
 module _ (one other : Float) where
   force-apart : (values : List Float) (place : ℕ) → 0 < place → inForce one values place ≡ inForce other values place
@@ -42,9 +42,8 @@ module _ (one other : Float) where
   time-apart values s at h = rw (force-apart values (s .tempos) h)
 
   step-apart : (t : Timing) (r : ℤ) (s : State) → 0 < s .tempos → step one t r s ≡ step other t r s
-  unfolding eventPassed
   step-apart t r s h =
-      ap (λ (x : Float). arrived (t .stopValues) (t .delayValues) (t .warpBeats) (t .warpLengths) s (next t r s .row) (add binary64 (s .time) x) (next t r s .kind)) (time-apart (t .tempoValues) s (next t r s .row) h)
+      ap (λ (x : Float). eventPassed s (next t r s) (add binary64 (s .time) x) (brings (t .stopValues) (t .delayValues) (t .warpBeats) (t .warpLengths) s (next t r s .kind))) (time-apart (t .tempoValues) s (next t r s .row) h)
 
   ended-apart : (t : Timing) (r : ℤ) (s : State) (n : ℕ) → 0 < s .tempos → ended one t r s n ≡ ended other t r s n
   unfolding timeAt

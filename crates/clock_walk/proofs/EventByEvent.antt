@@ -8,7 +8,7 @@ use lib.IntN.{ℤ}
 use lib.Ieee.{Float}
 use Rattle.chart.specs.Timing.{Timing}
 use Rattle.clock_walk.specs.Events.{next}
-use Rattle.clock_walk.specs.Passing.{arrived, eventPassed, step, afterWarpEnd, afterTempo, afterDelay, afterStop, afterWarp}
+use Rattle.clock_walk.specs.Passing.{arrived, eventPassed, passing, step, afterWarpEnd, afterTempo, afterDelay, afterStop, afterWarp}
 use Rattle.clock_walk.specs.inside.CanMove.{CanMove}
 use Rattle.clock_walk.specs.Walk.{isEvent, due, one, eventsLeft, ended, walkWithin, walkOn}
 use Rattle.chart.specs.declared.State.{State}
@@ -22,21 +22,21 @@ one-le : (b : Bool) → one b ≤ 1
 one-le true = omega arith
 one-le false = omega arith
 
-fewer : (t : Timing) (s : State) (at : ℤ) (time : Float) (k : Event) → isEvent k ≡ true → Placed t s k
-    → suc (eventsLeft t (arrived (t .stopValues) (t .delayValues) (t .warpBeats) (t .warpLengths) s at time k)) ≤ eventsLeft t s
+fewer : (t : Timing) (s : State) (at : ℤ) (time number : Float) (k : Event) → isEvent k ≡ true → Placed t s k
+    → suc (eventsLeft t (arrived s at time number k)) ≤ eventsLeft t s
 unfolding afterWarpEnd afterTempo afterDelay afterStop afterWarp
-fewer t s at time WarpEnd e p = rw p (omega arith)
-fewer t s at time Tempo e p = omega arith
-fewer t s at time Delay e p = omega arith
-fewer t s at time Stop e p = omega arith
-fewer t s at time Warp e p = let h = one-le (s .warping) in omega arith
-fewer t s at time Asked e p = let z : _≡_ {A = ℕ} 0 1 = cc in absurd (omega arith)
-fewer t s at time NotFound e p = let z : _≡_ {A = ℕ} 0 1 = cc in absurd (omega arith)
+fewer t s at time number WarpEnd e p = rw p (omega arith)
+fewer t s at time number Tempo e p = omega arith
+fewer t s at time number Delay e p = omega arith
+fewer t s at time number Stop e p = omega arith
+fewer t s at time number Warp e p = let h = one-le (s .warping) in omega arith
+fewer t s at time number Asked e p = let z : _≡_ {A = ℕ} 0 1 = cc in absurd (omega arith)
+fewer t s at time number NotFound e p = let z : _≡_ {A = ℕ} 0 1 = cc in absurd (omega arith)
 
 module _ (early : Float) (t : Timing) (r : ℤ) where
   pub left-falls : (s : State) → due t r s ≡ true → eventsLeft t (step early t r s) < eventsLeft t s
   unfolding eventPassed
-  left-falls s e = fewer t s (next t r s .row) _ (next t r s .kind) e (placed t r s)
+  left-falls s e = fewer t s (next t r s .row) _ _ (next t r s .kind) e (placed t r s)
 
   -- ---- any bound that is not below what is left gives the same walk
   enough : (f g : ℕ) (b : Bool) (s : State) (n : ℕ) → due t r s ≡ b → eventsLeft t s ≤ f → eventsLeft t s ≤ g → walkWithin f b early t r s n ≡ walkWithin g b early t r s n
@@ -74,11 +74,11 @@ module _ (early : Float) (t : Timing) (r : ℤ) where
     pub few : n + eventsLeft t s ≤ eventsLeft t start
 
   pub turn : (start s : State) (n : ℕ) (found : Next) (s′ : State) → found ≡ next t r s → isEvent (found .kind) ≡ true
-      → s′ ≡ eventPassed early (t .tempoValues) (t .stopValues) (t .delayValues) (t .warpBeats) (t .warpLengths) s found
+      → s′ ≡ passing early t s found
       → Going start s n → Going start s′ (n + 1) × (eventsLeft t s′ < eventsLeft t s)
   turn start s n found s′ is event after going =
       let d : due t r s ≡ true = ap (λ (m : Next). isEvent (m .kind)) (sym is) ∙ event in
-      let e : s′ ≡ step early t r s = after ∙ ap (λ (m : Next). eventPassed early (t .tempoValues) (t .stopValues) (t .delayValues) (t .warpBeats) (t .warpLengths) s m) is in
+      let e : s′ ≡ step early t r s = after ∙ ap (λ (m : Next). passing early t s m) is in
       let l : eventsLeft t (step early t r s) < eventsLeft t s = left-falls s d in
       let w : eventsLeft t s′ < eventsLeft t s = rw e l in
       let f = going .few in

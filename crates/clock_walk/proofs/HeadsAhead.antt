@@ -16,7 +16,7 @@ use Rattle.picks.specs.Pick.{pick}
 use Rattle.rows.specs.Rows.{row}
 use Rattle.chart.specs.Timing.{Timing}
 use Rattle.clock_walk.specs.Events.{nothingYet, sooner, offered, endOffered, nextEvent}
-use Rattle.clock_walk.specs.Passing.{arrived, eventPassed, afterWarpEnd, afterTempo, afterDelay, afterStop, afterWarp}
+use Rattle.clock_walk.specs.Passing.{arrived, eventPassed, passing, afterWarpEnd, afterTempo, afterDelay, afterStop, afterWarp}
 use Rattle.clock_walk.specs.Quiet.{farthest, rowAt, endRow}
 use Rattle.clock_walk.specs.inside.Heads.{headsOf, headsAfter, nextOf}
 use Rattle.chart.specs.declared.State.{State}
@@ -106,18 +106,18 @@ module _ (h : Heads) where
       ∙ stays (h .warp) Warp warp
 
 -- ---- the heads after an event
-arrived-heads : (t : Timing) (s : State) (at : ℤ) (time : Float) (k : Event) → let s′ = arrived (t .stopValues) (t .delayValues) (t .warpBeats) (t .warpLengths) s at time k in
+arrived-heads : (t : Timing) (s : State) (at : ℤ) (time number : Float) (k : Event) → let s′ = arrived s at time number k in
     headsAfter (t .tempoBeats) (t .stopBeats) (t .delayBeats) (t .warpBeats) (headsOf (t .tempoBeats) (t .stopBeats) (t .delayBeats) (t .warpBeats) s) s′ k ≡ headsOf (t .tempoBeats) (t .stopBeats) (t .delayBeats) (t .warpBeats) s′
 unfolding headsOf endRow afterWarpEnd afterTempo afterDelay afterStop afterWarp
-arrived-heads t s at time WarpEnd = refl
-arrived-heads t s at time Tempo = refl
-arrived-heads t s at time Delay = refl
-arrived-heads t s at time Stop = refl
-arrived-heads t s at time Warp = refl
-arrived-heads t s at time Asked = refl
-arrived-heads t s at time NotFound = refl
+arrived-heads t s at time number WarpEnd = refl
+arrived-heads t s at time number Tempo = refl
+arrived-heads t s at time number Delay = refl
+arrived-heads t s at time number Stop = refl
+arrived-heads t s at time number Warp = refl
+arrived-heads t s at time number Asked = refl
+arrived-heads t s at time number NotFound = refl
 
-pub passed-heads : (early : Float) (t : Timing) (s : State) (n : Next) → let s′ = eventPassed early (t .tempoValues) (t .stopValues) (t .delayValues) (t .warpBeats) (t .warpLengths) s n in
+pub passed-heads : (early : Float) (t : Timing) (s : State) (n : Next) → let s′ = passing early t s n in
     headsAfter (t .tempoBeats) (t .stopBeats) (t .delayBeats) (t .warpBeats) (headsOf (t .tempoBeats) (t .stopBeats) (t .delayBeats) (t .warpBeats) s) s′ (n .kind) ≡ headsOf (t .tempoBeats) (t .stopBeats) (t .delayBeats) (t .warpBeats) s′
 unfolding eventPassed
-passed-heads early t s n = arrived-heads t s (n .row) _ (n .kind)
+passed-heads early t s n = arrived-heads t s (n .row) _ _ (n .kind)

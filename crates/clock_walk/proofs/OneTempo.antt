@@ -9,16 +9,16 @@ use lib.Dec.{ltb, eqb}
 use lib.IntN.{ℤ, pos, negsuc}
 use lib.Signed.{ltZ}
 use lib.ListN.{length, getD}
-use lib.Ieee.{Float, nan, binary64, add}
+use lib.Ieee.{Float, nan, binary64}
 use Rattle.ieee.specs.Constants.{plusZero}
 use Rattle.picks.specs.Pick.{pick}
 use Rattle.rows.specs.Rows.{row}
 use Rattle.chart.specs.Timing.{Timing}
 use Rattle.clock_walk.specs.Events.{next}
-use Rattle.clock_walk.specs.Passing.{earlyTempo, timeTo, eventPassed, step, afterTempo}
+use Rattle.clock_walk.specs.Passing.{earlyTempo, eventPassed, step, afterTempo}
 use Rattle.clock_walk.specs.Quiet.{farthest, rowAt, endRow, isLater, isNextLater, onlyTempos}
 use Rattle.clock_walk.specs.inside.Heads.{headsOf}
-use Rattle.clock_walk.specs.Soon.{tempoPassed, soonOf, walkedSoon}
+use Rattle.clock_walk.specs.Soon.{quietAt, tempoPassed, soonOf, walkedSoon}
 use Rattle.clock_walk.specs.Walk.{timeAt, due, isEvent, walkOn, walk}
 use Rattle.chart.specs.declared.State.{State}
 use Rattle.clock_walk.specs.declared.Next.{Next}
@@ -40,8 +40,9 @@ listed beats place h = go (ltb place (length beats)) h
     go true h = refl
     go false h = no (sym (lt-not-self farthest) ∙ h)
 
-abbrev pub past : Timing → State → ℤ → State
-past t s at = tempoPassed (t .tempoBeats) (t .tempoValues) (t .stopValues) (t .delayValues) (t .warpBeats) (t .warpLengths) s at
+-- the state past the next tempo
+abbrev pub past : Timing → State → State
+past t s = tempoPassed (t .tempoValues) s (rowAt (t .tempoBeats) (s .tempos))
 
 -- the row is before all that is ahead but the tempos
 pub record Others (t : Timing) (r : ℤ) (s : State) : Type 0 where
@@ -58,7 +59,7 @@ module _ (t : Timing) (r : ℤ) (s : State) where
 
   -- nothing is due
   pub none-soon : eqb (s .tempos) 0 ≡ false → Others t r s → ltZ r (rowAt (t .tempoBeats) (s .tempos)) ≡ true
-      → walk t r s ≡ record { state = s; passed = 0; time = add binary64 (s .time) (timeTo plusZero (t .tempoValues) s r) }
+      → walk t r s ≡ record { state = s; passed = 0; time = quietAt (t .tempoValues) s r }
   none-soon e o tempo =
       quiet-end t r s (none-before r (t .tempoBeats) (t .stopBeats) (t .delayBeats) (t .warpBeats) s (o .ofAll) (o .ofEnd) tempo (o .ofDelay) (o .ofStop) (o .ofWarp))
       ∙ rw (no-early e)
@@ -78,26 +79,26 @@ module _ (t : Timing) (r : ℤ) (s : State) where
     there : ltb (s .tempos) (length (t .tempoBeats)) ≡ true
     there = listed (t .tempoBeats) (s .tempos) (le-lt (rowAt (t .tempoBeats) (s .tempos)) r farthest due-by (o .ofAll))
 
-    first-step : step plusZero t r s ≡ past t s (rowAt (t .tempoBeats) (s .tempos))
-    unfolding tempoPassed
-    first-step = rw (first-next, there)
+    first-step : step plusZero t r s ≡ past t s
+    unfolding eventPassed
+    first-step = rw first-next
 
-    others-stay : Others t r (past t s (rowAt (t .tempoBeats) (s .tempos)))
-    unfolding tempoPassed eventPassed afterTempo
-    others-stay = rw there (record { ofAll = o .ofAll; ofEnd = o .ofEnd; ofDelay = o .ofDelay; ofStop = o .ofStop; ofWarp = o .ofWarp })
+    others-stay : Others t r (past t s)
+    unfolding afterTempo
+    others-stay = record { ofAll = o .ofAll; ofEnd = o .ofEnd; ofDelay = o .ofDelay; ofStop = o .ofStop; ofWarp = o .ofWarp }
 
     -- the tempo after the next is later, once one is passed
-    before-next : isNextLater (t .tempoBeats) (s .tempos) r ≡ true → ltZ r (rowAt (t .tempoBeats) (past t s (rowAt (t .tempoBeats) (s .tempos)) .tempos)) ≡ true
-    unfolding tempoPassed eventPassed afterTempo isNextLater
-    before-next h = rw there (later-row r (t .tempoBeats) (s .tempos + 1) (rw there at h) .1)
+    before-next : isNextLater (t .tempoBeats) (s .tempos) r ≡ true → ltZ r (rowAt (t .tempoBeats) (past t s .tempos)) ≡ true
+    unfolding afterTempo isNextLater
+    before-next h = later-row r (t .tempoBeats) (s .tempos + 1) (rw there at h) .1
 
     -- one is due, and no other
-    pub one-soon : eqb (s .tempos) 0 ≡ false → ltZ r (rowAt (t .tempoBeats) (past t s (rowAt (t .tempoBeats) (s .tempos)) .tempos)) ≡ true
-        → let s′ = past t s (rowAt (t .tempoBeats) (s .tempos)) in
-        walk t r s ≡ record { state = s′; passed = 1; time = add binary64 (s′ .time) (timeTo plusZero (t .tempoValues) s′ r) }
+    pub one-soon : eqb (s .tempos) 0 ≡ false → ltZ r (rowAt (t .tempoBeats) (past t s .tempos)) ≡ true
+        → let s′ = past t s in
+        walk t r s ≡ record { state = s′; passed = 1; time = quietAt (t .tempoValues) s′ r }
     unfolding walk timeAt
     one-soon e later =
-        let s′ = past t s (rowAt (t .tempoBeats) (s .tempos)) in
+        let s′ = past t s in
         let o′ = others-stay in
         let asked : next t r s′ ≡ record { row = r; kind = Asked } =
         none-before r (t .tempoBeats) (t .stopBeats) (t .delayBeats) (t .warpBeats) s′ (o′ .ofAll) (o′ .ofEnd) later (o′ .ofDelay) (o′ .ofStop) (o′ .ofWarp) in
@@ -123,12 +124,12 @@ only-tempos t (pos n) s only =
 
 module _ (t : Timing) (r : ℤ) (s : State) where
   abbrev pub soon : Soon
-  soon = soonOf (t .tempoBeats) (t .tempoValues) (t .stopValues) (t .delayValues) (t .warpBeats) (t .warpLengths) s r
+  soon = soonOf (t .tempoBeats) (t .tempoValues) s r
 
   abbrev picked : Bool → Bool → Bool → Soon
   picked a b d =
       pick a (record { state = s; passed = 0; whole = true })
-      (pick b (record { state = s; passed = 0; whole = true }) (pick d (record { state = past t s (rowAt (t .tempoBeats) (s .tempos)); passed = 1; whole = true }) (record { state = s; passed = 0; whole = false })))
+      (pick b (record { state = s; passed = 0; whole = true }) (pick d (record { state = past t s; passed = 1; whole = true }) (record { state = s; passed = 0; whole = false })))
 
   pub soon-few : soon .passed ≤ 1
   unfolding soonOf
@@ -141,14 +142,10 @@ module _ (t : Timing) (r : ℤ) (s : State) where
       go false false false = omega arith
 
   -- a walk that is soon at its end is that walk
-  pub soon-walk : eqb (s .tempos) 0 ≡ false → onlyTempos (t .stopBeats) (t .delayBeats) (t .warpBeats) s r ≡ true → soon .whole ≡ true
-      → walk t r s ≡ walkedSoon (t .tempoValues) r soon
+  pub soon-walk : eqb (s .tempos) 0 ≡ false → Others t r s → soon .whole ≡ true → walk t r s ≡ walkedSoon (t .tempoValues) r soon
   unfolding soonOf
-  soon-walk e only whole = go (isLater (t .tempoBeats) (s .tempos) r) (ltZ r (rowAt (t .tempoBeats) (s .tempos))) (isNextLater (t .tempoBeats) (s .tempos) r) refl refl refl whole
+  soon-walk e o whole = go (isLater (t .tempoBeats) (s .tempos) r) (ltZ r (rowAt (t .tempoBeats) (s .tempos))) (isNextLater (t .tempoBeats) (s .tempos) r) refl refl refl whole
     where
-      o : Others t r s
-      o = only-tempos t r s only
-
       go : (a b d : Bool) → isLater (t .tempoBeats) (s .tempos) r ≡ a → ltZ r (rowAt (t .tempoBeats) (s .tempos)) ≡ b → isNextLater (t .tempoBeats) (s .tempos) r ≡ d → picked a b d .whole ≡ true
           → walk t r s ≡ walkedSoon (t .tempoValues) r (picked a b d)
       go true b d l f g w = none-soon t r s e o (later-row r (t .tempoBeats) (s .tempos) l .1)

@@ -8,7 +8,7 @@ use lib.IntN.{ℤ}
 use lib.Ieee.{Float}
 use Rattle.chart.specs.Timing.{Timing}
 use Rattle.clock_walk.specs.Events.{next}
-use Rattle.clock_walk.specs.Passing.{earlyTempo, arrived, eventPassed, step, afterWarpEnd, afterTempo, afterDelay, afterStop, afterWarp}
+use Rattle.clock_walk.specs.Passing.{earlyTempo, arrived, eventPassed, passing, step, afterWarpEnd, afterTempo, afterDelay, afterStop, afterWarp}
 use Rattle.clock_walk.specs.Walk.{due, eventsLeft, walkWithin, walkOn, walk}
 use Rattle.chart.specs.declared.State.{State}
 use Rattle.clock_walk.specs.declared.Event.{Event}
@@ -33,19 +33,19 @@ pub record PlacesWithin (t : Timing) (s : State) : Type 0 where
   pub delays : s .delays ≤ length (t .delayBeats)
   pub warps : s .warps ≤ length (t .warpBeats)
 
-arrives : (t : Timing) (s : State) (at : ℤ) (time : Float) (k : Event) → Placed t s k → PlacesWithin t s → PlacesWithin t (arrived (t .stopValues) (t .delayValues) (t .warpBeats) (t .warpLengths) s at time k)
+arrives : (t : Timing) (s : State) (at : ℤ) (time number : Float) (k : Event) → Placed t s k → PlacesWithin t s → PlacesWithin t (arrived s at time number k)
 unfolding afterWarpEnd afterTempo afterDelay afterStop afterWarp
-arrives t s at time WarpEnd p w = record { tempos = w .tempos; stops = w .stops; delays = w .delays; warps = w .warps }
-arrives t s at time Tempo p w = record { tempos = omega arith; stops = w .stops; delays = w .delays; warps = w .warps }
-arrives t s at time Delay p w = record { tempos = w .tempos; stops = w .stops; delays = omega arith; warps = w .warps }
-arrives t s at time Stop p w = record { tempos = w .tempos; stops = omega arith; delays = w .delays; warps = w .warps }
-arrives t s at time Warp p w = record { tempos = w .tempos; stops = w .stops; delays = w .delays; warps = omega arith }
-arrives t s at time Asked p w = w
-arrives t s at time NotFound p w = w
+arrives t s at time number WarpEnd p w = record { tempos = w .tempos; stops = w .stops; delays = w .delays; warps = w .warps }
+arrives t s at time number Tempo p w = record { tempos = omega arith; stops = w .stops; delays = w .delays; warps = w .warps }
+arrives t s at time number Delay p w = record { tempos = w .tempos; stops = w .stops; delays = omega arith; warps = w .warps }
+arrives t s at time number Stop p w = record { tempos = w .tempos; stops = omega arith; delays = w .delays; warps = w .warps }
+arrives t s at time number Warp p w = record { tempos = w .tempos; stops = w .stops; delays = w .delays; warps = omega arith }
+arrives t s at time number Asked p w = w
+arrives t s at time number NotFound p w = w
 
 pub places-step : (early : Float) (t : Timing) (r : ℤ) (s : State) → PlacesWithin t s → PlacesWithin t (step early t r s)
 unfolding eventPassed
-places-step early t r s w = arrives t s (next t r s .row) _ (next t r s .kind) (placed t r s) w
+places-step early t r s w = arrives t s (next t r s .row) _ _ (next t r s .kind) (placed t r s) w
 
 pub places-stay : (t : Timing) (r : ℤ) (s : State) → PlacesWithin t s → PlacesWithin t (walk t r s .state)
 unfolding walk

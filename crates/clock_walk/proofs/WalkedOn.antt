@@ -13,7 +13,7 @@ use Rattle.picks.specs.Pick.{pick}
 use Rattle.rows.specs.Rows.{row}
 use Rattle.chart.specs.Timing.{Timing}
 use Rattle.clock_walk.specs.Events.{sooner, offered, nextEvent, next}
-use Rattle.clock_walk.specs.Passing.{eventPassed, step}
+use Rattle.clock_walk.specs.Passing.{passing, step}
 use Rattle.clock_walk.specs.Walk.{isEvent, due, eventsLeft, walkOn}
 use Rattle.chart.specs.declared.State.{State}
 use Rattle.clock_walk.specs.declared.Next.{Next}
@@ -79,7 +79,7 @@ module _ (early : Float) (t : Timing) (r q : ℤ) (later : ltZ q r ≡ false) wh
       let k = left-falls early t r s e in
       let m = same-next t s r q later e in
       let d : due t q s ≡ true = ap (λ (x : Next). isEvent (x .kind)) (sym m) ∙ e in
-      let p : step early t q s ≡ step early t r s = ap (λ (x : Next). eventPassed early (t .tempoValues) (t .stopValues) (t .delayValues) (t .warpBeats) (t .warpLengths) s x) (sym m) in
+      let p : step early t q s ≡ step early t r s = ap (λ (x : Next). passing early t s x) (sym m) in
       walk-on early t q s n d
       ∙ ap (λ (x : State). walkOn early t q x (n + 1)) p
       ∙ by-left f (step early t r s) (n + 1) (omega arith) (due t r (step early t r s)) refl

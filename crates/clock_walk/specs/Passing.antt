@@ -73,27 +73,27 @@ afterTempo s at time = record {
   warping = s .warping;
 }
 
--- a delay and a stop let time pass, warping or not
-unfoldable pub afterDelay : State → ℤ → Float → List Float → State
-afterDelay s at time delayValues = record {
+-- a delay and a stop let so many seconds pass, warping or not
+unfoldable pub afterDelay : State → ℤ → Float → Float → State
+afterDelay s at time seconds = record {
   tempos = s .tempos;
   stops = s .stops;
   delays = s .delays + 1;
   warps = s .warps;
   row = at;
-  time = add binary64 time (getD delayValues (s .delays) nan);
+  time = add binary64 time seconds;
   end = s .end;
   warping = s .warping;
 }
 
-unfoldable pub afterStop : State → ℤ → Float → List Float → State
-afterStop s at time stopValues = record {
+unfoldable pub afterStop : State → ℤ → Float → Float → State
+afterStop s at time seconds = record {
   tempos = s .tempos;
   stops = s .stops + 1;
   delays = s .delays;
   warps = s .warps;
   row = at;
-  time = add binary64 time (getD stopValues (s .stops) nan);
+  time = add binary64 time seconds;
   end = s .end;
   warping = s .warping;
 }
@@ -102,32 +102,48 @@ unfoldable pub larger : Float → Float → Float
 larger old new = pick (lt old new) new old
 
 -- A warp's end is the larger of the old one and its own, which may lie before its beat: then the last row goes back at the end.
-unfoldable pub afterWarp : State → ℤ → Float → List Float → List Float → State
-afterWarp s at time warpBeats warpLengths = record {
+unfoldable pub afterWarp : State → ℤ → Float → Float → State
+afterWarp s at time own = record {
   tempos = s .tempos;
   stops = s .stops;
   delays = s .delays;
   warps = s .warps + 1;
   row = at;
   time = time;
-  end = larger (s .end) (add binary64 (getD warpBeats (s .warps) nan) (getD warpLengths (s .warps) nan));
+  end = larger (s .end) own;
   warping = true;
 }
 
--- the asked beat is no event, and leaves the state as it is
-abbrev pub arrived : (stopValues delayValues warpBeats warpLengths : List Float) → State → ℤ → Float → Event → State
-arrived stopValues delayValues warpBeats warpLengths s at time WarpEnd = afterWarpEnd s at time
-arrived stopValues delayValues warpBeats warpLengths s at time Tempo = afterTempo s at time
-arrived stopValues delayValues warpBeats warpLengths s at time Delay = afterDelay s at time delayValues
-arrived stopValues delayValues warpBeats warpLengths s at time Stop = afterStop s at time stopValues
-arrived stopValues delayValues warpBeats warpLengths s at time Warp = afterWarp s at time warpBeats warpLengths
-arrived stopValues delayValues warpBeats warpLengths s at time Asked = s
-arrived stopValues delayValues warpBeats warpLengths s at time NotFound = s
+-- ---- passing an event
 
-unfoldable pub eventPassed : Float → (tempoValues stopValues delayValues warpBeats warpLengths : List Float) → State → Next → State
-eventPassed early tempoValues stopValues delayValues warpBeats warpLengths s n =
-    arrived stopValues delayValues warpBeats warpLengths s (n .row) (add binary64 (s .time) (timeTo early tempoValues s (n .row))) (n .kind)
+-- the number that the next event of a kind brings: a pause's seconds, a warp's own end; a tempo and a warp's end bring none
+abbrev pub brings : (stopValues delayValues warpBeats warpLengths : List Float) → State → Event → Float
+brings stopValues delayValues warpBeats warpLengths s WarpEnd = plusZero
+brings stopValues delayValues warpBeats warpLengths s Tempo = plusZero
+brings stopValues delayValues warpBeats warpLengths s Delay = getD delayValues (s .delays) nan
+brings stopValues delayValues warpBeats warpLengths s Stop = getD stopValues (s .stops) nan
+brings stopValues delayValues warpBeats warpLengths s Warp = add binary64 (getD warpBeats (s .warps) nan) (getD warpLengths (s .warps) nan)
+brings stopValues delayValues warpBeats warpLengths s Asked = plusZero
+brings stopValues delayValues warpBeats warpLengths s NotFound = plusZero
+
+-- the asked beat is no event, and leaves the state as it is
+abbrev pub arrived : State → ℤ → (time number : Float) → Event → State
+arrived s at time number WarpEnd = afterWarpEnd s at time
+arrived s at time number Tempo = afterTempo s at time
+arrived s at time number Delay = afterDelay s at time number
+arrived s at time number Stop = afterStop s at time number
+arrived s at time number Warp = afterWarp s at time number
+arrived s at time number Asked = s
+arrived s at time number NotFound = s
+
+-- an event that comes at a time, with the number that it brings
+unfoldable pub eventPassed : State → Next → (time number : Float) → State
+eventPassed s n time number = arrived s (n .row) time number (n .kind)
+
+abbrev pub passing : Float → Timing → State → Next → State
+passing early t s n =
+    eventPassed s n (add binary64 (s .time) (timeTo early (t .tempoValues) s (n .row))) (brings (t .stopValues) (t .delayValues) (t .warpBeats) (t .warpLengths) s (n .kind))
 
 -- the state after the next event
 abbrev pub step : Float → Timing → ℤ → State → State
-step early t asked s = eventPassed early (t .tempoValues) (t .stopValues) (t .delayValues) (t .warpBeats) (t .warpLengths) s (next t asked s)
+step early t asked s = passing early t s (next t asked s)

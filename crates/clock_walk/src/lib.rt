@@ -5,16 +5,16 @@ ghost use mathlib.Core.Bool.{true};
 ghost use Prim.Native.Nat.{_<_, _^_};
 ghost use lib.IntN.{_-ℤ_};
 ghost use lib.ListN.{length, getD};
-ghost use lib.Ieee.{nan, binary64, add};
-ghost use Rattle.ieee.specs.Constants.{plusZero, sixty};
+ghost use lib.Ieee.{nan, binary64};
+ghost use Rattle.ieee.specs.Constants.{sixty};
 ghost use Rattle.rows.specs.Rows.{beatOf};
 ghost use Rattle.chart.specs.Timing.{timing};
 ghost use Rattle.clock_walk.specs.Events.{sooner};
 ghost use Rattle.clock_walk.specs.inside.Heads.{headsOf, headsAfter, nextOf};
-ghost use Rattle.clock_walk.specs.Passing.{tempoAt, earlyTempo, inForce, timeTo, larger, afterWarpEnd, afterTempo, afterDelay, afterStop, afterWarp, eventPassed as Passing·passed, firstOr, lastUpTo};
+ghost use Rattle.clock_walk.specs.Passing.{tempoAt, earlyTempo, inForce, timeTo, larger, afterWarpEnd, afterTempo, afterDelay, afterStop, afterWarp, brings, eventPassed, firstOr, lastUpTo};
 ghost use Rattle.clock_walk.specs.inside.CanMove.{CanMove};
 ghost use Rattle.clock_walk.specs.Quiet.{rowAt, endRow, notBefore, isLater, isNextLater, onlyTempos};
-ghost use Rattle.clock_walk.specs.Soon.{tempoPassed, rowAfter, soonOf};
+ghost use Rattle.clock_walk.specs.Soon.{quietAt, soonOf};
 ghost use Rattle.clock_walk.specs.declared.Event.the-variants.{Tempo};
 ghost use Rattle.clock_walk.specs.Walk.{isEvent, isNothing, timeAt, walk};
 
@@ -333,43 +333,32 @@ fn pass_tempo(mut state: State, row: i32, time: f64) -> State
     state
 }
 
-fn pass_delay(mut state: State, row: i32, time: f64, delay_values: &[f32]) -> State
+fn pass_delay(mut state: State, row: i32, time: f64, seconds: f64) -> State
     requires { ⌜ state .delays < 2 ^ 63 ⌝ }
-    ensures { λ r. ⌜ r ≡ afterDelay state row time (now («delay_values» .entry)) ⌝ }
+    ensures { λ r. ⌜ r ≡ afterDelay state row time seconds ⌝ }
 {
-    let later = time + read_at(delay_values, state.delays);
     state.row = row;
-    state.time = later;
+    state.time = time + seconds;
     state.delays = state.delays + 1;
     state
 }
 
-fn pass_stop(mut state: State, row: i32, time: f64, stop_values: &[f32]) -> State
+fn pass_stop(mut state: State, row: i32, time: f64, seconds: f64) -> State
     requires { ⌜ state .stops < 2 ^ 63 ⌝ }
-    ensures { λ r. ⌜ r ≡ afterStop state row time (now («stop_values» .entry)) ⌝ }
+    ensures { λ r. ⌜ r ≡ afterStop state row time seconds ⌝ }
 {
-    let later = time + read_at(stop_values, state.stops);
     state.row = row;
-    state.time = later;
+    state.time = time + seconds;
     state.stops = state.stops + 1;
     state
 }
 
 // The end is the larger of the old one and the warp's own; it is not held at the warp's start.
-fn pass_warp(
-    mut state: State,
-    row: i32,
-    time: f64,
-    warp_beats: &[f32],
-    warp_lengths: &[f32],
-) -> State
+fn pass_warp(mut state: State, row: i32, time: f64, own: f64) -> State
     requires { ⌜ state .warps < 2 ^ 63 ⌝ }
-    ensures { λ r. ⌜ r ≡ afterWarp state row time (now («warp_beats» .entry)) (now («warp_lengths» .entry)) ⌝ }
+    ensures { λ r. ⌜ r ≡ afterWarp state row time own ⌝ }
 {
-    let end = larger_of(
-        state.end,
-        read_at(warp_beats, state.warps) + read_at(warp_lengths, state.warps),
-    );
+    let end = larger_of(state.end, own);
     state.row = row;
     state.time = time;
     state.end = end;
@@ -378,64 +367,44 @@ fn pass_warp(
     state
 }
 
-// Passes one event. Nothing else does.
-fn pass_event(
+// The number that the next event of a kind brings: the seconds of a pause, the own end of a warp.
+fn number_of(
     state: State,
-    next: Next,
-    early: f64,
-    tempo_values: &[f32],
+    kind: Event,
     stop_values: &[f32],
     delay_values: &[f32],
     warp_beats: &[f32],
     warp_lengths: &[f32],
-) -> State
+) -> f64
+    ensures { λ r. ⌜ r ≡ brings (now («stop_values» .entry)) (now («delay_values» .entry)) (now («warp_beats» .entry)) (now («warp_lengths» .entry)) state kind ⌝ }
+{
+    match kind {
+        Event::WarpEnd => 0.0,
+        Event::Tempo => 0.0,
+        Event::Delay => read_at(delay_values, state.delays),
+        Event::Stop => read_at(stop_values, state.stops),
+        Event::Warp => read_at(warp_beats, state.warps) + read_at(warp_lengths, state.warps),
+        Event::Asked => 0.0,
+        Event::NotFound => 0.0,
+    }
+}
+
+// Passes one event, which comes at a time and brings a number. Nothing else does.
+fn pass_event(state: State, next: Next, time: f64, number: f64) -> State
     requires { ⌜ CanMove state (next .kind) ⌝ }
-    ensures { λ r. ⌜ r ≡ Passing·passed early (now («tempo_values» .entry)) (now («stop_values» .entry)) (now («delay_values» .entry)) (now («warp_beats» .entry)) (now («warp_lengths» .entry)) state next ⌝ }
+    ensures { λ r. ⌜ r ≡ eventPassed state next time number ⌝ }
 {
     let row = next.row;
-    let time = state.time + time_to(state, early, tempo_values, row);
     let kind = next.kind;
     match kind {
         Event::WarpEnd => pass_warp_end(state, row, time),
         Event::Tempo => pass_tempo(state, row, time),
-        Event::Delay => pass_delay(state, row, time, delay_values),
-        Event::Stop => pass_stop(state, row, time, stop_values),
-        Event::Warp => pass_warp(state, row, time, warp_beats, warp_lengths),
+        Event::Delay => pass_delay(state, row, time, number),
+        Event::Stop => pass_stop(state, row, time, number),
+        Event::Warp => pass_warp(state, row, time, number),
         Event::Asked => state,
         Event::NotFound => state,
     }
-}
-
-// The state after the tempo that is next, on its row, where one was passed before it; the state as it is where none is left.
-pub fn pass_next_tempo(
-    state: State,
-    row: i32,
-    tempo_beats: &[f32],
-    tempo_values: &[f32],
-    stop_values: &[f32],
-    delay_values: &[f32],
-    warp_beats: &[f32],
-    warp_lengths: &[f32],
-) -> State
-    ensures { λ r. ⌜ r ≡ tempoPassed (now («tempo_beats» .entry)) (now («tempo_values» .entry)) (now («stop_values» .entry)) (now («delay_values» .entry)) (now («warp_beats» .entry)) (now («warp_lengths» .entry)) state row ⌝ }
-{
-    if state.tempos < tempo_beats.len() {
-        let next = Next {
-            row,
-            kind: Event::Tempo,
-        };
-        return pass_event(
-            state,
-            next,
-            0.0,
-            tempo_values,
-            stop_values,
-            delay_values,
-            warp_beats,
-            warp_lengths,
-        );
-    }
-    state
 }
 
 // ---- the walk
@@ -559,16 +528,6 @@ pub fn is_only_tempos(
     false
 }
 
-// The row of the entry after the one at a place, and the greatest i32 where there is none.
-pub fn row_after(beats: &[f32], place: usize) -> i32
-    ensures { λ r. ⌜ r ≡ rowAfter (now (beats .entry)) place ⌝ }
-{
-    if place < beats.len() {
-        return row_at(beats, place + 1);
-    }
-    2147483647
-}
-
 // A walk that passes nothing or its first tempo: the state, how many were passed, and whether that is the whole walk; where it is not, nothing is passed.
 pub struct Soon {
     pub state: State,
@@ -576,18 +535,9 @@ pub struct Soon {
     pub whole: bool,
 }
 
-// A walk to an asked row of which `is_only_tempos` said yes, as far as its first tempo; where it would go on, it is not begun.
-pub fn walk_soon(
-    state: State,
-    asked: i32,
-    tempo_beats: &[f32],
-    tempo_values: &[f32],
-    stop_values: &[f32],
-    delay_values: &[f32],
-    warp_beats: &[f32],
-    warp_lengths: &[f32],
-) -> Soon
-    ensures { λ r. ⌜ r ≡ soonOf (now («tempo_beats» .entry)) (now («tempo_values» .entry)) (now («stop_values» .entry)) (now («delay_values» .entry)) (now («warp_beats» .entry)) (now («warp_lengths» .entry)) state asked ⌝ }
+// A walk to an asked row by which nothing but tempos is due, as far as its first tempo, where a tempo was passed before; where it would go on, it is not begun.
+pub fn walk_soon(state: State, asked: i32, tempo_beats: &[f32], tempo_values: &[f32]) -> Soon
+    ensures { λ r. ⌜ r ≡ soonOf (now («tempo_beats» .entry)) (now («tempo_values» .entry)) state asked ⌝ }
 {
     if is_later(tempo_beats, state.tempos, asked) {
         return Soon {
@@ -605,16 +555,8 @@ pub fn walk_soon(
         };
     }
     if is_next_later(tempo_beats, state.tempos, asked) {
-        let moved = pass_next_tempo(
-            state,
-            first,
-            tempo_beats,
-            tempo_values,
-            stop_values,
-            delay_values,
-            warp_beats,
-            warp_lengths,
-        );
+        let time = quiet_time(state, first, tempo_values);
+        let moved = pass_tempo(state, first, time);
         return Soon {
             state: moved,
             passed: 1,
@@ -630,7 +572,7 @@ pub fn walk_soon(
 
 // The time of a row by which no event is due, where a tempo was passed.
 pub fn quiet_time(state: State, asked: i32, tempo_values: &[f32]) -> f64
-    ensures { λ r. ⌜ r ≡ add binary64 (state .time) (timeTo plusZero (now («tempo_values» .entry)) state asked) ⌝ }
+    ensures { λ r. ⌜ r ≡ quietAt (now («tempo_values» .entry)) state asked ⌝ }
 {
     state.time + time_to(state, 0.0, tempo_values, asked)
 }
@@ -667,16 +609,17 @@ pub fn walk_to(
                 time,
             };
         }
-        state = pass_event(
+        let time = state.time + time_to(state, early, tempo_values, next.row);
+        let kind = next.kind;
+        let number = number_of(
             state,
-            next,
-            early,
-            tempo_values,
+            kind,
             stop_values,
             delay_values,
             warp_beats,
             warp_lengths,
         );
+        state = pass_event(state, next, time, number);
         heads = heads_after(
             heads,
             next,
