@@ -14,18 +14,19 @@ use Rattle.ieee.specs.Constants.{plusZero}
 use Rattle.picks.specs.Pick.{pick}
 use Rattle.rows.specs.Rows.{row}
 use Rattle.chart.specs.Timing.{Timing}
-use Rattle.clock_walk.specs.Events.{next}
-use Rattle.clock_walk.specs.Passing.{earlyTempo, eventPassed, step, afterTempo}
-use Rattle.clock_walk.specs.Quiet.{farthest, rowAt, endRow, isLater, isNextLater, onlyTempos}
-use Rattle.clock_walk.specs.inside.Heads.{headsOf}
+use Rattle.clock_walk.specs.Events.{farthest, ahead}
+use Rattle.clock_walk.specs.Passing.{earlyTempo, eventPassed, afterTempo}
+use Rattle.clock_walk.specs.Quiet.{rowAt, endRow, isLater, isNextLater, onlyTempos}
+use Rattle.clock_walk.specs.Heads.{headsOf}
 use Rattle.clock_walk.specs.Soon.{quietAt, tempoPassed, soonOf, walkedSoon}
-use Rattle.clock_walk.specs.Walk.{timeAt, due, isEvent, walkOn, walk}
+use Rattle.clock_walk.specs.Course.{onward}
+use Rattle.clock_walk.specs.Walk.{isDue, walkOn, walk}
 use Rattle.chart.specs.declared.State.{State}
-use Rattle.clock_walk.specs.declared.Next.{Next}
 use Rattle.clock_walk.specs.declared.Soon.{Soon}
-use Rattle.clock_walk.specs.declared.Event.the-variants.{Tempo, Asked}
-use Rattle.clock_walk.proofs.EventByEvent.{walk-on, walk-end}
-use Rattle.clock_walk.proofs.HeadsAhead.{next-by-heads, tempo-next}
+use Rattle.clock_walk.specs.declared.Event.the-variants.{Tempo}
+use Rattle.clock_walk.specs.declared.Ahead.the-variants.{Found}
+use Rattle.clock_walk.proofs.ClockTest.{first-up-to, walk-on, walk-end}
+use Rattle.clock_walk.proofs.HeadsAhead.{ahead-by-heads, tempo-found}
 use Rattle.clock_walk.proofs.QuietRows.{none-before, quiet-end}
 use Rattle.clock_walk.proofs.LaterBeats.{later-entry, later-row}
 use Rattle.clock_walk.proofs.PlacesWithin.{each-test}
@@ -61,27 +62,30 @@ module _ (t : Timing) (r : ℤ) (s : State) where
   pub none-soon : eqb (s .tempos) 0 ≡ false → Others t r s → ltZ r (rowAt (t .tempoBeats) (s .tempos)) ≡ true
       → walk t r s ≡ record { state = s; passed = 0; time = quietAt (t .tempoValues) s r }
   none-soon e o tempo =
-      quiet-end t r s (none-before r (t .tempoBeats) (t .stopBeats) (t .delayBeats) (t .warpBeats) s (o .ofAll) (o .ofEnd) tempo (o .ofDelay) (o .ofStop) (o .ofWarp))
+      quiet-end t r s (none-before r t s (o .ofAll) (o .ofEnd) tempo (o .ofDelay) (o .ofStop) (o .ofWarp))
       ∙ rw (no-early e)
 
   module _ (o : Others t r s) (due-by : ltZ r (rowAt (t .tempoBeats) (s .tempos)) ≡ false) where
-    first-next : next t r s ≡ record { row = rowAt (t .tempoBeats) (s .tempos); kind = Tempo }
+    first-ahead : ahead t s ≡ Found (record { row = rowAt (t .tempoBeats) (s .tempos); kind = Tempo })
     unfolding headsOf
-    first-next =
-        sym (next-by-heads (t .tempoBeats) (t .stopBeats) (t .delayBeats) (t .warpBeats) s r)
-        ∙ tempo-next (headsOf (t .tempoBeats) (t .stopBeats) (t .delayBeats) (t .warpBeats) s) r
-        (le-lt (rowAt (t .tempoBeats) (s .tempos)) r farthest due-by (o .ofAll)) due-by
+    first-ahead =
+        sym (ahead-by-heads t s)
+        ∙ tempo-found (headsOf (t .tempoBeats) (t .stopBeats) (t .delayBeats) (t .warpBeats) s)
+        (le-lt (rowAt (t .tempoBeats) (s .tempos)) r farthest due-by (o .ofAll))
         (le-lt (rowAt (t .tempoBeats) (s .tempos)) r (rowAt (t .stopBeats) (s .stops)) due-by (o .ofStop))
         (le-lt (rowAt (t .tempoBeats) (s .tempos)) r (rowAt (t .delayBeats) (s .delays)) due-by (o .ofDelay))
         (le-lt (rowAt (t .tempoBeats) (s .tempos)) r (rowAt (t .warpBeats) (s .warps)) due-by (o .ofWarp))
         (le-lt (rowAt (t .tempoBeats) (s .tempos)) r (endRow (s .warping) (s .end)) due-by (o .ofEnd))
 
+    due-now : isDue t r s ≡ true
+    due-now = rw (first-ahead, first-up-to r (record { row = rowAt (t .tempoBeats) (s .tempos); kind = Tempo }) refl due-by)
+
     there : ltb (s .tempos) (length (t .tempoBeats)) ≡ true
     there = listed (t .tempoBeats) (s .tempos) (le-lt (rowAt (t .tempoBeats) (s .tempos)) r farthest due-by (o .ofAll))
 
-    first-step : step plusZero t r s ≡ past t s
+    first-step : onward plusZero t s ≡ past t s
     unfolding eventPassed
-    first-step = rw first-next
+    first-step = rw first-ahead
 
     others-stay : Others t r (past t s)
     unfolding afterTempo
@@ -96,18 +100,15 @@ module _ (t : Timing) (r : ℤ) (s : State) where
     pub one-soon : eqb (s .tempos) 0 ≡ false → ltZ r (rowAt (t .tempoBeats) (past t s .tempos)) ≡ true
         → let s′ = past t s in
         walk t r s ≡ record { state = s′; passed = 1; time = quietAt (t .tempoValues) s′ r }
-    unfolding walk timeAt
+    unfolding walk
     one-soon e later =
         let s′ = past t s in
         let o′ = others-stay in
-        let asked : next t r s′ ≡ record { row = r; kind = Asked } =
-        none-before r (t .tempoBeats) (t .stopBeats) (t .delayBeats) (t .warpBeats) s′ (o′ .ofAll) (o′ .ofEnd) later (o′ .ofDelay) (o′ .ofStop) (o′ .ofWarp) in
-        let due-now : due t r s ≡ true = ap (λ (n : Next). isEvent (n .kind)) first-next in
+        let none : isDue t r s′ ≡ false = none-before r t s′ (o′ .ofAll) (o′ .ofEnd) later (o′ .ofDelay) (o′ .ofStop) (o′ .ofWarp) in
         ap (λ (x : Float). walkOn x t r s 0) (no-early e)
         ∙ walk-on plusZero t r s 0 due-now
         ∙ ap (λ (x : State). walkOn plusZero t r x 1) first-step
-        ∙ walk-end plusZero t r s′ 1 (ap (λ (n : Next). isEvent (n .kind)) asked)
-        ∙ rw asked
+        ∙ walk-end plusZero t r s′ 1 none
 
 pub only-tempos : (t : Timing) (r : ℤ) (s : State) → onlyTempos (t .stopBeats) (t .delayBeats) (t .warpBeats) s r ≡ true → Others t r s
 only-tempos t (negsuc n) s only = no (sym (each-test (t .stopBeats) (t .delayBeats) (t .warpBeats) s (negsuc n) only .notBelow))

@@ -10,11 +10,10 @@ use Rattle.ieee.specs.Constants.{plusZero, sixty}
 use Rattle.picks.specs.Pick.{pick}
 use Rattle.rows.specs.Rows.{beatOf}
 use Rattle.chart.specs.Timing.{Timing}
-use Rattle.clock_walk.specs.Events.{next}
 use Rattle.chart.specs.declared.State.{State}
 use Rattle.clock_walk.specs.declared.Next.{Next}
 use Rattle.clock_walk.specs.declared.Event.{Event}
-use Rattle.clock_walk.specs.declared.Event.the-variants.{WarpEnd, Tempo, Delay, Asked, Stop, Warp, NotFound}
+use Rattle.clock_walk.specs.declared.Event.the-variants.{WarpEnd, Tempo, Delay, Stop, Warp}
 
 -- ---- the tempo in force
 
@@ -46,6 +45,10 @@ inForce early values place = pick (eqb place 0) early (getD values (place - 1) n
 unfoldable pub timeTo : Float → List Float → State → ℤ → Float
 timeTo early tempoValues s at =
     pick (s .warping) plusZero (div binary64 (beatOf binary64 (at -ℤ s .row)) (div binary64 (inForce early tempoValues (s .tempos)) sixty))
+
+-- the time of a row, worked out beside the state
+unfoldable pub timeAt : Float → List Float → State → ℤ → Float
+timeAt early tempoValues s at = add binary64 (s .time) (timeTo early tempoValues s at)
 
 -- ---- the state after an event on a row, at a time
 
@@ -123,18 +126,13 @@ brings stopValues delayValues warpBeats warpLengths s Tempo = plusZero
 brings stopValues delayValues warpBeats warpLengths s Delay = getD delayValues (s .delays) nan
 brings stopValues delayValues warpBeats warpLengths s Stop = getD stopValues (s .stops) nan
 brings stopValues delayValues warpBeats warpLengths s Warp = add binary64 (getD warpBeats (s .warps) nan) (getD warpLengths (s .warps) nan)
-brings stopValues delayValues warpBeats warpLengths s Asked = plusZero
-brings stopValues delayValues warpBeats warpLengths s NotFound = plusZero
 
--- the asked beat is no event, and leaves the state as it is
 abbrev pub arrived : State → ℤ → (time number : Float) → Event → State
 arrived s at time number WarpEnd = afterWarpEnd s at time
 arrived s at time number Tempo = afterTempo s at time
 arrived s at time number Delay = afterDelay s at time number
 arrived s at time number Stop = afterStop s at time number
 arrived s at time number Warp = afterWarp s at time number
-arrived s at time number Asked = s
-arrived s at time number NotFound = s
 
 -- an event that comes at a time, with the number that it brings
 unfoldable pub eventPassed : State → Next → (time number : Float) → State
@@ -142,8 +140,4 @@ eventPassed s n time number = arrived s (n .row) time number (n .kind)
 
 abbrev pub passing : Float → Timing → State → Next → State
 passing early t s n =
-    eventPassed s n (add binary64 (s .time) (timeTo early (t .tempoValues) s (n .row))) (brings (t .stopValues) (t .delayValues) (t .warpBeats) (t .warpLengths) s (n .kind))
-
--- the state after the next event
-abbrev pub step : Float → Timing → ℤ → State → State
-step early t asked s = passing early t s (next t asked s)
+    eventPassed s n (timeAt early (t .tempoValues) s (n .row)) (brings (t .stopValues) (t .delayValues) (t .warpBeats) (t .warpLengths) s (n .kind))

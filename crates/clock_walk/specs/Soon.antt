@@ -4,10 +4,10 @@ use mathlib.Core.Bool.{true, false}
 use mathlib.Core.List.{List}
 use lib.IntN.{ℤ}
 use lib.Signed.{ltZ}
-use lib.Ieee.{Float, binary64, add}
+use lib.Ieee.{Float}
 use Rattle.ieee.specs.Constants.{plusZero}
 use Rattle.picks.specs.Pick.{pick}
-use Rattle.clock_walk.specs.Passing.{timeTo, afterTempo}
+use Rattle.clock_walk.specs.Passing.{timeAt, afterTempo}
 use Rattle.clock_walk.specs.Quiet.{rowAt, isLater, isNextLater}
 use Rattle.chart.specs.declared.State.{State}
 use Rattle.clock_walk.specs.declared.Soon.{Soon}
@@ -15,7 +15,7 @@ use Rattle.clock_walk.specs.declared.Walked.{Walked}
 
 -- the time of a row where a tempo was passed: the tempo that a walk begins with plays no part any more
 abbrev pub quietAt : List Float → State → ℤ → Float
-quietAt tempoValues s at = add binary64 (s .time) (timeTo plusZero tempoValues s at)
+quietAt tempoValues s at = timeAt plusZero tempoValues s at
 
 -- the next tempo passed on a row
 abbrev pub tempoPassed : List Float → State → ℤ → State

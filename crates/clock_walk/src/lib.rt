@@ -9,31 +9,41 @@ ghost use lib.Ieee.{nan, binary64};
 ghost use Rattle.ieee.specs.Constants.{sixty};
 ghost use Rattle.rows.specs.Rows.{beatOf};
 ghost use Rattle.chart.specs.Timing.{timing};
-ghost use Rattle.clock_walk.specs.Events.{sooner};
-ghost use Rattle.clock_walk.specs.inside.Heads.{headsOf, headsAfter, nextOf};
-ghost use Rattle.clock_walk.specs.Passing.{tempoAt, earlyTempo, inForce, timeTo, larger, afterWarpEnd, afterTempo, afterDelay, afterStop, afterWarp, brings, eventPassed, firstOr, lastUpTo};
+ghost use Rattle.clock_walk.specs.Events.{goesFirst, goesBefore, dueOf};
+ghost use Rattle.clock_walk.specs.Heads.{headsOf, headsAfter, soonerHead, leastHead, aheadOf};
+ghost use Rattle.clock_walk.specs.Passing.{tempoAt, earlyTempo, inForce, timeTo, timeAt, larger, afterWarpEnd, afterTempo, afterDelay, afterStop, afterWarp, brings, eventPassed, firstOr, lastUpTo};
 ghost use Rattle.clock_walk.specs.inside.CanMove.{CanMove};
 ghost use Rattle.clock_walk.specs.Quiet.{rowAt, endRow, notBefore, isLater, isNextLater, onlyTempos};
 ghost use Rattle.clock_walk.specs.Soon.{quietAt, soonOf};
 ghost use Rattle.clock_walk.specs.declared.Event.the-variants.{Tempo};
-ghost use Rattle.clock_walk.specs.Walk.{isEvent, isNothing, timeAt, walk};
+ghost use Rattle.clock_walk.specs.declared.Due.the-variants.{Passes};
+ghost use Rattle.clock_walk.specs.Walk.{walk};
 
-// What can be next, in the order in which events of one row come.
+// What a walk passes, in the order in which events of one row come; the asked beat comes between a delay and a stop.
 pub enum Event {
     WarpEnd,
     Tempo,
     Delay,
-    // The asked beat, which ends the walk.
-    Asked,
     Stop,
     Warp,
-    NotFound,
 }
 
-// The next event, and the row it is on.
+// An event, and the row that it is on.
 pub struct Next {
     pub row: i32,
     pub kind: Event,
+}
+
+// What is ahead of a state where no beat is asked.
+pub enum Ahead {
+    Found(Next),
+    NotFound,
+}
+
+// What a walk to an asked beat meets next: an event that goes before the beat, or the beat.
+pub enum Due {
+    Passes(Next),
+    Asked,
 }
 
 // ---- what is ahead
@@ -59,15 +69,15 @@ pub fn end_row(warping: bool, end: f64) -> i32
 }
 
 // The rows of what is ahead of a state: kept between the events of a walk, of which each moves one or two.
-struct Heads {
-    end: i32,
-    tempo: i32,
-    delay: i32,
-    stop: i32,
-    warp: i32,
+pub struct Heads {
+    pub end: i32,
+    pub tempo: i32,
+    pub delay: i32,
+    pub stop: i32,
+    pub warp: i32,
 }
 
-fn heads_of(
+pub fn heads_of(
     state: State,
     tempo_beats: &[f32],
     stop_beats: &[f32],
@@ -91,18 +101,17 @@ fn heads_of(
 }
 
 // The heads after an event of a kind, which left the state.
-fn heads_after(
+pub fn heads_after(
     heads: Heads,
-    next: Next,
+    kind: Event,
     state: State,
     tempo_beats: &[f32],
     stop_beats: &[f32],
     delay_beats: &[f32],
     warp_beats: &[f32],
 ) -> Heads
-    ensures { λ r. ⌜ r ≡ headsAfter (now («tempo_beats» .entry)) (now («stop_beats» .entry)) (now («delay_beats» .entry)) (now («warp_beats» .entry)) heads state (next .kind) ⌝ }
+    ensures { λ r. ⌜ r ≡ headsAfter (now («tempo_beats» .entry)) (now («stop_beats» .entry)) (now («delay_beats» .entry)) (now («warp_beats» .entry)) heads state kind ⌝ }
 {
-    let kind = next.kind;
     match kind {
         Event::WarpEnd => Heads {
             end: 2147483647,
@@ -152,16 +161,14 @@ fn heads_after(
                 warp,
             }
         }
-        Event::Asked => heads,
-        Event::NotFound => heads,
     }
 }
 
-// ---- the next event
+// ---- the two searches
 
 // Only an earlier row takes the place of what was found so far.
 fn earlier(best: Next, row: i32, kind: Event) -> Next
-    ensures { λ r. ⌜ r ≡ sooner best row kind ⌝ }
+    ensures { λ r. ⌜ r ≡ soonerHead best row kind ⌝ }
 {
     let found = best.row;
     if row < found {
@@ -170,17 +177,70 @@ fn earlier(best: Next, row: i32, kind: Event) -> Next
     best
 }
 
-// True only where a tempo is next, which most events of many charts are: no other head is looked at twice.
-fn is_tempo_next(heads: Heads, asked: i32) -> bool
-    ensures { λ r. ⌜ (r ≡ true → nextOf heads asked ≡ record { row = heads .tempo; kind = Tempo }) ⌝ }
+// The least row, and on one row what comes first. Where there is none the greatest i32, as a warp's, which goes before no beat.
+fn least_head(heads: Heads) -> Next
+    ensures { λ r. ⌜ r ≡ leastHead heads ⌝ }
 {
-    if heads.tempo < asked {
-        if heads.tempo < heads.stop {
-            if heads.tempo < heads.delay {
-                if heads.tempo < heads.warp {
-                    return heads.tempo < heads.end;
-                }
-                return false;
+    let none = Next {
+        row: 2147483647,
+        kind: Event::Warp,
+    };
+    let end = earlier(none, heads.end, Event::WarpEnd);
+    let tempo = earlier(end, heads.tempo, Event::Tempo);
+    let delay = earlier(tempo, heads.delay, Event::Delay);
+    let stop = earlier(delay, heads.stop, Event::Stop);
+    earlier(stop, heads.warp, Event::Warp)
+}
+
+// What is ahead where no beat is asked.
+pub fn find_ahead(heads: Heads) -> Ahead
+    ensures { λ r. ⌜ r ≡ aheadOf heads ⌝ }
+{
+    let next = least_head(heads);
+    if next.row < 2147483647 {
+        return Ahead::Found(next);
+    }
+    Ahead::NotFound
+}
+
+fn goes_first(kind: Event) -> bool
+    ensures { λ r. ⌜ r ≡ goesFirst kind ⌝ }
+{
+    match kind {
+        Event::WarpEnd => true,
+        Event::Tempo => true,
+        Event::Delay => true,
+        Event::Stop => false,
+        Event::Warp => false,
+    }
+}
+
+// Whether an event goes before an asked beat: it is on a lower row, or on the same one and goes first there.
+fn goes_before(next: Next, asked: i32) -> bool
+    ensures { λ r. ⌜ r ≡ goesBefore asked next ⌝ }
+{
+    let row = next.row;
+    if row < asked {
+        return true;
+    }
+    if asked < row {
+        return false;
+    }
+    let kind = next.kind;
+    goes_first(kind)
+}
+
+// True only where a tempo is due, which most events of many charts are: no other head is looked at twice.
+fn is_tempo_due(heads: Heads, asked: i32) -> bool
+    ensures { λ r. ⌜ (r ≡ true → dueOf asked (aheadOf heads) ≡ Passes (record { row = heads .tempo; kind = Tempo })) ⌝ }
+{
+    if asked < heads.tempo {
+        return false;
+    }
+    if heads.tempo < heads.stop {
+        if heads.tempo < heads.delay {
+            if heads.tempo < heads.warp {
+                return heads.tempo < heads.end;
             }
             return false;
         }
@@ -189,26 +249,22 @@ fn is_tempo_next(heads: Heads, asked: i32) -> bool
     false
 }
 
-// What is next: the least row, and on one row what comes first.
-fn find_next_event(heads: Heads, asked: i32) -> Next
-    ensures { λ r. ⌜ r ≡ nextOf heads asked ⌝ }
+// What is due: an event that goes before the asked beat, or the beat.
+fn find_due(heads: Heads, asked: i32) -> Due
+    ensures { λ r. ⌜ r ≡ dueOf asked (aheadOf heads) ⌝ }
 {
-    if is_tempo_next(heads, asked) {
-        return Next {
+    if is_tempo_due(heads, asked) {
+        let tempo = Next {
             row: heads.tempo,
             kind: Event::Tempo,
         };
+        return Due::Passes(tempo);
     }
-    let nothing = Next {
-        row: 2147483647,
-        kind: Event::NotFound,
-    };
-    let end = earlier(nothing, heads.end, Event::WarpEnd);
-    let tempo = earlier(end, heads.tempo, Event::Tempo);
-    let delay = earlier(tempo, heads.delay, Event::Delay);
-    let marker = earlier(delay, asked, Event::Asked);
-    let stop = earlier(marker, heads.stop, Event::Stop);
-    earlier(stop, heads.warp, Event::Warp)
+    let next = least_head(heads);
+    if goes_before(next, asked) {
+        return Due::Passes(next);
+    }
+    Due::Asked
 }
 
 // ---- time
@@ -303,6 +359,13 @@ fn time_to(state: State, early: f64, tempo_values: &[f32], row: i32) -> f64
     beats / (tempo / 60.0)
 }
 
+// The time of a row, worked out beside the state.
+pub fn time_at(state: State, row: i32, early: f64, tempo_values: &[f32]) -> f64
+    ensures { λ r. ⌜ r ≡ timeAt early (now («tempo_values» .entry)) state row ⌝ }
+{
+    state.time + time_to(state, early, tempo_values, row)
+}
+
 // ---- passing an event
 
 fn larger_of(old: f64, new: f64) -> f64
@@ -368,7 +431,7 @@ fn pass_warp(mut state: State, row: i32, time: f64, own: f64) -> State
 }
 
 // The number that the next event of a kind brings: the seconds of a pause, the own end of a warp.
-fn number_of(
+pub fn number_of(
     state: State,
     kind: Event,
     stop_values: &[f32],
@@ -384,8 +447,6 @@ fn number_of(
         Event::Delay => read_at(delay_values, state.delays),
         Event::Stop => read_at(stop_values, state.stops),
         Event::Warp => read_at(warp_beats, state.warps) + read_at(warp_lengths, state.warps),
-        Event::Asked => 0.0,
-        Event::NotFound => 0.0,
     }
 }
 
@@ -402,8 +463,6 @@ fn pass_event(state: State, next: Next, time: f64, number: f64) -> State
         Event::Delay => pass_delay(state, row, time, number),
         Event::Stop => pass_stop(state, row, time, number),
         Event::Warp => pass_warp(state, row, time, number),
-        Event::Asked => state,
-        Event::NotFound => state,
     }
 }
 
@@ -414,46 +473,6 @@ pub struct Walked {
     pub state: State,
     pub passed: usize,
     pub time: f64,
-}
-
-fn is_event(next: Next) -> bool
-    ensures { λ r. ⌜ r ≡ isEvent (next .kind) ⌝ }
-{
-    let kind = next.kind;
-    match kind {
-        Event::WarpEnd => true,
-        Event::Tempo => true,
-        Event::Delay => true,
-        Event::Stop => true,
-        Event::Warp => true,
-        Event::Asked => false,
-        Event::NotFound => false,
-    }
-}
-
-fn is_nothing(next: Next) -> bool
-    ensures { λ r. ⌜ r ≡ isNothing (next .kind) ⌝ }
-{
-    let kind = next.kind;
-    match kind {
-        Event::WarpEnd => false,
-        Event::Tempo => false,
-        Event::Delay => false,
-        Event::Stop => false,
-        Event::Warp => false,
-        Event::Asked => false,
-        Event::NotFound => true,
-    }
-}
-
-// The time of what ends the walk.
-fn time_at(state: State, next: Next, early: f64, tempo_values: &[f32]) -> f64
-    ensures { λ r. ⌜ r ≡ timeAt early (now («tempo_values» .entry)) state next ⌝ }
-{
-    if is_nothing(next) {
-        return state.time;
-    }
-    state.time + time_to(state, early, tempo_values, next.row)
 }
 
 // ---- walks that pass nothing, or one tempo
@@ -574,7 +593,7 @@ pub fn walk_soon(state: State, asked: i32, tempo_beats: &[f32], tempo_values: &[
 pub fn quiet_time(state: State, asked: i32, tempo_values: &[f32]) -> f64
     ensures { λ r. ⌜ r ≡ quietAt (now («tempo_values» .entry)) state asked ⌝ }
 {
-    state.time + time_to(state, 0.0, tempo_values, asked)
+    time_at(state, asked, 0.0, tempo_values)
 }
 
 // ---- the whole walk
@@ -599,17 +618,16 @@ pub fn walk_to(
     let mut heads = heads_of(start, tempo_beats, stop_beats, delay_beats, warp_beats);
     let mut passed: usize = 0;
     loop {
-        let next = find_next_event(heads, asked);
-        let more = is_event(next);
-        if !more {
-            let time = time_at(state, next, early, tempo_values);
+        let found = find_due(heads, asked);
+        let Due::Passes(next) = found else {
+            let time = time_at(state, asked, early, tempo_values);
             return Walked {
                 state,
                 passed,
                 time,
             };
-        }
-        let time = state.time + time_to(state, early, tempo_values, next.row);
+        };
+        let time = time_at(state, next.row, early, tempo_values);
         let kind = next.kind;
         let number = number_of(
             state,
@@ -622,7 +640,7 @@ pub fn walk_to(
         state = pass_event(state, next, time, number);
         heads = heads_after(
             heads,
-            next,
+            kind,
             state,
             tempo_beats,
             stop_beats,

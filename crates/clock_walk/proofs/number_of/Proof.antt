@@ -31,12 +31,6 @@ read-at-requires-3 c κs = search needs
 read-at-requires-4 : tie.Need-read-at-requires-4
 read-at-requires-4 c κs = search needs
 
-enum-told-6 : tie.Need-enum-told-6
-enum-told-6 c = search needs
-
-enum-told-7 : tie.Need-enum-told-7
-enum-told-7 c = search needs
-
 returns : tie.Need-returns
 unfolding ofBits
 returns c = rw (c .enum-told .given .1)
@@ -54,14 +48,6 @@ returns-4 c = rw (c .before .enum-told4 .given .1) (c .read-at2 .ensures)
 returns-5 : tie.Need-returns-5
 returns-5 c = rw (c .before .before .enum-told5 .given .1, c .before .read-at3 .ensures, c .read-at4 .ensures)
 
-returns-6 : tie.Need-returns-6
-unfolding ofBits
-returns-6 c = rw (c .enum-told6 .given .1)
-
-returns-7 : tie.Need-returns-7
-unfolding ofBits
-returns-7 c = rw (c .enum-told7 .given .1)
-
 pub number-of-spec : {M : Type 1} → statement M
 number-of-spec =
     tie.close
@@ -75,12 +61,8 @@ number-of-spec =
     enum-told-5
     read-at-requires-3
     read-at-requires-4
-    enum-told-6
-    enum-told-7
     returns
     returns-2
     returns-3
     returns-4
-    returns-5
-    returns-6
-    returns-7)
+    returns-5)

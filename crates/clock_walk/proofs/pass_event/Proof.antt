@@ -56,12 +56,6 @@ pass-warp-requires c κs =
     let s = c .before .before .before in
     subst (λ (k : Event). CanMove (s .args .state) k) (c .enum-told5 .given .1) (s .pre)
 
-enum-told-6 : tie.Need-enum-told-6
-enum-told-6 c = search needs
-
-enum-told-7 : tie.Need-enum-told-7
-enum-told-7 c = search needs
-
 returns : tie.Need-returns
 returns c =
     let a = c .before .before .before .before .args in
@@ -87,14 +81,6 @@ returns-5 c =
     let a = c .before .before .before .before .args in
     arrives (a .state) (a .next) Warp (c .pass-warp .result) _ (a .time) (a .number) (back (a .next .row) (record { sfits = c .before .before .before .struct-told .given .0 .1 })) (c .before .enum-told5 .given .1) (c .pass-warp .ensures)
 
-returns-6 : tie.Need-returns-6
-unfolding eventPassed
-returns-6 c = rw (c .enum-told6 .given .1)
-
-returns-7 : tie.Need-returns-7
-unfolding eventPassed
-returns-7 c = rw (c .enum-told7 .given .1)
-
 pub pass-event-spec : {M : Type 1} → statement M
 pass-event-spec =
     tie.close
@@ -109,12 +95,8 @@ pass-event-spec =
     pass-stop-requires
     enum-told-5
     pass-warp-requires
-    enum-told-6
-    enum-told-7
     returns
     returns-2
     returns-3
     returns-4
-    returns-5
-    returns-6
-    returns-7)
+    returns-5)
