@@ -42,7 +42,7 @@ listed beats place h = go (ltb place (length beats)) h
     go false h = no (sym (lt-not-self farthest) ∙ h)
 
 -- the state past the next tempo
-abbrev pub past : Timing → State → State
+abbrev past : Timing → State → State
 past t s = tempoPassed (t .tempoValues) s (rowAt (t .tempoBeats) (s .tempos))
 
 -- the row is before all that is ahead but the tempos
@@ -97,7 +97,7 @@ module _ (t : Timing) (r : ℤ) (s : State) where
     before-next h = later-row r (t .tempoBeats) (s .tempos + 1) (rw there at h) .1
 
     -- one is due, and no other
-    pub one-soon : eqb (s .tempos) 0 ≡ false → ltZ r (rowAt (t .tempoBeats) (past t s .tempos)) ≡ true
+    one-soon : eqb (s .tempos) 0 ≡ false → ltZ r (rowAt (t .tempoBeats) (past t s .tempos)) ≡ true
         → let s′ = past t s in
         walk t r s ≡ record { state = s′; passed = 1; time = quietAt (t .tempoValues) s′ r }
     unfolding walk
@@ -123,18 +123,24 @@ only-tempos t (pos n) s only =
       ofWarp = later-entry n small (t .warpBeats) (s .warps) (are .warp);
     }
 
-module _ (t : Timing) (r : ℤ) (s : State) where
-  abbrev pub soon : Soon
-  soon = soonOf (t .tempoBeats) (t .tempoValues) s r
+-- all but the tempo's place, the row and the time are as before
+pub record OtherPlaces (s s′ : State) : Type 0 where
+  pub stops : s′ .stops ≡ s .stops
+  pub delays : s′ .delays ≡ s .delays
+  pub warps : s′ .warps ≡ s .warps
+  pub end : s′ .end ≡ s .end
+  pub warping : s′ .warping ≡ s .warping
 
+module _ (tempoBeats tempoValues : List Float) (r : ℤ) (s : State) where
   abbrev picked : Bool → Bool → Bool → Soon
   picked a b d =
       pick a (record { state = s; passed = 0; whole = true })
-      (pick b (record { state = s; passed = 0; whole = true }) (pick d (record { state = past t s; passed = 1; whole = true }) (record { state = s; passed = 0; whole = false })))
+      (pick b (record { state = s; passed = 0; whole = true })
+      (pick d (record { state = tempoPassed tempoValues s (rowAt tempoBeats (s .tempos)); passed = 1; whole = true }) (record { state = s; passed = 0; whole = false })))
 
-  pub soon-few : soon .passed ≤ 1
+  pub soon-few : soonOf tempoBeats tempoValues s r .passed ≤ 1
   unfolding soonOf
-  soon-few = go (isLater (t .tempoBeats) (s .tempos) r) (ltZ r (rowAt (t .tempoBeats) (s .tempos))) (isNextLater (t .tempoBeats) (s .tempos) r)
+  soon-few = go (isLater tempoBeats (s .tempos) r) (ltZ r (rowAt tempoBeats (s .tempos))) (isNextLater tempoBeats (s .tempos) r)
     where
       go : (a b d : Bool) → picked a b d .passed ≤ 1
       go true b d = omega arith
@@ -142,14 +148,28 @@ module _ (t : Timing) (r : ℤ) (s : State) where
       go false false true = omega arith
       go false false false = omega arith
 
-  -- a walk that is soon at its end is that walk
-  pub soon-walk : eqb (s .tempos) 0 ≡ false → Others t r s → soon .whole ≡ true → walk t r s ≡ walkedSoon (t .tempoValues) r soon
-  unfolding soonOf
-  soon-walk e o whole = go (isLater (t .tempoBeats) (s .tempos) r) (ltZ r (rowAt (t .tempoBeats) (s .tempos))) (isNextLater (t .tempoBeats) (s .tempos) r) refl refl refl whole
+  pub soon-keeps : OtherPlaces s (soonOf tempoBeats tempoValues s r .state)
+  unfolding soonOf afterTempo
+  soon-keeps = go (isLater tempoBeats (s .tempos) r) (ltZ r (rowAt tempoBeats (s .tempos))) (isNextLater tempoBeats (s .tempos) r)
     where
-      go : (a b d : Bool) → isLater (t .tempoBeats) (s .tempos) r ≡ a → ltZ r (rowAt (t .tempoBeats) (s .tempos)) ≡ b → isNextLater (t .tempoBeats) (s .tempos) r ≡ d → picked a b d .whole ≡ true
-          → walk t r s ≡ walkedSoon (t .tempoValues) r (picked a b d)
-      go true b d l f g w = none-soon t r s e o (later-row r (t .tempoBeats) (s .tempos) l .1)
-      go false true d l f g w = none-soon t r s e o f
-      go false false true l f g w = one-soon t r s o f e (before-next t r s o f g)
-      go false false false l f g w = no w
+      same : OtherPlaces s s
+      same = record { stops = refl; delays = refl; warps = refl; end = refl; warping = refl }
+
+      go : (a b d : Bool) → OtherPlaces s (picked a b d .state)
+      go true b d = same
+      go false true d = same
+      go false false true = record { stops = refl; delays = refl; warps = refl; end = refl; warping = refl }
+      go false false false = same
+
+-- a walk that is soon over is that walk
+pub soon-walk : (t : Timing) (r : ℤ) (s : State) → eqb (s .tempos) 0 ≡ false → Others t r s → soonOf (t .tempoBeats) (t .tempoValues) s r .whole ≡ true
+    → walk t r s ≡ walkedSoon (t .tempoValues) r (soonOf (t .tempoBeats) (t .tempoValues) s r)
+unfolding soonOf
+soon-walk t r s e o whole = go (isLater (t .tempoBeats) (s .tempos) r) (ltZ r (rowAt (t .tempoBeats) (s .tempos))) (isNextLater (t .tempoBeats) (s .tempos) r) refl refl refl whole
+  where
+    go : (a b d : Bool) → isLater (t .tempoBeats) (s .tempos) r ≡ a → ltZ r (rowAt (t .tempoBeats) (s .tempos)) ≡ b → isNextLater (t .tempoBeats) (s .tempos) r ≡ d
+        → picked (t .tempoBeats) (t .tempoValues) r s a b d .whole ≡ true → walk t r s ≡ walkedSoon (t .tempoValues) r (picked (t .tempoBeats) (t .tempoValues) r s a b d)
+    go true b d l f g w = none-soon t r s e o (later-row r (t .tempoBeats) (s .tempos) l .1)
+    go false true d l f g w = none-soon t r s e o f
+    go false false true l f g w = one-soon t r s o f e (before-next t r s o f g)
+    go false false false l f g w = no w

@@ -43,7 +43,7 @@ answered-requires c κs =
     let a = c .before .before .before .before .before .before .before .before .before .before .before .before .before .before .before .args in
     let found = c .before .before .before .soon in
     let is-soon = found .ensures (c .before .before .if2 .taken) in
-    let few : found .result .passed ≤ 1 = rw (is-soon .5) (soon-few (timing (a .tempo-beats .now) (a .tempo-values .now) (a .stop-beats .now) (a .stop-values .now) (a .delay-beats .now) (a .delay-values .now) (a .warp-beats .now) (a .warp-lengths .now)) _ (a .self .state)) in
+    let few : found .result .passed ≤ 1 = rw (is-soon .5) (soon-few (a .tempo-beats .now) (a .tempo-values .now) _ (a .self .state)) in
     omega (arith, few)
 
 returns-2 : tie.Need-returns-2
