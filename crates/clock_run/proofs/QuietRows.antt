@@ -1,9 +1,10 @@
--- Before the row that was looked ahead for no event is due, and before the next event that is no tempo a walk may soon be over: the answer follows without a walk. Assumes nothing.
-use Prim.Native.Nat.{_+_, _-_, _≤_}
+-- Before the row that was looked ahead for, no event is due, and past one tempo none before the next row: the answer follows without a walk. Assumes nothing.
+use Prim.Native.Nat.{ℕ, _+_, _-_, _≤_}
 use mathlib.Core.Bool.{Bool, true, false}
 use mathlib.Core.Path.{_≡_, refl, sym, ap, _∙_}
 use mathlib.Core.List.{List}
 use native.Mathlib.Omega.{arith}
+use borrow.Author.Tests.{ne-eqb}
 use lib.Dec.{ltb, eqb}
 use lib.IntN.{ℤ}
 use lib.Signed.{ltZ}
@@ -14,14 +15,14 @@ use Rattle.picks.specs.Pick.{pick}
 use Rattle.rows.specs.Rows.{row}
 use Rattle.chart.specs.Timing.{Timing}
 use Rattle.clock_walk.specs.Events.{farthest}
-use Rattle.clock_walk.specs.Passing.{inForce, timeTo, timeAt}
+use Rattle.clock_walk.specs.Passing.{inForce, timeTo, timeAt, afterTempo}
 use Rattle.clock_walk.specs.Walk.{walk}
 use Rattle.clock_walk.specs.Quiet.{rowAt, endRow}
-use Rattle.clock_walk.specs.Soon.{quietAt, soonOf, walkedSoon}
+use Rattle.clock_walk.specs.Soon.{quietAt, tempoPassed, rowAfter}
 use Rattle.chart.specs.declared.State.{State}
 use Rattle.clock_walk.specs.declared.Soon.{Soon}
 use Rattle.clock_walk.specs.declared.Walked.{Walked}
-use Rattle.clock_walk.proofs.OneTempo.{Others, OtherPlaces, none-soon, soon-few, soon-keeps, soon-walk}
+use Rattle.clock_walk.proofs.OneTempo.{Others, past, none-soon, one-soon}
 use Rattle.clock_tests.specs.TimingNumbers.{beatNumber}
 use Rattle.clock.specs.Question.{filled, beginning, reply, asking}
 use Rattle.clock.specs.declared.Cursor.{Cursor}
@@ -82,6 +83,11 @@ module _ (known : Bool) (until last : ℤ) (beat : Float) (r : ℤ) where
   unfolding isBefore
   before-is h = all-four (eqb (beatNumber beat) 0) known (ltZ r last) (ltZ r until) h
 
+  -- and of one that is not, though it is asked in order
+  not-before : isBefore known until last beat r ≡ false → eqb (beatNumber beat) 0 ≡ true → known ≡ true → ltZ r last ≡ false → ltZ r until ≡ false
+  unfolding isBefore
+  not-before h number k later = rw (number, k, later) at h
+
 abbrev sight : (tempoBeats tempoValues : List Float) → State → ℤ → Outlook
 sight tempoBeats tempoValues s rest = record {
   known = true;
@@ -101,6 +107,15 @@ on-sight tempoBeats tempoValues s rest h = go (eqb (s .tempos) 0) (ltb (s .tempo
     go false true h = (refl, refl)
     go false false h = no h
     go true b h = no h
+
+-- past a tempo that has a value there is something to see
+past-sight : (tempoBeats tempoValues : List Float) (s : State) (rest : ℤ) (place : ℕ) → s .tempos ≡ place + 1 → ltb place (length tempoValues) ≡ true
+    → (eqb (s .tempos) 0 ≡ false) × (lookOn tempoBeats tempoValues s rest ≡ sight tempoBeats tempoValues s rest)
+unfolding lookOn
+past-sight tempoBeats tempoValues s rest place e inValues =
+    let some = ne-eqb (s .tempos) 0 (λ z. omega (arith, e, z)) in
+    let before : s .tempos - 1 ≡ place = omega (arith, e) in
+    (some, rw (some, before, inValues))
 
 abbrev restOf : Timing → State → ℤ
 restOf t s = restUntil (t .stopBeats) (t .delayBeats) (t .warpBeats) s
@@ -156,53 +171,109 @@ module _ (t : Timing) (offset global : Float) (c : Cursor) (beat : Float) where
       ∙ ap (λ (x : Float). answer-of (record { state = c .state; passed = 0; time = x })) (sym (by-rate r (t .tempoValues) (c .state) (sight .passed-one)))
       ∙ sym (by-walk (asked .0) (sight .some) (asked .2) _ walked)
 
--- ---- a walk that is soon over
+-- ---- past one tempo
+
+abbrev notSoon : State → Soon
+notSoon s = record { state = s; passed = 0; whole = false }
+
+abbrev pastOne : State → Soon
+pastOne s = record { state = s; passed = 1; whole = true }
 
 -- one tempo is passed, or nothing
 pub few-before : (tempoBeats tempoValues : List Float) (outlook : Outlook) (c : Cursor) (beat : Float) (r : ℤ) → soonBefore tempoBeats tempoValues outlook c beat r .passed ≤ 1
 unfolding soonBefore
-few-before tempoBeats tempoValues outlook c beat r = go (isBefore (outlook .known) (outlook .rest) (c .asked) beat r)
+few-before tempoBeats tempoValues outlook c beat r =
+    go (isBefore (outlook .known) (lesserRow (rowAfter tempoBeats (c .state .tempos)) (outlook .rest)) (c .asked) beat r) (ltb (c .state .tempos) (length tempoBeats)) (ltb (c .state .tempos) (length tempoValues))
   where
-    go : (b : Bool) → pick b (soonOf tempoBeats tempoValues (c .state) r) (record { state = c .state; passed = 0; whole = false }) .passed ≤ 1
-    go true = soon-few tempoBeats tempoValues r (c .state)
-    go false = omega arith
+    moved : State
+    moved = tempoPassed tempoBeats tempoValues (c .state) (outlook .row)
 
--- where the places but the tempo's stay, so does the row of the next event that is no tempo
-rest-stays : (t : Timing) (s s′ : State) → OtherPlaces s s′ → restOf t s′ ≡ restOf t s
-unfolding restUntil
-rest-stays t s s′ same = rw (same .stops, same .delays, same .warps, same .end, same .warping)
+    go : (x y z : Bool) → pick x (pick y (pick z (pastOne moved) (notSoon (c .state))) (notSoon (c .state))) (notSoon (c .state)) .passed ≤ 1
+    go true true true = omega arith
+    go true true false = omega arith
+    go true false z = omega arith
+    go false y z = omega arith
+
+rest-stays : (t : Timing) (s : State) (at : ℤ) → restOf t (tempoPassed (t .tempoBeats) (t .tempoValues) s at) ≡ restOf t s
+unfolding restUntil tempoPassed afterTempo
+rest-stays t s at = go (ltb (s .tempos) (length (t .tempoBeats)))
+  where
+    go : (b : Bool) → restOf t (pick b (afterTempo s at (quietAt (t .tempoValues) s at)) s) ≡ restOf t s
+    go true = refl
+    go false = refl
+
+-- where a row is before the rest and not before what is next, a tempo is next
+is-tempo : (r tempo rest : ℤ) → ltZ r rest ≡ true → ltZ r (lesserRow tempo rest) ≡ false → lesserRow tempo rest ≡ tempo
+unfolding lesserRow
+is-tempo r tempo rest before behind = go (ltZ tempo rest) refl behind
+  where
+    go : (b : Bool) → ltZ tempo rest ≡ b → ltZ r (pick b tempo rest) ≡ false → pick b tempo rest ≡ tempo
+    go true e h = refl
+    go false e h = no (sym h ∙ before)
 
 look-some : (t : Timing) (s : State) → eqb (length (t .tempoBeats)) 0 ≡ false → lookAhead t s ≡ lookOn (t .tempoBeats) (t .tempoValues) s (restOf t s)
 unfolding lookAhead
 look-some t s e = rw e
 
-module _ (t : Timing) (offset global : Float) (c : Cursor) (beat : Float) (outlook : Outlook) (sees : Sees t (c .state) outlook) where
-  abbrev soon : Soon
-  soon = soonOf (t .tempoBeats) (t .tempoValues) (c .state) (row binary64 beat)
+module _ (t : Timing) (offset global : Float) (c : Cursor) (beat : Float) (outlook : Outlook) (sees : Sees t (c .state) outlook)
+    (behind : isBefore (outlook .known) (outlook .row) (c .asked) beat (row binary64 beat) ≡ false) where
+  abbrev moved : State
+  moved = tempoPassed (t .tempoBeats) (t .tempoValues) (c .state) (outlook .row)
 
-  -- what is known of a walk that is soon over
+  abbrev until : ℤ
+  until = lesserRow (rowAfter (t .tempoBeats) (c .state .tempos)) (outlook .rest)
+
+  -- what is known of a walk that is soon over: its answer, by the rate that is seen from there, and that it is seen
   abbrev Answers : Soon → Type 0
   Answers w =
-      (answer-of t offset global c beat (walkedSoon (t .tempoValues) (row binary64 beat) w) ≡ asking t c offset global beat)
+      (answer-of t offset global c beat (record { state = w .state; passed = w .passed; time = quietTime (w .state) (lookOn (t .tempoBeats) (t .tempoValues) (w .state) (outlook .rest) .rate) (row binary64 beat) }) ≡ asking t c offset global beat)
       × Sees t (w .state) (lookOn (t .tempoBeats) (t .tempoValues) (w .state) (outlook .rest))
 
-  before-rest : isBefore (outlook .known) (outlook .rest) (c .asked) beat (row binary64 beat) ≡ true → soon .whole ≡ true → Answers soon
-  before-rest h whole =
-      let r = row binary64 beat in
-      let asked = before-is (outlook .known) (outlook .rest) (c .asked) beat r h in
-      let sight = all-seen t (c .state) outlook sees (asked .1) in
-      let isRest : outlook .rest ≡ restOf t (c .state) = ap (λ (a : Outlook). a .rest) (sight .whole) in
-      let o = others r t (c .state) (ap (λ (z : ℤ). ltZ r z) (sym isRest) ∙ asked .3) in
-      let stays = rest-stays t (c .state) (soon .state) (soon-keeps (t .tempoBeats) (t .tempoValues) r (c .state)) in (
-        sym (by-walk t offset global c beat (asked .0) (sight .some) (asked .2) _ (soon-walk t r (c .state) (sight .passed-one) o whole)),
-        λ k. ap (λ (z : ℤ). lookOn (t .tempoBeats) (t .tempoValues) (soon .state) z) (isRest ∙ sym stays) ∙ sym (look-some t (soon .state) (sight .some)),
-      )
+  module _ (inBeats : ltb (c .state .tempos) (length (t .tempoBeats)) ≡ true) where
+    next-place : moved .tempos ≡ c .state .tempos + 1
+    unfolding tempoPassed afterTempo
+    next-place = rw inBeats
 
+    after-next : rowAfter (t .tempoBeats) (c .state .tempos) ≡ rowAt (t .tempoBeats) (moved .tempos)
+    unfolding rowAfter
+    after-next = rw (next-place, inBeats)
+
+    at-tempo : ltb (c .state .tempos) (length (t .tempoValues)) ≡ true → isBefore (outlook .known) until (c .asked) beat (row binary64 beat) ≡ true → Answers (pastOne moved)
+    at-tempo inValues h =
+        let r = row binary64 beat in
+        let s = c .state in
+        let tempo = rowAt (t .tempoBeats) (s .tempos) in
+        let asked = before-is (outlook .known) until (c .asked) beat r h in
+        let sight = all-seen t s outlook sees (asked .1) in
+        let isRest : outlook .rest ≡ restOf t s = ap (λ (a : Outlook). a .rest) (sight .whole) in
+        let isRow : outlook .row ≡ lesserRow tempo (restOf t s) = ap (λ (a : Outlook). a .row) (sight .whole) in
+        let before : ltZ r (restOf t s) ≡ true = ap (λ (z : ℤ). ltZ r z) (sym isRest) ∙ below-right r (rowAfter (t .tempoBeats) (s .tempos)) (outlook .rest) (asked .3) in
+        let notRow : ltZ r (outlook .row) ≡ false = not-before (outlook .known) (outlook .row) (c .asked) beat r behind (asked .0) (asked .1) (asked .2) in
+        let isTempo : outlook .row ≡ tempo = isRow ∙ is-tempo r tempo (restOf t s) before (ap (λ (z : ℤ). ltZ r z) (sym isRow) ∙ notRow) in
+        let isMoved : moved ≡ past t s = ap (λ (z : ℤ). tempoPassed (t .tempoBeats) (t .tempoValues) s z) isTempo in
+        let on-is = past-sight (t .tempoBeats) (t .tempoValues) moved (outlook .rest) (s .tempos) next-place inValues in
+        let later : ltZ r (rowAt (t .tempoBeats) (moved .tempos)) ≡ true =
+        ap (λ (z : ℤ). ltZ r z) (sym after-next) ∙ below-left r (rowAfter (t .tempoBeats) (s .tempos)) (outlook .rest) (asked .3) in
+        let walked : walk t r s ≡ record { state = moved; passed = 1; time = quietAt (t .tempoValues) moved r } =
+        one-soon t r s (others r t s before) (ap (λ (z : ℤ). ltZ r z) (sym isTempo) ∙ notRow) (sight .passed-one) (ap (λ (x : State). ltZ r (rowAt (t .tempoBeats) (x .tempos))) (sym isMoved) ∙ later)
+        ∙ ap (λ (x : State). record { state = x; passed = 1; time = quietAt (t .tempoValues) x r }) (sym isMoved) in (
+          ap (λ (a : Outlook). answer-of t offset global c beat (record { state = moved; passed = 1; time = quietTime moved (a .rate) r })) (on-is .1)
+              ∙ ap (λ (x : Float). answer-of t offset global c beat (record { state = moved; passed = 1; time = x })) (sym (by-rate r (t .tempoValues) moved (on-is .0)))
+              ∙ sym (by-walk t offset global c beat (asked .0) (sight .some) (asked .2) _ walked),
+          λ k. ap (λ (z : ℤ). lookOn (t .tempoBeats) (t .tempoValues) moved z) (isRest ∙ sym (rest-stays t s (outlook .row))) ∙ sym (look-some t moved (sight .some)),
+        )
+
+  -- where a walk is soon over, the answer follows
   pub soon-answer : (w : Soon) → w ≡ soonBefore (t .tempoBeats) (t .tempoValues) outlook c beat (row binary64 beat) → w .whole ≡ true → Answers w
   unfolding soonBefore
-  soon-answer w is whole = rw is (go (isBefore (outlook .known) (outlook .rest) (c .asked) beat (row binary64 beat)) refl (rw is at whole))
+  soon-answer w is whole =
+      rw is
+      (go (isBefore (outlook .known) until (c .asked) beat (row binary64 beat)) (ltb (c .state .tempos) (length (t .tempoBeats))) (ltb (c .state .tempos) (length (t .tempoValues))) refl refl refl (rw is at whole))
     where
-      go : (b : Bool) → isBefore (outlook .known) (outlook .rest) (c .asked) beat (row binary64 beat) ≡ b
-          → pick b soon (record { state = c .state; passed = 0; whole = false }) .whole ≡ true → Answers (pick b soon (record { state = c .state; passed = 0; whole = false }))
-      go true e h = before-rest e h
-      go false e h = no h
+      go : (x y z : Bool) → isBefore (outlook .known) until (c .asked) beat (row binary64 beat) ≡ x → ltb (c .state .tempos) (length (t .tempoBeats)) ≡ y → ltb (c .state .tempos) (length (t .tempoValues)) ≡ z
+          → pick x (pick y (pick z (pastOne moved) (notSoon (c .state))) (notSoon (c .state))) (notSoon (c .state)) .whole ≡ true
+          → Answers (pick x (pick y (pick z (pastOne moved) (notSoon (c .state))) (notSoon (c .state))) (notSoon (c .state)))
+      go true true true e inBeats inValues h = at-tempo inBeats inValues e
+      go true true false e inBeats inValues h = no h
+      go true false z e inBeats inValues h = no h
+      go false y z e inBeats inValues h = no h

@@ -146,7 +146,8 @@ fn quiet_time(state: State, rate: f64, row: i32) -> f64
     state.time + beats / rate
 }
 
-// A walk that is soon over, for a beat that is before the next event that is no tempo; whole only there, and then what is passed is kept.
+// A walk that is soon over: passes the next tempo for a beat that is not before it, where there is one with a value and the beat is before all that follows, by the
+// rows that are kept. Whole only there, and then what is passed is kept.
 fn soon(
     outlook: Outlook,
     at: Cursor,
@@ -158,8 +159,24 @@ fn soon(
     ensures { λ r. ⌜ r ≡ soonBefore (now («tempo_beats» .entry)) (now («tempo_values» .entry)) outlook at beat row ⌝ }
 {
     let state = at.state;
-    if is_before(outlook.known, outlook.rest, at.asked, beat, row) {
-        return clock_walk::walk_soon(state, row, tempo_beats, tempo_values);
+    let next = state.tempos;
+    let until = least_of(clock_walk::row_after(tempo_beats, next), outlook.rest);
+    if is_before(outlook.known, until, at.asked, beat, row) {
+        if next < tempo_beats.len() {
+            if next < tempo_values.len() {
+                let moved = clock_walk::pass_next_tempo(
+                    state,
+                    outlook.row,
+                    tempo_beats,
+                    tempo_values,
+                );
+                return Soon {
+                    state: moved,
+                    passed: 1,
+                    whole: true,
+                };
+            }
+        }
     }
     Soon {
         state,
@@ -170,8 +187,8 @@ fn soon(
 
 // ---- the run
 
-// Asks every beat, and answers the cursor after the last. A beat before the next event passes none, so that its count is 1, and needs no walk; one that is before
-// the next event that is no tempo needs only a walk that is soon over.
+// Asks every beat, and answers the cursor after the last. A beat before the next event passes none, so that its count is 1, and needs no walk; nor does one that
+// passes a tempo and is before what is ahead of that.
 fn ask_each(
     cursor: Cursor,
     tempo_beats: &[f32],
@@ -216,7 +233,8 @@ fn ask_each(
         let near = soon(outlook, at, beat, row, tempo_beats, tempo_values);
         if near.whole {
             let state = near.state;
-            let time = clock_walk::quiet_time(state, row, tempo_values) - global;
+            let on = look_on(state, outlook.rest, tempo_beats, tempo_values);
+            let time = quiet_time(state, on.rate, row) - global;
             numbers[i] = limits::TAKEN;
             times[i] = time;
             counts[i] = near.passed + 1;
@@ -224,7 +242,7 @@ fn ask_each(
                 state: state,
                 asked: row,
             };
-            outlook = look_on(state, outlook.rest, tempo_beats, tempo_values);
+            outlook = on;
             i += 1;
             continue;
         }

@@ -42,8 +42,8 @@ listed beats place h = go (ltb place (length beats)) h
     go false h = no (sym (lt-not-self farthest) ∙ h)
 
 -- the state past the next tempo
-abbrev past : Timing → State → State
-past t s = tempoPassed (t .tempoValues) s (rowAt (t .tempoBeats) (s .tempos))
+abbrev pub past : Timing → State → State
+past t s = tempoPassed (t .tempoBeats) (t .tempoValues) s (rowAt (t .tempoBeats) (s .tempos))
 
 -- the row is before all that is ahead but the tempos
 pub record Others (t : Timing) (r : ℤ) (s : State) : Type 0 where
@@ -84,20 +84,20 @@ module _ (t : Timing) (r : ℤ) (s : State) where
     there = listed (t .tempoBeats) (s .tempos) (le-lt (rowAt (t .tempoBeats) (s .tempos)) r farthest due-by (o .ofAll))
 
     first-step : onward plusZero t s ≡ past t s
-    unfolding eventPassed
-    first-step = rw first-ahead
+    unfolding tempoPassed eventPassed
+    first-step = rw (first-ahead, there)
 
     others-stay : Others t r (past t s)
-    unfolding afterTempo
-    others-stay = record { ofAll = o .ofAll; ofEnd = o .ofEnd; ofDelay = o .ofDelay; ofStop = o .ofStop; ofWarp = o .ofWarp }
+    unfolding tempoPassed afterTempo
+    others-stay = rw there (record { ofAll = o .ofAll; ofEnd = o .ofEnd; ofDelay = o .ofDelay; ofStop = o .ofStop; ofWarp = o .ofWarp })
 
     -- the tempo after the next is later, once one is passed
     before-next : isNextLater (t .tempoBeats) (s .tempos) r ≡ true → ltZ r (rowAt (t .tempoBeats) (past t s .tempos)) ≡ true
-    unfolding afterTempo isNextLater
-    before-next h = later-row r (t .tempoBeats) (s .tempos + 1) (rw there at h) .1
+    unfolding tempoPassed afterTempo isNextLater
+    before-next h = rw there (later-row r (t .tempoBeats) (s .tempos + 1) (rw there at h) .1)
 
     -- one is due, and no other
-    one-soon : eqb (s .tempos) 0 ≡ false → ltZ r (rowAt (t .tempoBeats) (past t s .tempos)) ≡ true
+    pub one-soon : eqb (s .tempos) 0 ≡ false → ltZ r (rowAt (t .tempoBeats) (past t s .tempos)) ≡ true
         → let s′ = past t s in
         walk t r s ≡ record { state = s′; passed = 1; time = quietAt (t .tempoValues) s′ r }
     unfolding walk
@@ -123,20 +123,12 @@ only-tempos t (pos n) s only =
       ofWarp = later-entry n small (t .warpBeats) (s .warps) (are .warp);
     }
 
--- all but the tempo's place, the row and the time are as before
-pub record OtherPlaces (s s′ : State) : Type 0 where
-  pub stops : s′ .stops ≡ s .stops
-  pub delays : s′ .delays ≡ s .delays
-  pub warps : s′ .warps ≡ s .warps
-  pub end : s′ .end ≡ s .end
-  pub warping : s′ .warping ≡ s .warping
-
 module _ (tempoBeats tempoValues : List Float) (r : ℤ) (s : State) where
   abbrev picked : Bool → Bool → Bool → Soon
   picked a b d =
       pick a (record { state = s; passed = 0; whole = true })
       (pick b (record { state = s; passed = 0; whole = true })
-      (pick d (record { state = tempoPassed tempoValues s (rowAt tempoBeats (s .tempos)); passed = 1; whole = true }) (record { state = s; passed = 0; whole = false })))
+      (pick d (record { state = tempoPassed tempoBeats tempoValues s (rowAt tempoBeats (s .tempos)); passed = 1; whole = true }) (record { state = s; passed = 0; whole = false })))
 
   pub soon-few : soonOf tempoBeats tempoValues s r .passed ≤ 1
   unfolding soonOf
@@ -147,19 +139,6 @@ module _ (tempoBeats tempoValues : List Float) (r : ℤ) (s : State) where
       go false true d = omega arith
       go false false true = omega arith
       go false false false = omega arith
-
-  pub soon-keeps : OtherPlaces s (soonOf tempoBeats tempoValues s r .state)
-  unfolding soonOf afterTempo
-  soon-keeps = go (isLater tempoBeats (s .tempos) r) (ltZ r (rowAt tempoBeats (s .tempos))) (isNextLater tempoBeats (s .tempos) r)
-    where
-      same : OtherPlaces s s
-      same = record { stops = refl; delays = refl; warps = refl; end = refl; warping = refl }
-
-      go : (a b d : Bool) → OtherPlaces s (picked a b d .state)
-      go true b d = same
-      go false true d = same
-      go false false true = record { stops = refl; delays = refl; warps = refl; end = refl; warping = refl }
-      go false false false = same
 
 -- a walk that is soon over is that walk
 pub soon-walk : (t : Timing) (r : ℤ) (s : State) → eqb (s .tempos) 0 ≡ false → Others t r s → soonOf (t .tempoBeats) (t .tempoValues) s r .whole ≡ true

@@ -14,7 +14,7 @@ ghost use Rattle.clock_walk.specs.Heads.{headsOf, headsAfter, soonerHead
 ghost use Rattle.clock_walk.specs.Passing.{tempoAt, earlyTempo, inForce, timeTo, timeAt, larger, afterWarpEnd, afterTempo, afterDelay, afterStop, afterWarp, brings, eventPassed, firstOr, lastUpTo};
 ghost use Rattle.clock_walk.specs.inside.CanMove.{CanMove};
 ghost use Rattle.clock_walk.specs.Quiet.{rowAt, endRow, notBefore, isLater, isNextLater, onlyTempos};
-ghost use Rattle.clock_walk.specs.Soon.{quietAt, soonOf};
+ghost use Rattle.clock_walk.specs.Soon.{quietAt, tempoPassed, rowAfter, soonOf};
 ghost use Rattle.clock_walk.specs.declared.Event.the-variants.{Tempo};
 ghost use Rattle.clock_walk.specs.declared.Due.the-variants.{Passes};
 ghost use Rattle.clock_walk.specs.Walk.{walk};
@@ -547,6 +547,27 @@ pub fn is_only_tempos(
     false
 }
 
+// The row of the entry after the one at a place, and the greatest i32 where there is none.
+pub fn row_after(beats: &[f32], place: usize) -> i32
+    ensures { λ r. ⌜ r ≡ rowAfter (now (beats .entry)) place ⌝ }
+{
+    if place < beats.len() {
+        return row_at(beats, place + 1);
+    }
+    2147483647
+}
+
+// The state after the tempo that is next, on its row, where one was passed before it; the state as it is where none is left.
+pub fn pass_next_tempo(state: State, row: i32, tempo_beats: &[f32], tempo_values: &[f32]) -> State
+    ensures { λ r. ⌜ r ≡ tempoPassed (now («tempo_beats» .entry)) (now («tempo_values» .entry)) state row ⌝ }
+{
+    if state.tempos < tempo_beats.len() {
+        let time = time_at(state, row, 0.0, tempo_values);
+        return pass_tempo(state, row, time);
+    }
+    state
+}
+
 // A walk that passes nothing or its first tempo: the state, how many were passed, and whether that is the whole walk; where it is not, nothing is passed.
 pub struct Soon {
     pub state: State,
@@ -574,8 +595,7 @@ pub fn walk_soon(state: State, asked: i32, tempo_beats: &[f32], tempo_values: &[
         };
     }
     if is_next_later(tempo_beats, state.tempos, asked) {
-        let time = quiet_time(state, first, tempo_values);
-        let moved = pass_tempo(state, first, time);
+        let moved = pass_next_tempo(state, first, tempo_beats, tempo_values);
         return Soon {
             state: moved,
             passed: 1,
@@ -627,7 +647,6 @@ pub fn walk_to(
                 time,
             };
         };
-        let time = time_at(state, next.row, early, tempo_values);
         let kind = next.kind;
         let number = number_of(
             state,
@@ -637,6 +656,7 @@ pub fn walk_to(
             warp_beats,
             warp_lengths,
         );
+        let time = time_at(state, next.row, early, tempo_values);
         state = pass_event(state, next, time, number);
         heads = heads_after(
             heads,

@@ -12,9 +12,9 @@ use Rattle.rows.specs.Rows.{row}
 use Rattle.chart.specs.Timing.{timing}
 use Rattle.clock_walk.proofs.BackFromBits.{back}
 use Rattle.clock_walk.proofs.RowOrder.{no}
-use Rattle.clock_walk.specs.Soon.{quietAt, walkedSoon}
 use Rattle.clock_walk.specs.declared.Soon.{Soon}
-use Rattle.clock_run.specs.inside.Outlook.{isBefore, quietTime, soonBefore}
+use Rattle.clock_run.specs.inside.Outlook.{lookOn, isBefore, quietTime, soonBefore}
+use Rattle.clock_run.specs.declared.Outlook.{Outlook}
 use Rattle.clock_run.proofs.BeatByBeat.{Running, begun, turned, quiet-turn, ended}
 use Rattle.clock_run.proofs.QuietRows.{Sees, quiet-answer, few-before, soon-answer}
 use Rattle.clock_run.proofs.PlacesInColumns.{scaled4, scaled8, inside}
@@ -111,48 +111,48 @@ loop-again c =
 soon-requires : tie.Need-soon-requires Inv-loop μ-loop
 soon-requires c κs = search needs
 
+look-on-requires : tie.Need-look-on-requires Inv-loop μ-loop
+look-on-requires c κs = search needs
+
 quiet-time-requires-2 : tie.Need-quiet-time-requires-2 Inv-loop μ-loop
 quiet-time-requires-2 c κs = search needs
 
 mul-numbers-2 : tie.Need-mul-numbers-2 Inv-loop μ-loop
 mul-numbers-2 c =
-    let s = c .before .before .before .before .before .before .before .before .before .before .before .before .before .before .before .before .before .before .before .before .before .before .before .before in
-    scaled4 (c .before .before .before .before .before .before .before .before .before .before .before .loop .i) (length (s .args .numbers .now)) (inside (c .before .before .before .before .before .before .before .before .before .before .before .loop .i) (length (s .args .beats .now)) (length (s .args .numbers .now)) (c .before .before .before .before .before .before .before .before .before .before .loop-test .taken) (s .pre .0)) (s .good .1 .1 .1 .1 .1 .1 .1 .1 .1 .1 .1 .1 .0 .1)
+    let s = c .before .before .before .before .before .before .before .before .before .before .before .before .before .before .before .before .before .before .before .before .before .before .before .before .before .before in
+    scaled4 (c .before .before .before .before .before .before .before .before .before .before .before .before .before .loop .i) (length (s .args .numbers .now)) (inside (c .before .before .before .before .before .before .before .before .before .before .before .before .before .loop .i) (length (s .args .beats .now)) (length (s .args .numbers .now)) (c .before .before .before .before .before .before .before .before .before .before .before .before .loop-test .taken) (s .pre .0)) (s .good .1 .1 .1 .1 .1 .1 .1 .1 .1 .1 .1 .1 .0 .1)
 
 slice-write-numbers-2 : tie.Need-slice-write-numbers-2 Inv-loop μ-loop
 slice-write-numbers-2 c =
-    let s = c .before .before .before .before .before .before .before .before .before .before .before .before .before .before .before .before .before .before .before .before .before .before .before .before in
-    rw (c .before .before .before .before .before .before .before .before .before .before .before .loop .inv .0 .ofNumbers .size) (inside (c .before .before .before .before .before .before .before .before .before .before .before .loop .i) (length (s .args .beats .now)) (length (s .args .numbers .now)) (c .before .before .before .before .before .before .before .before .before .before .loop-test .taken) (s .pre .0))
+    let s = c .before .before .before .before .before .before .before .before .before .before .before .before .before .before .before .before .before .before .before .before .before .before .before .before .before .before in
+    rw (c .before .before .before .before .before .before .before .before .before .before .before .before .before .loop .inv .0 .ofNumbers .size) (inside (c .before .before .before .before .before .before .before .before .before .before .before .before .before .loop .i) (length (s .args .beats .now)) (length (s .args .numbers .now)) (c .before .before .before .before .before .before .before .before .before .before .before .before .loop-test .taken) (s .pre .0))
 
 mul-times-2 : tie.Need-mul-times-2 Inv-loop μ-loop
 mul-times-2 c =
-    let s = c .before .before .before .before .before .before .before .before .before .before .before .before .before .before .before .before .before .before .before .before .before .before .before .before in
-    scaled8 (c .before .before .before .before .before .before .before .before .before .before .before .loop .i) (length (s .args .times .now)) (inside (c .before .before .before .before .before .before .before .before .before .before .before .loop .i) (length (s .args .beats .now)) (length (s .args .times .now)) (c .before .before .before .before .before .before .before .before .before .before .loop-test .taken) (s .pre .1)) (s .good .1 .1 .1 .1 .1 .1 .1 .1 .1 .1 .1 .1 .1 .0 .1)
+    let s = c .before .before .before .before .before .before .before .before .before .before .before .before .before .before .before .before .before .before .before .before .before .before .before .before .before .before in
+    scaled8 (c .before .before .before .before .before .before .before .before .before .before .before .before .before .loop .i) (length (s .args .times .now)) (inside (c .before .before .before .before .before .before .before .before .before .before .before .before .before .loop .i) (length (s .args .beats .now)) (length (s .args .times .now)) (c .before .before .before .before .before .before .before .before .before .before .before .before .loop-test .taken) (s .pre .1)) (s .good .1 .1 .1 .1 .1 .1 .1 .1 .1 .1 .1 .1 .1 .0 .1)
 
 slice-write-times-2 : tie.Need-slice-write-times-2 Inv-loop μ-loop
 slice-write-times-2 c =
-    let s = c .before .before .before .before .before .before .before .before .before .before .before .before .before .before .before .before .before .before .before .before .before .before .before .before in
-    rw (c .before .before .before .before .before .before .before .before .before .before .before .loop .inv .0 .ofTimes .size) (inside (c .before .before .before .before .before .before .before .before .before .before .before .loop .i) (length (s .args .beats .now)) (length (s .args .times .now)) (c .before .before .before .before .before .before .before .before .before .before .loop-test .taken) (s .pre .1))
+    let s = c .before .before .before .before .before .before .before .before .before .before .before .before .before .before .before .before .before .before .before .before .before .before .before .before .before .before in
+    rw (c .before .before .before .before .before .before .before .before .before .before .before .before .before .loop .inv .0 .ofTimes .size) (inside (c .before .before .before .before .before .before .before .before .before .before .before .before .before .loop .i) (length (s .args .beats .now)) (length (s .args .times .now)) (c .before .before .before .before .before .before .before .before .before .before .before .before .loop-test .taken) (s .pre .1))
 
 add-counts : tie.Need-add-counts Inv-loop μ-loop
 add-counts c =
-    let a = c .before .before .before .before .before .before .before .before .before .before .before .before .before .before .before .before .before .before .before .before .before .before .before .before .before .args in
-    let l = c .before .before .before .before .before .before .before .before .before .before .before .before .loop in
-    let near = c .before .before .before .before .soon in
-    omega (arith, ap (λ (w : Soon). w .passed) (near .ensures), few-before (a .tempo-beats .now) (a .tempo-values .now) (l .outlook) (l .at) (getD (a .beats .now) (l .i) nan) (toZ w32 (ofZ w32 (c .before .before .before .before .before .before .before .before .before .beat-to-note-row .result))))
+    let a = c .before .before .before .before .before .before .before .before .before .before .before .before .before .before .before .before .before .before .before .before .before .before .before .before .before .before .before .args in
+    let l = c .before .before .before .before .before .before .before .before .before .before .before .before .before .before .loop in
+    let near = c .before .before .before .before .before .before .soon in
+    omega (arith, ap (λ (w : Soon). w .passed) (near .ensures), few-before (a .tempo-beats .now) (a .tempo-values .now) (l .outlook) (l .at) (getD (a .beats .now) (l .i) nan) (toZ w32 (ofZ w32 (c .before .before .before .before .before .before .before .before .before .before .before .beat-to-note-row .result))))
 
 mul-counts-2 : tie.Need-mul-counts-2 Inv-loop μ-loop
 mul-counts-2 c =
-    let s = c .before .before .before .before .before .before .before .before .before .before .before .before .before .before .before .before .before .before .before .before .before .before .before .before .before in
-    scaled8 (c .before .before .before .before .before .before .before .before .before .before .before .before .loop .i) (length (s .args .counts .now)) (inside (c .before .before .before .before .before .before .before .before .before .before .before .before .loop .i) (length (s .args .beats .now)) (length (s .args .counts .now)) (c .before .before .before .before .before .before .before .before .before .before .before .loop-test .taken) (s .pre .2)) (s .good .1 .1 .1 .1 .1 .1 .1 .1 .1 .1 .1 .1 .1 .1 .0 .1)
+    let s = c .before .before .before .before .before .before .before .before .before .before .before .before .before .before .before .before .before .before .before .before .before .before .before .before .before .before .before in
+    scaled8 (c .before .before .before .before .before .before .before .before .before .before .before .before .before .before .loop .i) (length (s .args .counts .now)) (inside (c .before .before .before .before .before .before .before .before .before .before .before .before .before .before .loop .i) (length (s .args .beats .now)) (length (s .args .counts .now)) (c .before .before .before .before .before .before .before .before .before .before .before .before .before .loop-test .taken) (s .pre .2)) (s .good .1 .1 .1 .1 .1 .1 .1 .1 .1 .1 .1 .1 .1 .1 .0 .1)
 
 slice-write-counts-2 : tie.Need-slice-write-counts-2 Inv-loop μ-loop
 slice-write-counts-2 c =
-    let s = c .before .before .before .before .before .before .before .before .before .before .before .before .before .before .before .before .before .before .before .before .before .before .before .before .before in
-    rw (c .before .before .before .before .before .before .before .before .before .before .before .before .loop .inv .0 .ofCounts .size) (inside (c .before .before .before .before .before .before .before .before .before .before .before .before .loop .i) (length (s .args .beats .now)) (length (s .args .counts .now)) (c .before .before .before .before .before .before .before .before .before .before .before .loop-test .taken) (s .pre .2))
-
-look-on-requires : tie.Need-look-on-requires Inv-loop μ-loop
-look-on-requires c κs = search needs
+    let s = c .before .before .before .before .before .before .before .before .before .before .before .before .before .before .before .before .before .before .before .before .before .before .before .before .before .before .before in
+    rw (c .before .before .before .before .before .before .before .before .before .before .before .before .before .before .loop .inv .0 .ofCounts .size) (inside (c .before .before .before .before .before .before .before .before .before .before .before .before .before .before .loop .i) (length (s .args .beats .now)) (length (s .args .counts .now)) (c .before .before .before .before .before .before .before .before .before .before .before .before .before .loop-test .taken) (s .pre .2))
 
 add-i-2 : tie.Need-add-i-2 Inv-loop μ-loop
 add-i-2 c =
@@ -173,10 +173,15 @@ loop-again-2 c =
     let isRow : r ≡ row binary64 beat = back (asked .result) (record { sfits = asked .ok }) ∙ asked .ensures in
     let t = timing (a .tempo-beats .now) (a .tempo-values .now) (a .stop-beats .now) (a .stop-values .now) (a .delay-beats .now) (a .delay-values .now) (a .warp-beats .now) (a .warp-lengths .now) in
     let near = c .before .before .before .before .before .before .soon in
+    let st = near .result .state in
+    let behind : isBefore (l .outlook .known) (l .outlook .row) (l .at .asked) beat r ≡ false =
+    test-of (l .outlook .known) (l .outlook .row) (l .at .asked) beat r false (record { sfits = c .before .before .before .before .before .before .before .before .before .before .struct-told .given .1 .0 .1 }) (record { sfits = c .before .before .before .before .before .before .before .before .before .struct-told2 .given .1 .0 .1 }) (sym (c .before .before .before .before .before .before .before .before .is-before .ensures) ∙ c .before .before .before .before .before .before .before .if1 .left) in
     let isSoon = near .ensures ∙ ap (λ (z : ℤ). soonBefore (a .tempo-beats .now) (a .tempo-values .now) (l .outlook) (l .at) beat z) isRow in
-    let found = soon-answer t (a .offset) (a .global) (l .at) beat (l .outlook) (l .inv .1) (near .result) isSoon (c .before .before .before .before .before .if2 .taken) in
-    let isRest = back (l .outlook .rest) (record { sfits = c .before .struct-told3 .given .1 .1 .0 .1 }) in
-    (quiet-turn t (a .offset) (a .global) (a .cursor) (a .beats .now) (a .numbers .now) (a .times .now) (a .counts .now) (l .at) (l .numbers) (l .times) (l .counts) (l .i) (l .inv .0) (walkedSoon (a .tempo-values .now) (row binary64 beat) (near .result)) (found .0) r isRow _ (ap (λ (x : Float). sub binary64 x (a .global)) (c .before .before .before .quiet-time2 .ensures ∙ ap (λ (z : ℤ). quietAt (a .tempo-values .now) (near .result .state) z) isRow)) (c .before .before .before .before .before .before .before .before .before .before .before .before .before .loop-test .taken) (s .pre .0) (s .pre .1) (s .pre .2), subst (Sees t (near .result .state)) (sym (rw isRest at (c .look-on .ensures))) (found .1))
+    let found = soon-answer t (a .offset) (a .global) (l .at) beat (l .outlook) (l .inv .1) (rw isRow at behind) (near .result) isSoon (c .before .before .before .before .before .if2 .taken) in
+    let on = lookOn (a .tempo-beats .now) (a .tempo-values .now) st (l .outlook .rest) in
+    let isOn : c .before .before .look-on .result ≡ on = rw (back (l .outlook .rest) (record { sfits = c .before .before .before .struct-told3 .given .1 .1 .0 .1 })) at (c .before .before .look-on .ensures) in
+    let isTime = c .before .quiet-time2 .ensures ∙ ap (λ (o : Outlook). quietTime st (o .rate) r) isOn ∙ ap (λ (z : ℤ). quietTime st (on .rate) z) isRow in
+    (quiet-turn t (a .offset) (a .global) (a .cursor) (a .beats .now) (a .numbers .now) (a .times .now) (a .counts .now) (l .at) (l .numbers) (l .times) (l .counts) (l .i) (l .inv .0) (record { state = st; passed = near .result .passed; time = quietTime st (on .rate) (row binary64 beat) }) (found .0) r isRow _ (ap (λ (x : Float). sub binary64 x (a .global)) isTime) (c .before .before .before .before .before .before .before .before .before .before .before .before .before .loop-test .taken) (s .pre .0) (s .pre .1) (s .pre .2), subst (Sees t st) (sym isOn) (found .1))
 
 ask-requires : tie.Need-ask-requires Inv-loop μ-loop
 ask-requires c κs = search needs
@@ -266,6 +271,7 @@ ask-each-spec =
     loop-less
     loop-again
     soon-requires
+    look-on-requires
     quiet-time-requires-2
     mul-numbers-2
     slice-write-numbers-2
@@ -274,7 +280,6 @@ ask-each-spec =
     add-counts
     mul-counts-2
     slice-write-counts-2
-    look-on-requires
     add-i-2
     loop-less-2
     loop-again-2

@@ -13,7 +13,7 @@ use Rattle.rows.specs.Rows.{beatOf}
 use Rattle.chart.specs.Timing.{Timing}
 use Rattle.clock_walk.specs.Events.{farthest}
 use Rattle.clock_walk.specs.Quiet.{rowAt, endRow}
-use Rattle.clock_walk.specs.Soon.{soonOf}
+use Rattle.clock_walk.specs.Soon.{tempoPassed, rowAfter}
 use Rattle.chart.specs.declared.State.{State}
 use Rattle.clock_tests.specs.TimingNumbers.{beatNumber}
 use Rattle.clock.specs.declared.Cursor.{Cursor}
@@ -56,9 +56,14 @@ isBefore known until last beat asked = pick (eqb (beatNumber beat) 0) (pick know
 unfoldable pub quietTime : State → Float → ℤ → Float
 quietTime s rate asked = add binary64 (s .time) (pick (s .warping) plusZero (div binary64 (beatOf binary64 (asked -ℤ s .row)) rate))
 
--- a walk that is soon over, for a beat that is before the next event that is no tempo
+-- The next tempo passed, where there is one with a value and a beat is before all that follows it, by the rows that are kept; else nothing, and it is not the whole
+-- walk.
 unfoldable pub soonBefore : (tempoBeats tempoValues : List Float) → Outlook → Cursor → Float → ℤ → Soon
 soonBefore tempoBeats tempoValues outlook c beat asked =
-    pick (isBefore (outlook .known) (outlook .rest) (c .asked) beat asked)
-    (soonOf tempoBeats tempoValues (c .state) asked)
+    pick (isBefore (outlook .known) (lesserRow (rowAfter tempoBeats (c .state .tempos)) (outlook .rest)) (c .asked) beat asked)
+    (pick (ltb (c .state .tempos) (length tempoBeats))
+    (pick (ltb (c .state .tempos) (length tempoValues))
+    (record { state = tempoPassed tempoBeats tempoValues (c .state) (outlook .row); passed = 1; whole = true })
+    (record { state = c .state; passed = 0; whole = false }))
+    (record { state = c .state; passed = 0; whole = false }))
     (record { state = c .state; passed = 0; whole = false })

@@ -80,11 +80,11 @@ returns c =
     ∙ ap (λ (z : ℤ). walkOn (early .result) t z (a .start) 0) (back (a .asked) (s .fits .asked))
     ∙ ap (λ (x : Float). walkOn x t (a .asked) (a .start) 0) (early .ensures))
 
-time-at-requires-2 : tie.Need-time-at-requires-2 Inv-loop μ-loop
-time-at-requires-2 c κs = search needs
-
 number-of-requires : tie.Need-number-of-requires Inv-loop μ-loop
 number-of-requires c κs = search needs
+
+time-at-requires-2 : tie.Need-time-at-requires-2 Inv-loop μ-loop
+time-at-requires-2 c κs = search needs
 
 pass-event-requires : tie.Need-pass-event-requires Inv-loop μ-loop
 pass-event-requires c κs =
@@ -107,8 +107,8 @@ is-passed : (c : tie.After-pass-event Inv-loop μ-loop) →
     c .pass-event .result ≡ passing (c .before .before .before .before .before .before .before .before .before .before .early-tempo .result) t (c .before .before .before .before .before .before .before .before .loop .state) (c .before .before .before .before .before .found .given .0 .0)
 is-passed c =
     let n = c .before .before .before .before .before .found .given .0 .0 in
-    let time = c .before .before .time-at2 in
-    rw (c .pass-event .ensures, c .before .number-of .ensures, rw (back (n .row) (record { sfits = c .before .before .before .struct-told .given .0 .1 })) at (time .ensures))
+    let time = c .before .time-at2 in
+    rw (c .pass-event .ensures, c .before .before .before .number-of .ensures, rw (back (n .row) (record { sfits = c .before .before .struct-told .given .0 .1 })) at (time .ensures))
 
 moved : (c : tie.After-pass-event Inv-loop μ-loop) →
     let a = c .before .before .before .before .before .before .before .before .before .before .before .before .before .before .before .before .before .before .before .args in
@@ -160,8 +160,8 @@ walk-to-spec =
     enum-told
     time-at-requires
     returns
-    time-at-requires-2
     number-of-requires
+    time-at-requires-2
     pass-event-requires
     heads-after-requires
     add-passed
