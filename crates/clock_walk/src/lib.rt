@@ -562,8 +562,12 @@ pub fn pass_next_tempo(state: State, row: i32, tempo_beats: &[f32], tempo_values
     ensures { λ r. ⌜ r ≡ tempoPassed (now («tempo_beats» .entry)) (now («tempo_values» .entry)) state row ⌝ }
 {
     if state.tempos < tempo_beats.len() {
+        let next = Next {
+            row,
+            kind: Event::Tempo,
+        };
         let time = time_at(state, row, 0.0, tempo_values);
-        return pass_tempo(state, row, time);
+        return pass_event(state, next, time, 0.0);
     }
     state
 }
