@@ -1,34 +1,33 @@
--- Before the row that was looked ahead for, no event is due, and past one tempo none before the next row: the answer follows without a walk. Assumes nothing.
-use Prim.Native.Nat.{ℕ, _+_, _-_, _<_, _≤_}
+-- Before the row that was looked ahead for no event is due, and before the next event that is no tempo a walk may soon be over: the answer follows without a walk. Assumes nothing.
+use Prim.Native.Nat.{_+_, _-_, _≤_}
 use mathlib.Core.Bool.{Bool, true, false}
 use mathlib.Core.Path.{_≡_, refl, sym, ap, _∙_}
 use mathlib.Core.List.{List}
 use native.Mathlib.Omega.{arith}
-use borrow.Author.Tests.{ne-eqb}
 use lib.Dec.{ltb, eqb}
 use lib.IntN.{ℤ}
 use lib.Signed.{ltZ}
 use lib.ListN.{length, getD}
-use lib.Ieee.{Float, nan, binary64, add, sub, div}
-use Rattle.ieee.specs.Constants.{plusZero, sixty}
+use lib.Ieee.{Float, nan, binary64, sub, div}
+use Rattle.ieee.specs.Constants.{sixty}
 use Rattle.picks.specs.Pick.{pick}
 use Rattle.rows.specs.Rows.{row}
 use Rattle.chart.specs.Timing.{Timing}
-use Rattle.clock_walk.specs.Passing.{inForce, timeTo, eventPassed, afterTempo}
+use Rattle.clock_walk.specs.Events.{farthest}
+use Rattle.clock_walk.specs.Passing.{inForce, timeTo, timeAt}
 use Rattle.clock_walk.specs.Walk.{walk}
-use Rattle.clock_walk.specs.Quiet.{farthest, rowAt, endRow}
-use Rattle.clock_walk.specs.Soon.{tempoPassed, rowAfter}
+use Rattle.clock_walk.specs.Quiet.{rowAt, endRow}
+use Rattle.clock_walk.specs.Soon.{quietAt, soonOf, walkedSoon}
 use Rattle.chart.specs.declared.State.{State}
+use Rattle.clock_walk.specs.declared.Soon.{Soon}
 use Rattle.clock_walk.specs.declared.Walked.{Walked}
-use Rattle.clock_walk.specs.declared.Event.the-variants.{Tempo}
-use Rattle.clock_walk.proofs.OneTempo.{Others, past, none-soon, one-soon}
+use Rattle.clock_walk.proofs.OneTempo.{Others, OtherPlaces, none-soon, soon-few, soon-keeps, soon-walk}
 use Rattle.clock_tests.specs.TimingNumbers.{beatNumber}
 use Rattle.clock.specs.Question.{filled, beginning, reply, asking}
 use Rattle.clock.specs.declared.Cursor.{Cursor}
 use Rattle.clock.specs.declared.Answer.{Answer}
-use Rattle.clock_run.specs.inside.Ahead.{lesserRow, restUntil, blind, lookOn, lookAhead, isBefore, quietTime, pastOne, pastNone, pastTempo}
-use Rattle.clock_run.specs.declared.Ahead.{Ahead}
-use Rattle.clock_run.specs.declared.Past.{Past}
+use Rattle.clock_run.specs.inside.Outlook.{lesserRow, restUntil, blind, lookOn, lookAhead, isBefore, quietTime, soonBefore}
+use Rattle.clock_run.specs.declared.Outlook.{Outlook}
 use Rattle.clock_walk.proofs.RowOrder.{no, lt-le, lt-not}
 
 module _ (r : ℤ) where
@@ -64,8 +63,8 @@ module _ (r : ℤ) where
       }
 
   -- a tempo's time by the rate that was looked for
-  by-rate : (values : List Float) (s : State) → eqb (s .tempos) 0 ≡ false → add binary64 (s .time) (timeTo plusZero values s r) ≡ quietTime s (div binary64 (getD values (s .tempos - 1) nan) sixty) r
-  unfolding timeTo inForce quietTime
+  by-rate : (values : List Float) (s : State) → eqb (s .tempos) 0 ≡ false → quietAt values s r ≡ quietTime s (div binary64 (getD values (s .tempos - 1) nan) sixty) r
+  unfolding timeAt timeTo inForce quietTime
   by-rate values s e = rw e
 
 -- ---- the answer without a walk
@@ -83,12 +82,7 @@ module _ (known : Bool) (until last : ℤ) (beat : Float) (r : ℤ) where
   unfolding isBefore
   before-is h = all-four (eqb (beatNumber beat) 0) known (ltZ r last) (ltZ r until) h
 
-  -- and of one that is not, though it is asked in order
-  not-before : isBefore known until last beat r ≡ false → eqb (beatNumber beat) 0 ≡ true → known ≡ true → ltZ r last ≡ false → ltZ r until ≡ false
-  unfolding isBefore
-  not-before h number k later = rw (number, k, later) at h
-
-abbrev sight : (tempoBeats tempoValues : List Float) → State → ℤ → Ahead
+abbrev sight : (tempoBeats tempoValues : List Float) → State → ℤ → Outlook
 sight tempoBeats tempoValues s rest = record {
   known = true;
   row = lesserRow (rowAt tempoBeats (s .tempos)) rest;
@@ -108,15 +102,6 @@ on-sight tempoBeats tempoValues s rest h = go (eqb (s .tempos) 0) (ltb (s .tempo
     go false false h = no h
     go true b h = no h
 
--- past a tempo that has a value there is something to see
-past-sight : (tempoBeats tempoValues : List Float) (s : State) (rest : ℤ) (place : ℕ) → s .tempos ≡ place + 1 → ltb place (length tempoValues) ≡ true
-    → (eqb (s .tempos) 0 ≡ false) × (lookOn tempoBeats tempoValues s rest ≡ sight tempoBeats tempoValues s rest)
-unfolding lookOn
-past-sight tempoBeats tempoValues s rest place e inValues =
-    let some = ne-eqb (s .tempos) 0 (λ z. omega (arith, e, z)) in
-    let before : s .tempos - 1 ≡ place = omega (arith, e) in
-    (some, rw (some, before, inValues))
-
 abbrev restOf : Timing → State → ℤ
 restOf t s = restUntil (t .stopBeats) (t .delayBeats) (t .warpBeats) s
 
@@ -131,25 +116,25 @@ seen t s h = go (eqb (length (t .tempoBeats)) 0) h
     go true h = no h
 
 -- what is known ahead of a state is what there is to see
-abbrev pub Sees : Timing → State → Ahead → Type 0
-Sees t s ahead = ahead .known ≡ true → ahead ≡ lookAhead t s
+abbrev pub Sees : Timing → State → Outlook → Type 0
+Sees t s outlook = outlook .known ≡ true → outlook ≡ lookAhead t s
 
 -- then there are tempos, one is passed, and its parts are these
-record Seen (t : Timing) (s : State) (ahead : Ahead) : Type 0 where
+record Seen (t : Timing) (s : State) (outlook : Outlook) : Type 0 where
   some : eqb (length (t .tempoBeats)) 0 ≡ false
   passed-one : eqb (s .tempos) 0 ≡ false
-  whole : ahead ≡ sight (t .tempoBeats) (t .tempoValues) s (restOf t s)
+  whole : outlook ≡ sight (t .tempoBeats) (t .tempoValues) s (restOf t s)
 
-all-seen : (t : Timing) (s : State) (ahead : Ahead) → Sees t s ahead → ahead .known ≡ true → Seen t s ahead
-all-seen t s ahead sees known =
+all-seen : (t : Timing) (s : State) (outlook : Outlook) → Sees t s outlook → outlook .known ≡ true → Seen t s outlook
+all-seen t s outlook sees known =
     let e = sees known in
-    let some = seen t s (ap (λ (a : Ahead). a .known) (sym e) ∙ known) in
+    let some = seen t s (ap (λ (a : Outlook). a .known) (sym e) ∙ known) in
     let on = e ∙ some .1 in
-    let one = on-sight (t .tempoBeats) (t .tempoValues) s (restOf t s) (ap (λ (a : Ahead). a .known) (sym on) ∙ known) in
+    let one = on-sight (t .tempoBeats) (t .tempoValues) s (restOf t s) (ap (λ (a : Outlook). a .known) (sym on) ∙ known) in
     record { some = some .0; passed-one = one .0; whole = on ∙ one .1 }
 
 module _ (t : Timing) (offset global : Float) (c : Cursor) (beat : Float) where
-  abbrev answer-of : Walked → Answer
+  abbrev pub answer-of : Walked → Answer
   answer-of w = record { number = 0; time = sub binary64 (w .time) global; count = w .passed + 1; cursor = record { state = w .state; asked = row binary64 beat } }
 
   by-walk : eqb (beatNumber beat) 0 ≡ true → eqb (length (t .tempoBeats)) 0 ≡ false → ltZ (row binary64 beat) (c .asked) ≡ false → (w : Walked) → walk t (row binary64 beat) (c .state) ≡ w
@@ -157,127 +142,67 @@ module _ (t : Timing) (offset global : Float) (c : Cursor) (beat : Float) where
   unfolding asking reply filled beginning
   by-walk number some later w e = rw (number, some, later, e)
 
-  -- the answer that a state gives without a walk, so many events being passed
-  abbrev pub quietly : ℕ → State → Float → Answer
-  quietly eventPassed s rate = record { number = 0; time = sub binary64 (quietTime s rate (row binary64 beat)) global; count = eventPassed + 1; cursor = record { state = s; asked = row binary64 beat } }
-
-  pub quiet-answer : (ahead : Ahead) → Sees t (c .state) ahead → isBefore (ahead .known) (ahead .row) (c .asked) beat (row binary64 beat) ≡ true
-      → quietly 0 (c .state) (ahead .rate) ≡ asking t c offset global beat
-  quiet-answer ahead sees h =
+  -- a beat before the row that was looked for
+  pub quiet-answer : (outlook : Outlook) → Sees t (c .state) outlook → isBefore (outlook .known) (outlook .row) (c .asked) beat (row binary64 beat) ≡ true
+      → answer-of (record { state = c .state; passed = 0; time = quietTime (c .state) (outlook .rate) (row binary64 beat) }) ≡ asking t c offset global beat
+  quiet-answer outlook sees h =
       let r = row binary64 beat in
-      let asked = before-is (ahead .known) (ahead .row) (c .asked) beat r h in
-      let sight = all-seen t (c .state) ahead sees (asked .1) in
-      let before : ltZ r (lesserRow (rowAt (t .tempoBeats) (c .state .tempos)) (restOf t (c .state))) ≡ true = ap (λ (a : Ahead). ltZ r (a .row)) (sym (sight .whole)) ∙ asked .3 in
+      let asked = before-is (outlook .known) (outlook .row) (c .asked) beat r h in
+      let sight = all-seen t (c .state) outlook sees (asked .1) in
+      let before : ltZ r (lesserRow (rowAt (t .tempoBeats) (c .state .tempos)) (restOf t (c .state))) ≡ true = ap (λ (a : Outlook). ltZ r (a .row)) (sym (sight .whole)) ∙ asked .3 in
       let o = others r t (c .state) (below-right r (rowAt (t .tempoBeats) (c .state .tempos)) (restOf t (c .state)) before) in
       let walked = none-soon t r (c .state) (sight .passed-one) o (below-left r (rowAt (t .tempoBeats) (c .state .tempos)) (restOf t (c .state)) before) in
-      ap (λ (a : Ahead). quietly 0 (c .state) (a .rate)) (sight .whole)
+      ap (λ (a : Outlook). answer-of (record { state = c .state; passed = 0; time = quietTime (c .state) (a .rate) r })) (sight .whole)
       ∙ ap (λ (x : Float). answer-of (record { state = c .state; passed = 0; time = x })) (sym (by-rate r (t .tempoValues) (c .state) (sight .passed-one)))
       ∙ sym (by-walk (asked .0) (sight .some) (asked .2) _ walked)
 
--- ---- past one tempo
+-- ---- a walk that is soon over
 
 -- one tempo is passed, or nothing
-pub past-few : (tempoBeats tempoValues stopValues delayValues warpBeats warpLengths : List Float) (ahead : Ahead) (c : Cursor) (beat : Float) (r : ℤ)
-    → pastTempo tempoBeats tempoValues stopValues delayValues warpBeats warpLengths ahead c beat r .passed ≤ 1
-unfolding pastTempo
-past-few tempoBeats tempoValues stopValues delayValues warpBeats warpLengths ahead c beat r =
-    go (isBefore (ahead .known) (lesserRow (rowAfter tempoBeats (c .state .tempos)) (ahead .rest)) (c .asked) beat r) (ltb (c .state .tempos) (length tempoBeats)) (ltb (c .state .tempos) (length tempoValues))
+pub few-before : (tempoBeats tempoValues : List Float) (outlook : Outlook) (c : Cursor) (beat : Float) (r : ℤ) → soonBefore tempoBeats tempoValues outlook c beat r .passed ≤ 1
+unfolding soonBefore
+few-before tempoBeats tempoValues outlook c beat r = go (isBefore (outlook .known) (outlook .rest) (c .asked) beat r)
   where
-    moved : State
-    moved = tempoPassed tempoBeats tempoValues stopValues delayValues warpBeats warpLengths (c .state) (ahead .row)
+    go : (b : Bool) → pick b (soonOf tempoBeats tempoValues (c .state) r) (record { state = c .state; passed = 0; whole = false }) .passed ≤ 1
+    go true = soon-few tempoBeats tempoValues r (c .state)
+    go false = omega arith
 
-    go : (x y z : Bool)
-        → pick x (pick y (pick z (pastOne tempoBeats tempoValues (ahead .rest) moved) (pastNone ahead (c .state))) (pastNone ahead (c .state))) (pastNone ahead (c .state)) .passed ≤ 1
-    go true true true = omega arith
-    go true true false = omega arith
-    go true false z = omega arith
-    go false y z = omega arith
-
-rest-stays : (t : Timing) (s : State) (at : ℤ) → restOf t (past t s at) ≡ restOf t s
-unfolding restUntil tempoPassed eventPassed afterTempo
-rest-stays t s at = go (ltb (s .tempos) (length (t .tempoBeats)))
-  where
-    go : (b : Bool) → restOf t (pick b (eventPassed plusZero (t .tempoValues) (t .stopValues) (t .delayValues) (t .warpBeats) (t .warpLengths) s (record { row = at; kind = Tempo })) s) ≡ restOf t s
-    go true = refl
-    go false = refl
-
--- where a row is before the rest and not before what is next, a tempo is next
-is-tempo : (r tempo rest : ℤ) → ltZ r rest ≡ true → ltZ r (lesserRow tempo rest) ≡ false → lesserRow tempo rest ≡ tempo
-unfolding lesserRow
-is-tempo r tempo rest before behind = go (ltZ tempo rest) refl behind
-  where
-    go : (b : Bool) → ltZ tempo rest ≡ b → ltZ r (pick b tempo rest) ≡ false → pick b tempo rest ≡ tempo
-    go true e h = refl
-    go false e h = no (sym h ∙ before)
+-- where the places but the tempo's stay, so does the row of the next event that is no tempo
+rest-stays : (t : Timing) (s s′ : State) → OtherPlaces s s′ → restOf t s′ ≡ restOf t s
+unfolding restUntil
+rest-stays t s s′ same = rw (same .stops, same .delays, same .warps, same .end, same .warping)
 
 look-some : (t : Timing) (s : State) → eqb (length (t .tempoBeats)) 0 ≡ false → lookAhead t s ≡ lookOn (t .tempoBeats) (t .tempoValues) s (restOf t s)
 unfolding lookAhead
 look-some t s e = rw e
 
-module _ (t : Timing) (offset global : Float) (c : Cursor) (beat : Float) (ahead : Ahead) (sees : Sees t (c .state) ahead)
-    (behind : isBefore (ahead .known) (ahead .row) (c .asked) beat (row binary64 beat) ≡ false) where
-  abbrev moved : State
-  moved = past t (c .state) (ahead .row)
+module _ (t : Timing) (offset global : Float) (c : Cursor) (beat : Float) (outlook : Outlook) (sees : Sees t (c .state) outlook) where
+  abbrev soon : Soon
+  soon = soonOf (t .tempoBeats) (t .tempoValues) (c .state) (row binary64 beat)
 
-  abbrev on : Ahead
-  on = lookOn (t .tempoBeats) (t .tempoValues) moved (ahead .rest)
+  -- what is known of a walk that is soon over
+  abbrev Answers : Soon → Type 0
+  Answers w =
+      (answer-of t offset global c beat (walkedSoon (t .tempoValues) (row binary64 beat) w) ≡ asking t c offset global beat)
+      × Sees t (w .state) (lookOn (t .tempoBeats) (t .tempoValues) (w .state) (outlook .rest))
 
-  abbrev until : ℤ
-  until = lesserRow (rowAfter (t .tempoBeats) (c .state .tempos)) (ahead .rest)
+  before-rest : isBefore (outlook .known) (outlook .rest) (c .asked) beat (row binary64 beat) ≡ true → soon .whole ≡ true → Answers soon
+  before-rest h whole =
+      let r = row binary64 beat in
+      let asked = before-is (outlook .known) (outlook .rest) (c .asked) beat r h in
+      let sight = all-seen t (c .state) outlook sees (asked .1) in
+      let isRest : outlook .rest ≡ restOf t (c .state) = ap (λ (a : Outlook). a .rest) (sight .whole) in
+      let o = others r t (c .state) (ap (λ (z : ℤ). ltZ r z) (sym isRest) ∙ asked .3) in
+      let stays = rest-stays t (c .state) (soon .state) (soon-keeps (t .tempoBeats) (t .tempoValues) r (c .state)) in (
+        sym (by-walk t offset global c beat (asked .0) (sight .some) (asked .2) _ (soon-walk t r (c .state) (sight .passed-one) o whole)),
+        λ k. ap (λ (z : ℤ). lookOn (t .tempoBeats) (t .tempoValues) (soon .state) z) (isRest ∙ sym stays) ∙ sym (look-some t (soon .state) (sight .some)),
+      )
 
-  module _ (inBeats : ltb (c .state .tempos) (length (t .tempoBeats)) ≡ true) where
-    next-place : moved .tempos ≡ c .state .tempos + 1
-    unfolding tempoPassed eventPassed afterTempo
-    next-place = rw inBeats
-
-    after-next : rowAfter (t .tempoBeats) (c .state .tempos) ≡ rowAt (t .tempoBeats) (moved .tempos)
-    unfolding rowAfter
-    after-next = rw (next-place, inBeats)
-
-    at-tempo : ltb (c .state .tempos) (length (t .tempoValues)) ≡ true → isBefore (ahead .known) until (c .asked) beat (row binary64 beat) ≡ true
-        → (quietly t offset global c beat 1 moved (on .rate) ≡ asking t c offset global beat) × Sees t moved on
-    at-tempo inValues h =
-        let r = row binary64 beat in
-        let s = c .state in
-        let tempo = rowAt (t .tempoBeats) (s .tempos) in
-        let asked = before-is (ahead .known) until (c .asked) beat r h in
-        let sight = all-seen t s ahead sees (asked .1) in
-        let isRest : ahead .rest ≡ restOf t s = ap (λ (a : Ahead). a .rest) (sight .whole) in
-        let isRow : ahead .row ≡ lesserRow tempo (restOf t s) = ap (λ (a : Ahead). a .row) (sight .whole) in
-        let before : ltZ r (restOf t s) ≡ true = ap (λ (z : ℤ). ltZ r z) (sym isRest) ∙ below-right r (rowAfter (t .tempoBeats) (s .tempos)) (ahead .rest) (asked .3) in
-        let notRow : ltZ r (ahead .row) ≡ false = not-before (ahead .known) (ahead .row) (c .asked) beat r behind (asked .0) (asked .1) (asked .2) in
-        let isTempo : ahead .row ≡ tempo = isRow ∙ is-tempo r tempo (restOf t s) before (ap (λ (z : ℤ). ltZ r z) (sym isRow) ∙ notRow) in
-        let isMoved : moved ≡ past t s tempo = ap (λ (z : ℤ). past t s z) isTempo in
-        let on-is = past-sight (t .tempoBeats) (t .tempoValues) moved (ahead .rest) (s .tempos) next-place inValues in
-        let later : ltZ r (rowAt (t .tempoBeats) (moved .tempos)) ≡ true =
-        ap (λ (z : ℤ). ltZ r z) (sym after-next) ∙ below-left r (rowAfter (t .tempoBeats) (s .tempos)) (ahead .rest) (asked .3) in
-        let walked : walk t r s ≡ record { state = moved; passed = 1; time = add binary64 (moved .time) (timeTo plusZero (t .tempoValues) moved r) } =
-        one-soon t r s (others r t s before) (ap (λ (z : ℤ). ltZ r z) (sym isTempo) ∙ notRow) (sight .passed-one) (ap (λ (x : State). ltZ r (rowAt (t .tempoBeats) (x .tempos))) (sym isMoved) ∙ later)
-        ∙ ap (λ (x : State). record { state = x; passed = 1; time = add binary64 (x .time) (timeTo plusZero (t .tempoValues) x r) }) (sym isMoved) in (
-          ap (λ (a : Ahead). quietly t offset global c beat 1 moved (a .rate)) (on-is .1)
-              ∙ ap (λ (x : Float). answer-of t offset global c beat (record { state = moved; passed = 1; time = x })) (sym (by-rate r (t .tempoValues) moved (on-is .0)))
-              ∙ sym (by-walk t offset global c beat (asked .0) (sight .some) (asked .2) _ walked),
-          λ k. ap (λ (z : ℤ). lookOn (t .tempoBeats) (t .tempoValues) moved z) (isRest ∙ sym (rest-stays t s (ahead .row))) ∙ sym (look-some t moved (sight .some)),
-        )
-
-  abbrev pub passing : Past
-  passing = pastTempo (t .tempoBeats) (t .tempoValues) (t .stopValues) (t .delayValues) (t .warpBeats) (t .warpLengths) ahead c beat (row binary64 beat)
-
-  abbrev picked : Bool → Bool → Bool → Past
-  picked before inBeats inValues =
-      pick before (pick inBeats (pick inValues (pastOne (t .tempoBeats) (t .tempoValues) (ahead .rest) moved) (pastNone ahead (c .state))) (pastNone ahead (c .state))) (pastNone ahead (c .state))
-
-  -- where one is passed, the answer follows without a walk
-  pub past-answer : 0 < passing .passed
-      → (quietly t offset global c beat (passing .passed) (passing .state) (passing .ahead .rate) ≡ asking t c offset global beat) × Sees t (passing .state) (passing .ahead)
-  unfolding pastTempo
-  past-answer h =
-      go (isBefore (ahead .known) until (c .asked) beat (row binary64 beat)) (ltb (c .state .tempos) (length (t .tempoBeats))) (ltb (c .state .tempos) (length (t .tempoValues))) refl refl refl h
+  pub soon-answer : (w : Soon) → w ≡ soonBefore (t .tempoBeats) (t .tempoValues) outlook c beat (row binary64 beat) → w .whole ≡ true → Answers w
+  unfolding soonBefore
+  soon-answer w is whole = rw is (go (isBefore (outlook .known) (outlook .rest) (c .asked) beat (row binary64 beat)) refl (rw is at whole))
     where
-      go : (x y z : Bool) → isBefore (ahead .known) until (c .asked) beat (row binary64 beat) ≡ x → ltb (c .state .tempos) (length (t .tempoBeats)) ≡ y → ltb (c .state .tempos) (length (t .tempoValues)) ≡ z
-          → 0 < picked x y z .passed
-          → (quietly t offset global c beat (picked x y z .passed) (picked x y z .state) (picked x y z .ahead .rate) ≡ asking t c offset global beat) × Sees t (picked x y z .state) (picked x y z .ahead)
-      go true true true e inBeats inValues h = at-tempo inBeats inValues e
-      go true true false e inBeats inValues h = absurd (omega arith)
-      go true false z e inBeats inValues h = absurd (omega arith)
-      go false y z e inBeats inValues h = absurd (omega arith)
+      go : (b : Bool) → isBefore (outlook .known) (outlook .rest) (c .asked) beat (row binary64 beat) ≡ b
+          → pick b soon (record { state = c .state; passed = 0; whole = false }) .whole ≡ true → Answers (pick b soon (record { state = c .state; passed = 0; whole = false }))
+      go true e h = before-rest e h
+      go false e h = no h

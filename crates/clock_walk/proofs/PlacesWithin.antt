@@ -1,5 +1,5 @@
 -- Where nothing but tempos is due by a row, the row is allowed and not below 0, and the places in the other lists are within them. Assumes nothing.
-use Prim.Native.Nat.{ℕ, _≤_}
+use Prim.Native.Nat.{ℕ, _+_, _<_, _≤_}
 use mathlib.Core.Bool.{Bool, true, false}
 use mathlib.Core.Path.{_≡_, refl}
 use mathlib.Core.List.{List}
@@ -12,7 +12,7 @@ use lib.ListN.{length, getD}
 use lib.Ieee.{Float, fin, nan, binary64, le}
 use Rattle.picks.specs.Pick.{pick}
 use Rattle.rows.specs.Rows.{beatOf}
-use Rattle.clock_walk.specs.Quiet.{endRow, notBefore, onlyTempos}
+use Rattle.clock_walk.specs.Quiet.{endRow, notBefore, isLater, isNextLater, onlyTempos}
 use Rattle.chart.specs.declared.State.{State}
 use Rattle.clock_walk.proofs.RowOrder.{no}
 
@@ -25,6 +25,15 @@ place-within beats place beat h = go (ltb place (length beats)) (eqb place (leng
     go true y e f h = omega (arith, ltb-true place (length beats) e)
     go false true e f h = omega (arith, eqb-true place (length beats) f)
     go false false e f h = no h
+
+-- where the entry after the one at a place is later, there is one at the place
+pub next-within : (beats : List Float) (place : ℕ) (r : ℤ) → isNextLater beats place r ≡ true → place < length beats
+unfolding isNextLater
+next-within beats place r h = go (ltb place (length beats)) refl h
+  where
+    go : (b : Bool) → ltb place (length beats) ≡ b → pick b (isLater beats (place + 1) r) false ≡ true → place < length beats
+    go true e h = ltb-true place (length beats) e
+    go false e h = no h
 
 module _ (stopBeats delayBeats warpBeats : List Float) (s : State) (r : ℤ) where
   abbrev after : Float

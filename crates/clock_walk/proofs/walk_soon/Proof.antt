@@ -1,7 +1,10 @@
 -- `clock_walk::walk_soon` is `soonOf`. Assumes nothing.
 use mathlib.Core.Bool.{true, false}
+use mathlib.Core.Path.{sym, _∙_}
+use native.Mathlib.Omega.{arith}
 use Rattle.clock_walk.specs.Soon.{soonOf}
 use Rattle.clock_walk.proofs.BackFromBits.{back, test-is}
+use Rattle.clock_walk.proofs.PlacesWithin.{next-within}
 use borrow.Author.Needs.{needs}
 use Rattle.clock_walk.proofs.walk_soon.Statement.{statement}
 use Rattle.clock_walk.proofs.walk_soon.Tie as tie
@@ -12,7 +15,7 @@ is-later-requires c κs = search needs
 returns : tie.Need-returns
 unfolding soonOf
 returns c =
-    let s = c .before .before .before .before .before .before .before .before in
+    let s = c .before .before .before .before in
     rw (← (rw (back (s .args .asked) (s .fits .asked)) at (c .before .is-later .ensures)), c .if1 .taken)
 
 row-at-requires : tie.Need-row-at-requires
@@ -21,7 +24,7 @@ row-at-requires c κs = search needs
 returns-2 : tie.Need-returns-2
 unfolding soonOf
 returns-2 c =
-    let s = c .before .before .before .before .before .before .before .before .before .before in
+    let s = c .before .before .before .before .before .before in
     let first = c .before .row-at in
     rw (
       ← (rw (back (s .args .asked) (s .fits .asked)) at (c .before .before .before .is-later .ensures)),
@@ -32,22 +35,29 @@ returns-2 c =
 is-next-later-requires : tie.Need-is-next-later-requires
 is-next-later-requires c κs = search needs
 
-pass-next-tempo-requires : tie.Need-pass-next-tempo-requires
-pass-next-tempo-requires c κs = search needs
+quiet-time-requires : tie.Need-quiet-time-requires
+quiet-time-requires c κs = search needs
+
+pass-tempo-requires : tie.Need-pass-tempo-requires
+pass-tempo-requires c κs =
+    let s = c .before .before .before .before .before .before .before .before .before in
+    let within = next-within (s .args .tempo-beats .now) (s .args .state .tempos) _ (sym (c .before .before .is-next-later .ensures) ∙ c .before .if3 .taken) in
+    omega (arith, within, s .good .1 .1 .0 .1)
 
 returns-3 : tie.Need-returns-3
 unfolding soonOf
 returns-3 c =
-    let s = c .before .before .before .before .before .before .before .before .before .before .before .before .before in
-    let first = c .before .before .before .before .row-at in
+    let s = c .before .before .before .before .before .before .before .before .before .before in
+    let first = c .before .before .before .before .before .row-at in
     let is = back (s .args .asked) (s .fits .asked) in
     rw (
-      ← (rw is at (c .before .before .before .before .before .before .is-later .ensures)),
-      c .before .before .before .before .before .if1 .left,
-      test-is (s .args .asked) (first .result) _ false (s .fits .asked) (record { sfits = first .ok }) (c .before .before .before .if2 .left) (first .ensures),
-      ← (rw is at (c .before .before .is-next-later .ensures)),
-      c .before .if3 .taken,
-      c .pass-next-tempo .ensures,
+      ← (rw is at (c .before .before .before .before .before .before .before .is-later .ensures)),
+      c .before .before .before .before .before .before .if1 .left,
+      test-is (s .args .asked) (first .result) _ false (s .fits .asked) (record { sfits = first .ok }) (c .before .before .before .before .if2 .left) (first .ensures),
+      ← (rw is at (c .before .before .before .is-next-later .ensures)),
+      c .before .before .if3 .taken,
+      c .pass-tempo .ensures,
+      c .before .quiet-time .ensures,
       back (first .result) (record { sfits = first .ok }),
       first .ensures,
     )
@@ -55,7 +65,7 @@ returns-3 c =
 returns-4 : tie.Need-returns-4
 unfolding soonOf
 returns-4 c =
-    let s = c .before .before .before .before .before .before .before .before .before .before .before .before in
+    let s = c .before .before .before .before .before .before .before .before in
     let first = c .before .before .before .row-at in
     let is = back (s .args .asked) (s .fits .asked) in
     rw (
@@ -75,6 +85,7 @@ walk-soon-spec =
     row-at-requires
     returns-2
     is-next-later-requires
-    pass-next-tempo-requires
+    quiet-time-requires
+    pass-tempo-requires
     returns-3
     returns-4)
