@@ -1,5 +1,5 @@
 -- A beat that is at or past the beat of the next row, or at or before that of the row before, is on another row. Assumes nothing.
-use Prim.Native.Nat.{ℕ, zero, suc, _-_, _^_, _≤_}
+use Prim.Native.Nat.{ℕ, zero, suc, _-_, _≤_}
 use mathlib.Core.Path.{_≡_, refl, ap, _∙_, subst}
 use mathlib.Core.Bool.{true, false}
 use mathlib.Core.Logic.{_⊎_, inl, inr}
@@ -9,10 +9,10 @@ use borrow.Author.Tests.{lt-ltb, le-ltb, leb-true}
 use mir.Syntax.{w32}
 use mir.Val.{SFits, toZ, ofZ}
 use mir.ValLaws.{toZ-ofZ}
-use lib.Dec.{T, leb, le→leb, lt→ltb, leb→le}
+use lib.Dec.{T, leb→le}
 use lib.IntN.{ℤ, pos, negsuc, natAbs, _+ℤ_, _-ℤ_}
 use lib.Signed.{leZ}
-use lib.Ieee.{Float, fin, binary32, le, lt, eq, div, ofInt, round, size, inFloat}
+use lib.Ieee.{Float, fin, binary32, le, lt, eq, div, ofInt, round, size}
 use lib.Ieee.Fits.{and-i, and-l, and-r}
 use Rattle.ieee.specs.Magnitude.{withinPower}
 use Rattle.rows.specs.Rows.{row, beatOf, allowedBeat}
@@ -27,12 +27,6 @@ use Rattle.order.proofs.Compare.{below?}
 use Rattle.rows.proofs.RowKeys.{row-keys-differ}
 use Rattle.ieee.proofs.FloatsInOrder.{float-le-trans}
 use Rattle.lookup.specs.Lookups.{keyOf}
-
--- a row that an f32 has with nothing lost
-pub in-f32 : (r : ℤ) → natAbs r ≤ 3145729 → T (inFloat binary32 r)
-unfolding inFloat
-in-f32 (pos n) h = le→leb n (2 ^ 24) (omega arith)
-in-f32 (negsuc n) h = lt→ltb n (2 ^ 24) (omega arith)
 
 -- ---- the rows beside one
 abbrev after : ℤ → ℤ

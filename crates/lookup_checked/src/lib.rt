@@ -2,15 +2,15 @@
 use limits::Kind;
 use lookup::Looked;
 ghost use mathlib.Core.Path.{_≡_};
-ghost use mathlib.Core.Bool.{true};
+ghost use mathlib.Core.Bool.{true, false};
 ghost use lib.IntN.{natAbs};
-ghost use lib.Ieee.{nan, binary32};
+ghost use lib.Ieee.{nan, binary32, ofInt};
 ghost use Rattle.rows.specs.Rows.{beatOf};
 ghost use lib.ListN.{length, getD};
 ghost use Prim.Native.Nat.{_≤_, _<_};
 ghost use Rattle.rows.specs.RowKey.{rowKey};
 ghost use Rattle.limits.specs.Numbers.{rangeOf, inRange, rowIn};
-ghost use Rattle.lookup.specs.Lookups.{keyOf, warpCovers, fakeCovers, askedRow, looked, askedNumber, judgableNumber};
+ghost use Rattle.lookup.specs.Lookups.{keyOf, ofLast, warpCovers, fakeCovers, askedRow, looked, askedNumber, judgableNumber};
 ghost use Rattle.lookup_checked.specs.Checked.{isOnRow, lastCovers, lastPauses, unpausedBy, fakeBy, warpedBy, judgableBy, atRow};
 
 // ---- the test of the lists
@@ -48,12 +48,21 @@ pub fn check_lookups(
 
 // ---- an entry on a row
 
-// The beat of a row that is allowed, or next to one: an f32 has such rows with nothing lost.
+// A row that is allowed, or next to one, as an f32: around 1.5 * 2^23 the patterns of whole numbers follow one another, so the row moves the pattern, and what it
+// was moved from is taken off. The processor's own cast would wait for what its register held before, which is the answer to the last question.
+fn row_as_f32(row: i32) -> f32
+    requires { ⌜ natAbs row ≤ 3145729 ⌝ }
+    ensures { λ r. ⌜ r ≡ ofInt binary32 row ⌝ }
+{
+    f32::from_bits(rows::key_of_row(row) - 884998144) - 12582912.0
+}
+
+// The beat of such a row.
 fn beat_of_row(row: i32) -> f32
     requires { ⌜ natAbs row ≤ 3145729 ⌝ }
     ensures { λ r. ⌜ r ≡ beatOf binary32 row ⌝ }
 {
-    (row as f32) / (rows::ROWS_PER_BEAT as f32)
+    row_as_f32(row) / (rows::ROWS_PER_BEAT as f32)
 }
 
 // The row of an entry is only worked out where the beat of the next row, or of the row before, does not tell that it is another.
@@ -140,15 +149,11 @@ fn fake_covers(beat: f32, length: f32, at: f32) -> bool
 
 // ---- the last entry that counts, by the place that is found
 
-// The tests of warps and fakes come last, since no branch is made of them.
-
-fn in_warp(warp_beats: &[f32], warp_lengths: &[f32], place: usize, at: f32, row: i32) -> bool
-    requires { ⌜ (place ≤ length (now «warp_beats»)) × (rowIn row ≡ true) ⌝ }
-    ensures { λ r. ⌜ r ≡ lastCovers (warpCovers at) place (rowKey row) (now («warp_beats» .entry)) (now («warp_lengths» .entry)) ⌝ }
+// Whether the last warp before the place covers a beat. Only then it matters whether the next one is on the row, and so covers nothing there.
+fn last_warp_covers(warp_beats: &[f32], warp_lengths: &[f32], place: usize, at: f32) -> bool
+    requires { ⌜ place ≤ length (now «warp_beats») ⌝ }
+    ensures { λ r. ⌜ r ≡ ofLast (warpCovers at) false (now («warp_beats» .entry)) (now («warp_lengths» .entry)) place ⌝ }
 {
-    if next_on_row(warp_beats, place, row) {
-        return false;
-    }
     if place == 0 {
         return false;
     }
@@ -159,6 +164,7 @@ fn in_warp(warp_beats: &[f32], warp_lengths: &[f32], place: usize, at: f32, row:
     )
 }
 
+// The test of a fake comes last, since no branch is made of it.
 fn in_fake(fake_beats: &[f32], fake_lengths: &[f32], place: usize, at: f32, row: i32) -> bool
     requires { ⌜ (place ≤ length (now «fake_beats»)) × (rowIn row ≡ true) ⌝ }
     ensures { λ r. ⌜ r ≡ lastCovers (fakeCovers at) place (rowKey row) (now («fake_beats» .entry)) (now («fake_lengths» .entry)) ⌝ }
@@ -253,15 +259,17 @@ pub fn is_warp_at_row_checked(
     if limits::row_taken(row) {
         let at = beat_of_row(row);
         let place = order_search::place_of(warp_beats, at);
-        if in_warp(warp_beats, warp_lengths, place, at, row) {
-            return answered(is_unpaused(
-                stop_beats,
-                stop_values,
-                delay_beats,
-                delay_values,
-                at,
-                row,
-            ));
+        if last_warp_covers(warp_beats, warp_lengths, place, at) {
+            if !next_on_row(warp_beats, place, row) {
+                return answered(is_unpaused(
+                    stop_beats,
+                    stop_values,
+                    delay_beats,
+                    delay_values,
+                    at,
+                    row,
+                ));
+            }
         }
         return answered(false);
     }
@@ -290,15 +298,17 @@ pub fn is_warp_at_beat_checked(
         let row = lookup::asked_row(beat);
         let at = beat_of_row(row);
         let place = order_search::place_of(warp_beats, at);
-        if in_warp(warp_beats, warp_lengths, place, at, row) {
-            return answered(is_unpaused(
-                stop_beats,
-                stop_values,
-                delay_beats,
-                delay_values,
-                at,
-                row,
-            ));
+        if last_warp_covers(warp_beats, warp_lengths, place, at) {
+            if !next_on_row(warp_beats, place, row) {
+                return answered(is_unpaused(
+                    stop_beats,
+                    stop_values,
+                    delay_beats,
+                    delay_values,
+                    at,
+                    row,
+                ));
+            }
         }
         return answered(false);
     }
@@ -362,11 +372,13 @@ pub fn is_judgable_at_row_checked(
         let warp = order_search::place_of(warp_beats, at);
         let fake = order_search::place_of(fake_beats, at);
         let faked = in_fake(fake_beats, fake_lengths, fake, at, row);
-        if in_warp(warp_beats, warp_lengths, warp, at, row) {
+        if last_warp_covers(warp_beats, warp_lengths, warp, at) {
             if !faked {
-                return answered(
-                    !is_unpaused(stop_beats, stop_values, delay_beats, delay_values, at, row),
-                );
+                if !next_on_row(warp_beats, warp, row) {
+                    return answered(
+                        !is_unpaused(stop_beats, stop_values, delay_beats, delay_values, at, row),
+                    );
+                }
             }
         }
         return answered(!faked);
@@ -401,11 +413,13 @@ pub fn is_judgable_at_beat_checked(
         let warp = order_search::place_of(warp_beats, at);
         let fake = order_search::place_of(fake_beats, at);
         let faked = in_fake(fake_beats, fake_lengths, fake, at, row);
-        if in_warp(warp_beats, warp_lengths, warp, at, row) {
+        if last_warp_covers(warp_beats, warp_lengths, warp, at) {
             if !faked {
-                return answered(
-                    !is_unpaused(stop_beats, stop_values, delay_beats, delay_values, at, row),
-                );
+                if !next_on_row(warp_beats, warp, row) {
+                    return answered(
+                        !is_unpaused(stop_beats, stop_values, delay_beats, delay_values, at, row),
+                    );
+                }
             }
         }
         return answered(!faked);

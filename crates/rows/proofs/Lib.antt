@@ -15,3 +15,4 @@ pub mod Quantizing
 pub mod RowBySum
 pub mod RowMarks
 pub mod RowKeys
+pub mod EntriesOnRows

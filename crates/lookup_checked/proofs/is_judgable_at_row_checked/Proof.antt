@@ -10,6 +10,7 @@ use Rattle.rows.specs.RowKey.{rowKey}
 use Rattle.order_search.specs.Search.{placeOf}
 use Rattle.lookup.specs.Lookups.{warpCovers}
 use Rattle.lookup_checked.specs.Checked.{lastCovers, unpausedBy, fakeBy, warpedBy, judgableBy}
+use Rattle.lookup_checked.proofs.LastCounted.{last-covers, last-covers-nothing}
 use Rattle.lookup_checked.proofs.AnswersAtRow.{taken-row, refused-row, near, found-in, still-taken, in-warp-only, elsewhere}
 use borrow.Author.Needs.{needs}
 use Rattle.lookup_checked.proofs.is_judgable_at_row_checked.Statement.{statement}
@@ -43,8 +44,8 @@ in-fake-requires c κs =
     let taken = yes in
     found-in row through back taken (beat .beat-of-row .result) (start .args .fake-beats .now) (c .place-of2 .result) (c .place-of2 .ensures)
 
-in-warp-requires : tie.Need-in-warp-requires
-in-warp-requires c κs =
+last-warp-covers-requires : tie.Need-last-warp-covers-requires
+last-warp-covers-requires c κs =
     let warp = c .before .before in
     let beat = warp .before in
     let allowed = beat .before in
@@ -54,11 +55,23 @@ in-warp-requires c κs =
     let back = toZ-ofZ w32 row (start .fits .row) in
     let yes = sym (rw back at (allowed .before .row-taken .ensures)) ∙ allowed .if1 .taken in
     let taken = yes in
-    found-in row through back taken (beat .beat-of-row .result) (start .args .warp-beats .now) (warp .place-of .result) (warp .place-of .ensures)
+    found-in row through back taken (beat .beat-of-row .result) (start .args .warp-beats .now) (warp .place-of .result) (warp .place-of .ensures) .0
+
+next-on-row-requires : tie.Need-next-on-row-requires
+next-on-row-requires c κs =
+    let beat = c .before .before .before .before .before .before in
+    let allowed = beat .before in
+    let start = allowed .before .before .before .before .before .before .before .before .before .before in
+    let row = start .args .row in
+    let through = toZ w32 (ofZ w32 row) in
+    let back = toZ-ofZ w32 row (start .fits .row) in
+    let yes = sym (rw back at (allowed .before .row-taken .ensures)) ∙ allowed .if1 .taken in
+    let taken = yes in
+    still-taken row through back taken
 
 is-unpaused-requires : tie.Need-is-unpaused-requires
 is-unpaused-requires c κs =
-    let beat = c .before .before .before .before .before .before in
+    let beat = c .before .before .before .before .before .before .before .before in
     let allowed = beat .before in
     let start = allowed .before .before .before .before .before .before .before .before .before .before in
     let row = start .args .row in
@@ -75,7 +88,9 @@ returns : tie.Need-returns
 unfolding judgableBy warpedBy fakeBy
 returns c =
     let pauses = c .before in
-    let shown = pauses .before in
+    let alone = pauses .before in
+    let next = alone .before in
+    let shown = next .before in
     let inside = shown .before in
     let warp = inside .before in
     let fake = warp .before in
@@ -89,10 +104,10 @@ returns c =
     let back = toZ-ofZ w32 row (start .fits .row) in
     let yes = sym (rw back at (allowed .before .row-taken .ensures)) ∙ allowed .if1 .taken in
     let taken = yes in
-    let covers = rw (first .place-of .ensures) at (warp .in-warp .ensures) in
     let hides = rw (second .place-of2 .ensures) at (fake .in-fake .ensures) in
     let at = beat .beat-of-row .result in
-    c .answered .ensures ∙ taken-row (judgableBy (start .args .stop-beats .now) (start .args .stop-values .now) (start .args .delay-beats .now) (start .args .delay-values .now) (start .args .warp-beats .now) (start .args .warp-lengths .now) (start .args .fake-beats .now) (start .args .fake-lengths .now)) row (rowIn row) through back yes (beat .beat-of-row .result) (beat .beat-of-row .ensures) (not (pauses .is-unpaused .result)) (rw (pauses .is-unpaused .ensures) (in-warp-only (lastCovers (warpCovers at) (placeOf at (start .args .warp-beats .now)) (rowKey through) (start .args .warp-beats .now) (start .args .warp-lengths .now)) (fakeBy (start .args .fake-beats .now) (start .args .fake-lengths .now) at (rowKey through)) (unpausedBy (start .args .stop-beats .now) (start .args .stop-values .now) (start .args .delay-beats .now) (start .args .delay-values .now) at (rowKey through)) (sym covers ∙ inside .if2 .taken) (ap not (sym hides) ∙ shown .if3 .taken)))
+    let covers = last-covers (warpCovers at) (first .place-of .result) (placeOf at (start .args .warp-beats .now)) (rowKey through) (first .place-of .ensures) (start .args .warp-beats .now) (start .args .warp-lengths .now) (sym (warp .last-warp-covers .ensures) ∙ inside .if2 .taken) (ap not (sym (next .next-on-row .ensures)) ∙ alone .if4 .taken) in
+    c .answered .ensures ∙ taken-row (judgableBy (start .args .stop-beats .now) (start .args .stop-values .now) (start .args .delay-beats .now) (start .args .delay-values .now) (start .args .warp-beats .now) (start .args .warp-lengths .now) (start .args .fake-beats .now) (start .args .fake-lengths .now)) row (rowIn row) through back yes (beat .beat-of-row .result) (beat .beat-of-row .ensures) (not (pauses .is-unpaused .result)) (rw (pauses .is-unpaused .ensures) (in-warp-only (lastCovers (warpCovers at) (placeOf at (start .args .warp-beats .now)) (rowKey through) (start .args .warp-beats .now) (start .args .warp-lengths .now)) (fakeBy (start .args .fake-beats .now) (start .args .fake-lengths .now) at (rowKey through)) (unpausedBy (start .args .stop-beats .now) (start .args .stop-values .now) (start .args .delay-beats .now) (start .args .delay-values .now) at (rowKey through)) covers (ap not (sym hides) ∙ shown .if3 .taken)))
 
 answered-requires-2 : tie.Need-answered-requires-2
 answered-requires-2 c κs = search needs
@@ -113,13 +128,14 @@ returns-2 c =
     let back = toZ-ofZ w32 row (start .fits .row) in
     let yes = sym (rw back at (allowed .before .row-taken .ensures)) ∙ allowed .if1 .taken in
     let taken = yes in
-    let covers = rw (first .place-of .ensures) at (warp .in-warp .ensures) in
     let hides = rw (second .place-of2 .ensures) at (fake .in-fake .ensures) in
     let at = beat .beat-of-row .result in
+    let nothing = last-covers-nothing (warpCovers at) (first .place-of .result) (placeOf at (start .args .warp-beats .now)) (rowKey through) (first .place-of .ensures) (start .args .warp-beats .now) (start .args .warp-lengths .now) in
     c .answered2 .ensures
     ∙ taken-row (judgableBy (start .args .stop-beats .now) (start .args .stop-values .now) (start .args .delay-beats .now) (start .args .delay-values .now) (start .args .warp-beats .now) (start .args .warp-lengths .now) (start .args .fake-beats .now) (start .args .fake-lengths .now)) row (rowIn row) through back yes (beat .beat-of-row .result) (beat .beat-of-row .ensures) (not (fake .in-fake .result)) (rw hides (elsewhere (lastCovers (warpCovers at) (placeOf at (start .args .warp-beats .now)) (rowKey through) (start .args .warp-beats .now) (start .args .warp-lengths .now)) (fakeBy (start .args .fake-beats .now) (start .args .fake-lengths .now) at (rowKey through)) (unpausedBy (start .args .stop-beats .now) (start .args .stop-values .now) (start .args .delay-beats .now) (start .args .delay-values .now) at (rowKey through)) (elim (other .if2 .came) [
-      | inl p ↦ inl (ap not (sym hides) ∙ p .1 .left)
-      | inr p ↦ inr (sym covers ∙ p .left)
+      | inl p ↦ inr (nothing (inl (ap not (sym (p .2 .ensures)) ∙ p .3 .left)))
+      | inr (inl p) ↦ inl (ap not (sym hides) ∙ p .1 .left)
+      | inr (inr p) ↦ inr (nothing (inr (sym (warp .last-warp-covers .ensures) ∙ p .left)))
     ])))
 
 returns-3 : tie.Need-returns-3
@@ -136,7 +152,8 @@ is-judgable-at-row-checked-spec =
     place-of-requires
     place-of-requires-2
     in-fake-requires
-    in-warp-requires
+    last-warp-covers-requires
+    next-on-row-requires
     is-unpaused-requires
     answered-requires
     returns

@@ -1,11 +1,16 @@
 -- `lookup_checked::is_warp_at_row_checked` answers by the row's beat, or refuses the row. Assumes nothing.
-use mathlib.Core.Path.{sym, _∙_}
-use mathlib.Core.Bool.{false}
+use mathlib.Core.Path.{sym, ap, _∙_}
+use mathlib.Core.Bool.{false, not}
+use mathlib.Core.Logic.{inl, inr}
 use mir.Syntax.{w32}
 use mir.Val.{toZ, ofZ}
 use mir.ValLaws.{toZ-ofZ}
 use Rattle.limits.specs.Numbers.{rowIn}
+use Rattle.rows.specs.RowKey.{rowKey}
+use Rattle.order_search.specs.Search.{placeOf}
+use Rattle.lookup.specs.Lookups.{warpCovers}
 use Rattle.lookup_checked.specs.Checked.{warpedBy}
+use Rattle.lookup_checked.proofs.LastCounted.{last-covers, last-covers-nothing}
 use Rattle.lookup_checked.proofs.AnswersAtRow.{taken-row, refused-row, near, found-in, still-taken}
 use borrow.Author.Needs.{needs}
 use Rattle.lookup_checked.proofs.is_warp_at_row_checked.Statement.{statement}
@@ -24,8 +29,8 @@ beat-of-row-requires c κs =
 place-of-requires : tie.Need-place-of-requires
 place-of-requires c κs = search needs
 
-in-warp-requires : tie.Need-in-warp-requires
-in-warp-requires c κs =
+last-warp-covers-requires : tie.Need-last-warp-covers-requires
+last-warp-covers-requires c κs =
     let beat = c .before in
     let allowed = beat .before in
     let start = allowed .before .before .before .before .before .before .before .before in
@@ -34,12 +39,23 @@ in-warp-requires c κs =
     let back = toZ-ofZ w32 row (start .fits .row) in
     let yes = sym (rw back at (allowed .before .row-taken .ensures)) ∙ allowed .if1 .taken in
     let taken = yes in
-    found-in row through back taken (beat .beat-of-row .result) (start .args .warp-beats .now) (c .place-of .result) (c .place-of .ensures)
+    found-in row through back taken (beat .beat-of-row .result) (start .args .warp-beats .now) (c .place-of .result) (c .place-of .ensures) .0
+
+next-on-row-requires : tie.Need-next-on-row-requires
+next-on-row-requires c κs =
+    let beat = c .before .before .before in
+    let allowed = beat .before in
+    let start = allowed .before .before .before .before .before .before .before .before in
+    let row = start .args .row in
+    let through = toZ w32 (ofZ w32 row) in
+    let back = toZ-ofZ w32 row (start .fits .row) in
+    let yes = sym (rw back at (allowed .before .row-taken .ensures)) ∙ allowed .if1 .taken in
+    let taken = yes in
+    still-taken row through back taken
 
 is-unpaused-requires : tie.Need-is-unpaused-requires
 is-unpaused-requires c κs =
-    let warp = c .before in
-    let beat = warp .before .before in
+    let beat = c .before .before .before .before .before in
     let allowed = beat .before in
     let start = allowed .before .before .before .before .before .before .before .before in
     let row = start .args .row in
@@ -56,7 +72,9 @@ returns : tie.Need-returns
 unfolding warpedBy
 returns c =
     let pauses = c .before in
-    let inside = pauses .before in
+    let alone = pauses .before in
+    let next = alone .before in
+    let inside = next .before in
     let warp = inside .before in
     let found = warp .before in
     let beat = found .before in
@@ -67,8 +85,9 @@ returns c =
     let back = toZ-ofZ w32 row (start .fits .row) in
     let yes = sym (rw back at (allowed .before .row-taken .ensures)) ∙ allowed .if1 .taken in
     let taken = yes in
-    let covers = rw (found .place-of .ensures) at (warp .in-warp .ensures) in
-    c .answered .ensures ∙ taken-row (warpedBy (start .args .stop-beats .now) (start .args .stop-values .now) (start .args .delay-beats .now) (start .args .delay-values .now) (start .args .warp-beats .now) (start .args .warp-lengths .now)) row (rowIn row) through back yes (beat .beat-of-row .result) (beat .beat-of-row .ensures) (pauses .is-unpaused .result) (sym (rw (sym covers ∙ inside .if2 .taken, sym (pauses .is-unpaused .ensures))))
+    let at = beat .beat-of-row .result in
+    let covers = last-covers (warpCovers at) (found .place-of .result) (placeOf at (start .args .warp-beats .now)) (rowKey through) (found .place-of .ensures) (start .args .warp-beats .now) (start .args .warp-lengths .now) (sym (warp .last-warp-covers .ensures) ∙ inside .if2 .taken) (ap not (sym (next .next-on-row .ensures)) ∙ alone .if3 .taken) in
+    c .answered .ensures ∙ taken-row (warpedBy (start .args .stop-beats .now) (start .args .stop-values .now) (start .args .delay-beats .now) (start .args .delay-values .now) (start .args .warp-beats .now) (start .args .warp-lengths .now)) row (rowIn row) through back yes (beat .beat-of-row .result) (beat .beat-of-row .ensures) (pauses .is-unpaused .result) (sym (rw (covers, sym (pauses .is-unpaused .ensures))))
 
 answered-requires-2 : tie.Need-answered-requires-2
 answered-requires-2 c κs = search needs
@@ -87,8 +106,12 @@ returns-2 c =
     let back = toZ-ofZ w32 row (start .fits .row) in
     let yes = sym (rw back at (allowed .before .row-taken .ensures)) ∙ allowed .if1 .taken in
     let taken = yes in
-    let covers = rw (found .place-of .ensures) at (warp .in-warp .ensures) in
-    c .answered2 .ensures ∙ taken-row (warpedBy (start .args .stop-beats .now) (start .args .stop-values .now) (start .args .delay-beats .now) (start .args .delay-values .now) (start .args .warp-beats .now) (start .args .warp-lengths .now)) row (rowIn row) through back yes (beat .beat-of-row .result) (beat .beat-of-row .ensures) false (sym (rw (sym covers ∙ outside .if2 .left)))
+    let at = beat .beat-of-row .result in
+    let covers = last-covers-nothing (warpCovers at) (found .place-of .result) (placeOf at (start .args .warp-beats .now)) (rowKey through) (found .place-of .ensures) (start .args .warp-beats .now) (start .args .warp-lengths .now) (elim (outside .if2 .came) [
+      | inl p ↦ inl (ap not (sym (p .1 .ensures)) ∙ p .2 .left)
+      | inr p ↦ inr (sym (warp .last-warp-covers .ensures) ∙ p .left)
+    ]) in
+    c .answered2 .ensures ∙ taken-row (warpedBy (start .args .stop-beats .now) (start .args .stop-values .now) (start .args .delay-beats .now) (start .args .delay-values .now) (start .args .warp-beats .now) (start .args .warp-lengths .now)) row (rowIn row) through back yes (beat .beat-of-row .result) (beat .beat-of-row .ensures) false (sym (rw covers))
 
 returns-3 : tie.Need-returns-3
 returns-3 c =
@@ -102,7 +125,8 @@ is-warp-at-row-checked-spec =
     row-taken-requires
     beat-of-row-requires
     place-of-requires
-    in-warp-requires
+    last-warp-covers-requires
+    next-on-row-requires
     is-unpaused-requires
     answered-requires
     returns

@@ -8,8 +8,8 @@ use lib.ListN.{length}
 use Rattle.columns.proofs.LaidEach.{LayingEach, begun, turned, ended}
 use Rattle.columns.proofs.EachOverFront.{each-over-front}
 use Rattle.rows.proofs.Allowed.{allowed-at}
+use Rattle.rows.proofs.EntriesOnRows.{each-beat, each-value}
 use Rattle.rows.specs.RowKey.{onRow}
-use Rattle.tidy_rows.proofs.BothWays.{each-beat, each-value}
 use borrow.Author.Needs.{needs}
 use Rattle.tidy_rows.proofs.lay_each.Statement.{statement}
 use Rattle.tidy_rows.proofs.lay_each.Tie as tie

@@ -11,7 +11,7 @@ use Rattle.order.specs.Entries.{entries, first, second}
 use Rattle.order.proofs.Columns.{length-entries}
 use Rattle.columns.proofs.EachOverFront.{copied-over-front}
 use Rattle.rows.specs.RowKey.{rowKeyAt, onItsRow}
-use Rattle.tidy_rows.proofs.BothWays.{each-beat, each-value}
+use Rattle.rows.proofs.EntriesOnRows.{each-beat, each-value}
 use Rattle.tidy_kept.specs.Near.{nearTo}
 use Rattle.tidy_kept.specs.Passing.{stillWritten}
 use Rattle.tidy_by_rows.proofs.ByMarks.{marked-over-front, rising-never-falls}
