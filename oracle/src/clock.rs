@@ -348,8 +348,8 @@ const PAST: usize = 4;
 
 #[derive(Default)]
 pub struct Found {
-    compared: u64,
-    different: u64,
+    pub compared: u64,
+    pub different: u64,
     shown: Vec<String>,
 }
 

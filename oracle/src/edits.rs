@@ -13,18 +13,24 @@ fn row(beat: f32) -> i32 {
 }
 
 /// Whether an entry on a row can turn the time of an asked row: tempos and delays on the row itself too, stops and warps only before it.
-fn counts(list: usize, at: i32, asked: i32) -> bool {
+pub fn counts(list: usize, at: i32, asked: i32) -> bool {
     if list == TEMPOS || list == DELAYS { at <= asked } else { at < asked }
 }
 
-/// The chart up to a row, and behind it another one's lists, or nothing. Before row 0 the first tempo stays too.
-fn edited(chart: &Chart, other: &Chart, asked: i32, random: &mut Random) -> Chart {
+/// The chart's entries that count for a row, and behind them another chart's, or none. Before row 0 the first tempo counts too.
+pub fn edited_by(
+    counts: fn(usize, i32, i32) -> bool,
+    chart: &Chart,
+    other: &Chart,
+    asked: i32,
+    random: &mut Random,
+) -> Chart {
     let mut edited = chart.clone();
     for list in [TEMPOS, STOPS, DELAYS, WARPS] {
         let (beats, values) = &mut edited.lists[list];
         let mut kept = beats.iter().take_while(|beat| counts(list, row(**beat), asked)).count();
-        if list == TEMPOS && asked < 0 {
-            kept = 1.min(beats.len());
+        if list == TEMPOS {
+            kept = kept.max(1).min(beats.len());
         }
         beats.truncate(kept);
         values.truncate(kept);
@@ -43,25 +49,28 @@ fn edited(chart: &Chart, other: &Chart, asked: i32, random: &mut Random) -> Char
     }
     let (tempos, values) = &mut edited.lists[TEMPOS];
     // a list without tempos is the one of 60 at beat 0
-    if let (Some(first), true) = (tempos.first(), chart.lists[TEMPOS].0.is_empty()) {
-        if *first != 0.0 {
-            tempos.insert(0, 0.0);
-            values.insert(0, 60.0);
-            tempos.truncate(1_024);
-            values.truncate(1_024);
-        }
+    if tempos.first().is_some_and(|first| *first != 0.0) {
+        tempos.insert(0, 0.0);
+        values.insert(0, 60.0);
+        tempos.truncate(1_024);
+        values.truncate(1_024);
     }
     edited
 }
 
-pub fn compare_all(work: Work, total: &mut Total) {
+pub fn edited(chart: &Chart, other: &Chart, asked: i32, random: &mut Random) -> Chart {
+    edited_by(counts, chart, other, asked, random)
+}
+
+/// Asks both sides about a beat before an edit and after it.
+pub fn compare(work: Work, edit: fn(&Chart, &Chart, i32, &mut Random) -> Chart) -> Found {
     let mut random = Random::new(work.seed, "edits");
     let mut found = Found::default();
     for turn in 0..work.lists() / 4 {
         let (chart, other) = (Chart::sound(turn, &mut random), Chart::sound(turn + 1, &mut random));
         let timing = chart.original();
         for beat in chart.asked(6, &mut random).into_iter().filter(|beat| beat_allowed(*beat)) {
-            let edited = edited(&chart, &other, probe::beat_to_note_row(beat), &mut random);
+            let edited = edit(&chart, &other, probe::beat_to_note_row(beat), &mut random);
             assert_eq!((chart.number(), edited.number()), (0, 0), "{edited:?}");
             let (before, after) = (get_time_for_beat(&timing, beat), get_time_for_beat(&edited.original(), beat));
             let (one, two) = (fresh_time_for_beat(&chart, beat), fresh_time_for_beat(&edited, beat));
@@ -73,5 +82,9 @@ pub fn compare_all(work: Work, total: &mut Total) {
             });
         }
     }
-    found.add("edits further on, of original and port", total);
+    found
+}
+
+pub fn compare_all(work: Work, total: &mut Total) {
+    compare(work, edited).add("edits further on, of original and port", total);
 }

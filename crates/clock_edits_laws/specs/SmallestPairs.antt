@@ -10,7 +10,7 @@ use Rattle.rows.specs.Rows.{row}
 use Rattle.chart.specs.Timing.{Timing, timing}
 use Rattle.clock_tests.specs.TimingNumbers.{timingNumber}
 use Rattle.clock_histories.specs.Demand.{alone}
-use Rattle.clock_edits_laws.specs.AgreeingTimings.{entriesOn, belowRow, AgreeFor}
+use Rattle.clock_edits_laws.specs.AgreeingTimings.{entriesOn, elsewhere, AgreeFor}
 
 -- ---- numbers
 
@@ -68,9 +68,9 @@ abbrev pub countAt : Timing → Float → ℕ
 countAt t beat = alone t plusZero plusZero beat .count
 
 pub record SmallestPairs : Type 0 where
-  -- A delay on the asked row, and none: before the row both have no delays, and beat 4 is at 5 seconds and at 4.
+  -- A delay on the asked row, and none: on other rows neither has one, and beat 4 is at 5 seconds and at 4.
   pub delayTaken : isTaken (withDelay four (fin false 1 (pos 0))) × isTaken (atTempo sixty)
-  pub delayOnTheRow : entriesOn (belowRow (row binary64 four)) (four ∷ []) (fin false 1 (pos 0) ∷ []) ≡ []
+  pub delayOnTheRow : entriesOn (elsewhere (row binary64 four)) (four ∷ []) (fin false 1 (pos 0) ∷ []) ≡ []
   pub delayMoves : (secondOf (withDelay four (fin false 1 (pos 0))) four ≡ five) × (secondOf (atTempo sixty) four ≡ four)
   -- A tempo on the asked row, and none: beat 4 is at 4 seconds in both, and the counts are 3 and 2.
   pub tempoTaken : isTaken (withTempo four oneTwenty)
