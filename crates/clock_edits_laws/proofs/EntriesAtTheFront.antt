@@ -1,7 +1,7 @@
 -- Where rows rise, the entries on rows up to a row are the front of the list: so timings that agree for a row are the same when cut there. Assumes nothing.
-use Prim.Native.Nat.{ℕ, suc}
+use Prim.Native.Nat.{suc}
 use mathlib.Core.List.{List, [], _∷_, map}
-use mathlib.Core.Bool.{Bool, true, false, not}
+use mathlib.Core.Bool.{Bool, true, false}
 use mathlib.Core.Path.{_≡_, refl, sym, ap, _∙_}
 use native.Mathlib.Omega.{arith}
 use lib.ListN.{length, take}
@@ -10,11 +10,11 @@ use lib.Signed.{ltZ}
 use lib.Ieee.{Float, binary64}
 use Rattle.picks.specs.Pick.{pick}
 use Rattle.rows.specs.Rows.{row}
-use Rattle.chart.specs.Timing.{Timing}
+use Rattle.chart.specs.Timing.{Timing, timing}
 use Rattle.clock_walk.proofs.RowOrder.{no, lt-le, le-trans, lt-not}
 use Rattle.clock_tests.specs.TimingNumbers.{risesFrom, rises}
 use Rattle.clock_edits_laws.specs.AgreeingTimings.{entriesOn, upToRow, belowRow, AgreeFor}
-use Rattle.clock_edits_laws.proofs.Fronts.{frontBy, cut}
+use Rattle.clock_edits_laws.proofs.Fronts.{frontBy, is-above, cut}
 
 -- a test that fails above wherever it fails
 abbrev Falls : (ℤ → Bool) → Type 0
@@ -69,11 +69,7 @@ module _ (test : ℤ → Bool) (falls : Falls test) where
 
 module _ (r : ℤ) where
   up-to-falls : Falls (upToRow r)
-  up-to-falls x y h k = rw (lt-le r x y (is-true (ltZ r x) h) (lt-not x y k))
-    where
-      is-true : (b : Bool) → not b ≡ false → b ≡ true
-      is-true true h = refl
-      is-true false h = no (sym h)
+  up-to-falls x y h k = rw (lt-le r x y (is-above r x h) (lt-not x y k))
 
   below-falls : Falls (belowRow r)
   below-falls x y h k = le-trans r x y h (lt-not x y k)
@@ -89,18 +85,30 @@ pub record Ordered (t : Timing) : Type 0 where
   pub delaysRise : rises (t .delayBeats) ≡ true
   pub warpsRise : rises (t .warpBeats) ≡ true
 
--- the columns of what counts for a row
-abbrev upTo : ℤ → Timing → Timing
-upTo r t = record {
-  tempoBeats = beatsOn (entriesOn (upToRow r) (t .tempoBeats) (t .tempoValues));
-  tempoValues = valuesOn (entriesOn (upToRow r) (t .tempoBeats) (t .tempoValues));
-  stopBeats = beatsOn (entriesOn (belowRow r) (t .stopBeats) (t .stopValues));
-  stopValues = valuesOn (entriesOn (belowRow r) (t .stopBeats) (t .stopValues));
-  delayBeats = beatsOn (entriesOn (upToRow r) (t .delayBeats) (t .delayValues));
-  delayValues = valuesOn (entriesOn (upToRow r) (t .delayBeats) (t .delayValues));
-  warpBeats = beatsOn (entriesOn (belowRow r) (t .warpBeats) (t .warpLengths));
-  warpLengths = valuesOn (entriesOn (belowRow r) (t .warpBeats) (t .warpLengths));
-}
+-- four lists of entries as the columns of a timing
+abbrev columnsOf : (tempos stops delays warps : List (Float × Float)) → Timing
+columnsOf tempos stops delays warps = timing (beatsOn tempos) (valuesOn tempos) (beatsOn stops) (valuesOn stops) (beatsOn delays) (valuesOn delays) (beatsOn warps) (valuesOn warps)
+
+same-columns : (tempos stops delays warps tempos′ stops′ delays′ warps′ : List (Float × Float)) → tempos ≡ tempos′ → stops ≡ stops′ → delays ≡ delays′ → warps ≡ warps′
+    → columnsOf tempos stops delays warps ≡ columnsOf tempos′ stops′ delays′ warps′
+same-columns tempos stops delays warps tempos′ stops′ delays′ warps′ a b c d = rw (a, b, c, d)
+
+-- what counts for a row
+module _ (r : ℤ) (t : Timing) where
+  abbrev temposOn : List (Float × Float)
+  temposOn = entriesOn (upToRow r) (t .tempoBeats) (t .tempoValues)
+
+  abbrev stopsOn : List (Float × Float)
+  stopsOn = entriesOn (belowRow r) (t .stopBeats) (t .stopValues)
+
+  abbrev delaysOn : List (Float × Float)
+  delaysOn = entriesOn (upToRow r) (t .delayBeats) (t .delayValues)
+
+  abbrev warpsOn : List (Float × Float)
+  warpsOn = entriesOn (belowRow r) (t .warpBeats) (t .warpLengths)
+
+  abbrev upTo : Timing
+  upTo = columnsOf temposOn stopsOn delaysOn warpsOn
 
 up-to-is-cut : (r : ℤ) (t : Timing) → Ordered t → upTo r t ≡ cut r t
 unfolding cut
@@ -117,7 +125,7 @@ up-to-is-cut r t o =
     )
 
 pub agree-cut : (r : ℤ) (t u : Timing) → Ordered t → Ordered u → AgreeFor r t u → cut r t ≡ cut r u
-agree-cut r t u o p agree = sym (up-to-is-cut r t o) ∙ agree-up-to ∙ up-to-is-cut r u p
-  where
-    agree-up-to : upTo r t ≡ upTo r u
-    agree-up-to = rw (agree .tempos, agree .delays, agree .stops, agree .warps)
+agree-cut r t u o p agree =
+    sym (up-to-is-cut r t o)
+    ∙ same-columns (temposOn r t) (stopsOn r t) (delaysOn r t) (warpsOn r t) (temposOn r u) (stopsOn r u) (delaysOn r u) (warpsOn r u) (agree .tempos) (agree .stops) (agree .delays) (agree .warps)
+    ∙ up-to-is-cut r u p

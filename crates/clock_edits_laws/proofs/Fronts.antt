@@ -4,9 +4,11 @@ use mathlib.Core.List.{List, [], _∷_}
 use mathlib.Core.Bool.{Bool, true, false}
 use mathlib.Core.Path.{_≡_, refl}
 use native.Mathlib.Omega.{arith}
+use borrow.Author.Tests.{not-false}
 use lib.ListN.{length, getD, take}
 use lib.Seq.{length-take-le}
 use lib.IntN.{ℤ}
+use lib.Signed.{ltZ}
 use lib.Ieee.{Float, nan, binary64}
 use Rattle.picks.specs.Pick.{pick}
 use Rattle.rows.specs.Rows.{row}
@@ -39,6 +41,10 @@ module _ (test : ℤ → Bool) where
 
   pub front-length : (beats : List Float) → length (take (frontBy test beats) beats) ≡ frontBy test beats
   front-length beats = length-take-le (frontBy test beats) beats (front-le beats)
+
+-- a row that is not up to another is above it
+pub is-above : (r at : ℤ) → upToRow r at ≡ false → ltZ r at ≡ true
+is-above r at out = not-false (ltZ r at) out
 
 -- a timing cut at a row: of each list its front
 unfoldable pub cut : ℤ → Timing → Timing

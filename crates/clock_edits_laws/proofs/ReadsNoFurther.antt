@@ -6,17 +6,17 @@ use mathlib.Core.Path.{_≡_, refl, sym, ap, _∙_}
 use native.Mathlib.Omega.{arith}
 use borrow.Author.Tests.{eqb-false}
 use lib.Dec.{eqb}
-use lib.ListN.{length, getD, take}
+use lib.ListN.{getD, take}
 use lib.Seq.{getD-take}
 use lib.IntN.{ℤ}
-use lib.Ieee.{Float, nan, binary64, add}
+use lib.Ieee.{Float, nan}
 use Rattle.picks.specs.Pick.{pick}
 use Rattle.chart.specs.Timing.{Timing}
 use Rattle.chart.specs.declared.State.{State}
 use Rattle.clock_walk.specs.Events.{ahead, due}
 use Rattle.clock_walk.specs.Passing.{inForce, timeTo, timeAt, brings, eventPassed, passing}
 use Rattle.clock_walk.specs.Course.{onward, eventsLeft}
-use Rattle.clock_walk.specs.Walk.{isPasses, isDue, ended, walkOn}
+use Rattle.clock_walk.specs.Walk.{isPasses, isDue, walkOn}
 use Rattle.clock_walk.specs.declared.Next.{Next}
 use Rattle.clock_walk.specs.declared.Event.{Event}
 use Rattle.clock_walk.specs.declared.Event.the-variants.{WarpEnd, Tempo, Delay, Stop, Warp}

@@ -1,10 +1,10 @@
 -- What is due by an asked row is the same where the lists are cut at that row. Assumes nothing.
-use Prim.Native.Nat.{ℕ, _≤_, _<_}
+use Prim.Native.Nat.{ℕ, _≤_}
 use mathlib.Core.List.{List}
-use mathlib.Core.Bool.{Bool, true, false, not}
+use mathlib.Core.Bool.{Bool, true, false}
 use mathlib.Core.Path.{_≡_, refl, sym, ap, _∙_}
 use native.Mathlib.Omega.{arith}
-use borrow.Author.Tests.{ltb-true, ltb-false, lt-ltb}
+use borrow.Author.Tests.{ltb-true, ltb-false}
 use lib.Dec.{ltb}
 use lib.ListN.{length, getD, take}
 use lib.Seq.{getD-take}
@@ -27,7 +27,7 @@ use Rattle.clock_walk.proofs.RowOrder.{no, lt-le, le-lt, le-trans, lt-not}
 use Rattle.clock_walk.proofs.ClockTest.{behind}
 use Rattle.clock_walk.proofs.StaysWithin.{PlacesWithin}
 use Rattle.clock_edits_laws.specs.AgreeingTimings.{upToRow, belowRow}
-use Rattle.clock_edits_laws.proofs.Fronts.{frontBy, front-le, front-stops, front-length, cut}
+use Rattle.clock_edits_laws.proofs.Fronts.{frontBy, front-le, front-stops, front-length, is-above, cut}
 
 -- ---- what was found in a list and in its front: the same, or both beyond, in a sense in which no candidate of the list comes back from there
 data Close (Beyond : Ahead → Type 0) (a b : Ahead) : Type 0 where
@@ -89,15 +89,11 @@ module _ (r : ℤ) where
   abbrev Above : Ahead → Type 0
   Above a = ltZ r (rowAhead a) ≡ true
 
-  above-row : (b : Bool) → not b ≡ false → b ≡ true
-  above-row true h = refl
-  above-row false h = no (sym h)
-
   up-to-bounds : (k : Event) → Bounds (upToRow r) k Above
   up-to-bounds k = record {
     later = λ at a p e. lt-le r (rowAhead a) at p e;
-    fails = λ at out. above-row (ltZ r at) out;
-    over = λ at a out e. lt-le r at (rowAhead a) (above-row (ltZ r at) out) (lt-not at (rowAhead a) e);
+    fails = λ at out. is-above r at out;
+    over = λ at a out e. lt-le r at (rowAhead a) (is-above r at out) (lt-not at (rowAhead a) e);
   }
 
   -- ---- stops and warps: beyond is not below the asked row, and not due

@@ -1,16 +1,17 @@
--- Smallest pairs of timings that show that nothing of what has to agree can be left out. Definitions only.
+-- Pairs of timings, as small as they can be, that differ in one thing that is easily left out of what has to agree, and what their answers are. Definitions only.
 use Prim.Native.Nat.{ℕ}
-use mathlib.Core.List.{List, [], _∷_}
-use mathlib.Core.Bool.{Bool, true, false}
+use mathlib.Core.List.{[], _∷_}
+use mathlib.Core.Bool.{true, false}
 use mathlib.Core.Path.{_≡_}
-use lib.IntN.{ℤ, pos, negsuc}
+use lib.IntN.{pos, negsuc}
 use lib.Ieee.{Float, fin, binary64, add, lt}
 use Rattle.ieee.specs.Constants.{plusZero, sixty}
 use Rattle.rows.specs.Rows.{row}
 use Rattle.chart.specs.Timing.{Timing, timing}
 use Rattle.clock_tests.specs.TimingNumbers.{timingNumber}
 use Rattle.clock_histories.specs.Demand.{alone}
-use Rattle.clock_edits_laws.specs.AgreeingTimings.{entriesOn, elsewhere, AgreeFor}
+use Rattle.clock_edits_laws.specs.AgreeingTimings.{entriesOn, elsewhere}
+use Rattle.clock_edits_laws.specs.EditsFurtherOn.{AgreeSoFar}
 
 -- ---- numbers
 
@@ -77,7 +78,7 @@ pub record SmallestPairs : Type 0 where
   pub tempoCounts : (secondOf (withTempo four oneTwenty) four ≡ four) × (countAt (withTempo four oneTwenty) four ≡ 3) × (countAt (atTempo sixty) four ≡ 2)
   -- Tempos of 60 and of 120: they agree for row -48, where neither has anything yet, and beat -1 is at -1 second and at -0.5.
   pub earlyTaken : isTaken (atTempo oneTwenty)
-  pub earlyAgree : AgreeFor (row binary64 minusOne) (atTempo sixty) (atTempo oneTwenty)
+  pub earlyAgree : AgreeSoFar (atTempo sixty) (atTempo oneTwenty) plusZero plusZero minusOne
   pub earlyMoves : (secondOf (atTempo sixty) minusOne ≡ minusOne) × (secondOf (atTempo oneTwenty) minusOne ≡ minusHalf)
   -- Warps of one length on one row, by beats 4 and 4.01: they end on rows 288 and 289, and beat 8 is at 6 seconds and at less.
   pub warpsTaken : isTaken (withWarp four twoAndABit) × isTaken (withWarp fourAndABit twoAndABit)
