@@ -1,11 +1,13 @@
 //! The comparison of edits further on finds edits that reach too far: each leaves out one thing that has to agree.
 #![cfg(feature = "port")]
 
+use std::sync::atomic::{AtomicU64, Ordering::Relaxed};
+
 use oracle::cases::Work;
 use oracle::edits::{compare, counts, edited, edited_by};
 use oracle::random::Random;
 use oracle::timing::probe;
-use oracle::timings::{Chart, DELAYS, TEMPOS, WARPS};
+use oracle::timings::{Chart, DELAYS, STOPS, TEMPOS, WARPS};
 
 const WORK: Work = Work { seed: 1, seconds: 0 };
 
@@ -14,6 +16,30 @@ fn edits_further_on_move_nothing() {
     let found = compare(WORK, edited);
     assert!(found.compared >= 1_000);
     assert_eq!(found.different, 0);
+}
+
+/// Stops and warps on the asked row differ often, and so do timings asked before row 0.
+#[test]
+fn what_may_differ_is_tried() {
+    static ON_THE_ROW: [AtomicU64; 2] = [AtomicU64::new(0), AtomicU64::new(0)];
+    static BEFORE_ZERO: AtomicU64 = AtomicU64::new(0);
+    fn noted(chart: &Chart, other: &Chart, asked: i32, random: &mut Random) -> Chart {
+        let edited = edited(chart, other, asked, random);
+        let on_row = |chart: &Chart, list: usize| {
+            let (beats, values) = &chart.lists[list];
+            let found = beats.iter().position(|beat| probe::beat_to_note_row((*beat).into()) == asked);
+            found.map(|place| (beats[place].to_bits(), values[place].to_bits()))
+        };
+        for (list, count) in [STOPS, WARPS].into_iter().zip(&ON_THE_ROW) {
+            count.fetch_add((on_row(chart, list) != on_row(&edited, list)).into(), Relaxed);
+        }
+        BEFORE_ZERO.fetch_add((asked < 0 && chart.lists != edited.lists).into(), Relaxed);
+        edited
+    }
+    assert_eq!(compare(WORK, noted).different, 0);
+    for count in ON_THE_ROW.iter().chain([&BEFORE_ZERO]) {
+        assert!(count.load(Relaxed) >= 100, "{ON_THE_ROW:?} {BEFORE_ZERO:?}");
+    }
 }
 
 #[test]
