@@ -347,14 +347,14 @@ const PAST: usize = 4;
 // ---- the comparison
 
 #[derive(Default)]
-struct Found {
-    compared: u64,
-    different: u64,
+pub struct Found {
+    pub compared: u64,
+    pub different: u64,
     shown: Vec<String>,
 }
 
 impl Found {
-    fn check(&mut self, same: bool, show: impl FnOnce() -> String) {
+    pub fn check(&mut self, same: bool, show: impl FnOnce() -> String) {
         self.compared += 1;
         if !same {
             self.different += 1;
@@ -364,7 +364,7 @@ impl Found {
         }
     }
 
-    fn add(self, name: &str, total: &mut Total) {
+    pub fn add(self, name: &str, total: &mut Total) {
         total.add(name, self.compared, self.different, self.shown);
     }
 }

@@ -22,6 +22,8 @@ pub mod cases;
 pub mod charts;
 #[cfg(feature = "port")]
 pub mod clock;
+#[cfg(feature = "port")]
+pub mod edits;
 pub mod lists;
 #[cfg(feature = "port")]
 pub mod lookups;

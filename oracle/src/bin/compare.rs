@@ -3,6 +3,7 @@
 use oracle::calls::{self, Call, Visit, called};
 use oracle::cases::{Cases, LAST_ROW, Work};
 use oracle::clock;
+use oracle::edits;
 use oracle::lookups;
 use oracle::numbers::Number;
 use oracle::processing;
@@ -26,6 +27,7 @@ fn main() -> ExitCode {
     processing::compare_all(work, &mut total);
     sm_stops::compare_all(work, &mut total);
     clock::compare_all(work, &mut total);
+    edits::compare_all(work, &mut total);
     speeds::compare_all(work, &mut total);
     assembly::compare_all(work, &mut total);
     notes::compare_all(work, &mut total);

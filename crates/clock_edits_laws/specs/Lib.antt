@@ -1,0 +1,3 @@
+pub mod AgreeingTimings
+pub mod EditsFurtherOn
+pub mod SmallestPairs
