@@ -15,3 +15,5 @@ pub mod Quantizing
 pub mod RowBySum
 pub mod RowMarks
 pub mod RowKeys
+pub mod RowBits
+pub mod PackedOrder
