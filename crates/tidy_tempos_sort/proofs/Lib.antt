@@ -1,2 +1,4 @@
-pub mod SortedEntries
+pub mod MayPrecede
+pub mod PairsInserted
+pub mod LaidFirst
 pub mod Sortable
