@@ -1,4 +1,4 @@
 pub mod MayPrecede
 pub mod PairsInserted
-pub mod LaidFirst
+pub mod SortedByHalves
 pub mod Sortable
