@@ -14,7 +14,7 @@ use Rattle.order.specs.Entries.{first, second}
 use Rattle.order.proofs.Compare.{same?}
 use Rattle.order.proofs.TidiedList.{lasts-skip, lasts-keep, lasts-final, lasts-end}
 use Rattle.order.proofs.LastEntries.{lasts-some}
-use Rattle.order.proofs.LaidOverFront.{Laying, laying-none, laying-all}
+use Rattle.order.proofs.LaidOverFront.{Laying, laying-none, laying-count, laying-all}
 use Rattle.order.proofs.WrittenAhead.{Ahead, ahead-none, ahead-room, ahead-over, ahead-kept}
 
 -- the list xs, whose entries are laid as `put` says: after i of them, count are kept
@@ -77,3 +77,8 @@ module _ {X A B : Type 0} (key : X → ℕ) (put : X → A × B) {firstOld : Lis
           let final = lasts-final key none xs i h k in
           let none-left = ap (map put) (lasts-end key xs (i + 1) k) in
           (laying-all _ _ _ _ _ (first-kept h final) (ap (map first) none-left), laying-all _ _ _ _ _ (second-kept h final) (ap (map second) none-left))
+
+      pub lasts-count : i < length xs → length xs ≤ i + 1 → count + 1 ≡ length (lasts key xs)
+      lasts-count h k =
+          laying-count _ _ _ _ _ (first-kept h (lasts-final key none xs i h k)) (ap (λ (l : List X). map first (map put l)) (lasts-end key xs (i + 1) k))
+          ∙ length-map (map put (lasts key xs)) first ∙ length-map (lasts key xs) put

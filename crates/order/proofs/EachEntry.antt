@@ -1,4 +1,5 @@
--- What holds of every entry of a list: it holds of those that are kept, and where it is that two keys agree, the entries rise and are found by either. Assumes nothing.
+-- What holds of every entry of a list: it holds of those that are kept, and where it is that two keys agree, the entries rise, are found and are tidied by either.
+-- Assumes nothing.
 use mathlib.Core.Path.{_≡_, refl, ap, sym, _∙_}
 use mathlib.Core.List.{List, [], _∷_, map}
 use mathlib.Core.Logic.{⊎-elim}
@@ -7,7 +8,7 @@ use native.Mathlib.Omega.{arith}
 use lib.ListN.{length}
 use Rattle.order.specs.Order.{ordered, tidied, lasts, only, theLast, Above, Rises}
 use Rattle.order.proofs.Compare.{same?}
-use Rattle.order.proofs.OrderedList.{Each, each-ordered, only-nil, only-same, only-other}
+use Rattle.order.proofs.OrderedList.{Each, each-ordered, ordered-agree, only-nil, only-same, only-other}
 use Rattle.order.proofs.TidiedList.{lasts-nil, lasts-one, lasts-same, lasts-other, lasts-ordered}
 
 pub each-so : {A : Type 0} (key : A → ℕ) {P Q : A → Type 0} → ((x : A) → P x → Q x) → (l : List A) → Each key P l → Each key Q l
@@ -25,6 +26,25 @@ module _ {A : Type 0} (key : A → ℕ) (P : A → Type 0) where
 
   pub each-tidied : (l : List A) → Each key P l → Each key P (tidied key l)
   each-tidied l p = rw (← lasts-ordered key l) (each-lasts (ordered key l) (each-ordered key P l p))
+
+-- ---- of keys that agree on every entry, and of answers that do
+module _ {A : Type 0} (key other : A → ℕ) where
+  lasts-agree : (l : List A) → Each key (λ (x : A). key x ≡ other x) l → lasts key l ≡ lasts other l
+  lasts-agree [] p = rw (lasts-nil key, lasts-nil other)
+  lasts-agree (x ∷ []) p = rw (lasts-one key x, lasts-one other x)
+  lasts-agree (x ∷ y ∷ l) p =
+      ⊎-elim (λ e. rw (lasts-same key x y l e, lasts-same other x y l (sym (p .0) ∙ e ∙ p .1 .0)) (lasts-agree (y ∷ l) (p .1)))
+      (λ n. rw (lasts-other key x y l n, lasts-other other x y l (λ e. n (p .0 ∙ e ∙ sym (p .1 .0)))) (ap (_∷_ x) (lasts-agree (y ∷ l) (p .1))))
+      (same? (key x) (key y))
+
+  pub tidied-agree : (l : List A) → Each key (λ (x : A). key x ≡ other x) l → tidied key l ≡ tidied other l
+  tidied-agree l p =
+      sym (lasts-ordered key l) ∙ lasts-agree (ordered key l) (each-ordered key (λ (x : A). key x ≡ other x) l p)
+      ∙ ap (lasts other) (ordered-agree key other l p) ∙ lasts-ordered other l
+
+pub map-agree : {A B : Type 0} (key : A → ℕ) (f g : A → B) (l : List A) → Each key (λ (x : A). f x ≡ g x) l → map f l ≡ map g l
+map-agree key f g [] p = refl
+map-agree key f g (x ∷ l) p = rw (p .0, map-agree key f g l (p .1))
 
 -- ---- of entries by other names, whose keys agree
 module _ {A B : Type 0} (g : A → B) (key : A → ℕ) (other : B → ℕ) where

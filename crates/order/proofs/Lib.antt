@@ -13,3 +13,4 @@ pub mod WrittenAhead
 pub mod LastEntries
 pub mod FallsCounted
 pub mod EachEntry
+pub mod PackedOrder

@@ -1,8 +1,6 @@
--- Two columns as one list of entries, the places of a list and what stands there, and the sum of a list. Definitions only.
+-- Two columns as one list of entries, the places of a list, and the sum of a list. Definitions only.
 use Prim.Native.Nat.{ℕ, zero, suc, _+_}
-use mathlib.Core.List.{List, [], _∷_, map}
-use lib.ListN.{getD}
-use lib.Ieee.{Float, nan}
+use mathlib.Core.List.{List, [], _∷_}
 
 -- two columns as one list, as long as the shorter one
 unfoldable pub entries : {A B : Type 0} → List A → List B → List (A × B)
@@ -24,10 +22,6 @@ placesFrom at (suc n) = at ∷ placesFrom (suc at) n
 -- the first n places: 0, 1, ..
 unfoldable pub places : ℕ → List ℕ
 places n = placesFrom 0 n
-
--- what stands at some places of a column
-abbrev pub gathered : List Float → List ℕ → List Float
-gathered from at = map (λ (p : ℕ). getD from p nan) at
 
 -- all numbers of a list together
 unfoldable pub total : List ℕ → ℕ

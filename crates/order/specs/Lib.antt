@@ -1,3 +1,4 @@
 pub mod Order
 pub mod Entries
 pub mod FloatKey
+pub mod Packed

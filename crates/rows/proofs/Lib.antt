@@ -16,3 +16,5 @@ pub mod RowBySum
 pub mod RowMarks
 pub mod RowKeys
 pub mod EntriesOnRows
+pub mod RowBits
+pub mod PackedOrder

@@ -1,2 +1,4 @@
-pub mod SortedEntries
+pub mod MayPrecede
+pub mod PairsInserted
+pub mod SortedByHalves
 pub mod Sortable

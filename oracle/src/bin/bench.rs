@@ -33,6 +33,7 @@ fn main() {
     );
     for entries in [16, 256, 1_024] {
         ORDERS.iter().for_each(|order| bench.tidying::<Rows>(entries, *order));
+        bench.tidying::<Rows>(entries, SPREAD);
     }
     for entries in [16, 256] {
         ORDERS[..2].iter().for_each(|order| bench.tidying::<Tempos>(entries, *order));
@@ -477,6 +478,9 @@ impl Bench {
 type Order = (&'static str, fn(&mut [f64], &mut Random));
 
 const ORDERS: [Order; 3] = [("ordered", |_, _| ()), ("shuffled", shuffle), ("reversed", |beats, _| beats.reverse())];
+
+/// Over the whole range of beats, in no order.
+const SPREAD: Order = ("spread", |beats, random| beats.iter_mut().for_each(|beat| *beat = random.part() * 131_072.0 - 65_536.0));
 
 const ASKED: [Order; 3] = [("rising", |_, _| ()), ("falling", |beats, _| beats.reverse()), ("in no order", shuffle)];
 
