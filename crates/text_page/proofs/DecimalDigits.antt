@@ -8,7 +8,7 @@ use borrow.Author.Tests.{lt-ltb, le-ltb, leb-true, leb-false}
 use mathlib.Core.Bool.{Bool, true, false}
 use lib.Dec.{ltb, leb}
 use Rattle.io.specs.Digits.{digits, Fewest}
-use Rattle.report_text.specs.Output.{decimalDigits}
+use Rattle.text_page.specs.Digits.{decimalDigits}
 
 one-fewer : (r : ℕ) → suc r - 1 ≡ r
 one-fewer r = omega arith

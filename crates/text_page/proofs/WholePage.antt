@@ -7,7 +7,7 @@ use native.Mathlib.Omega.{arith}
 use borrow.Author.Tests.{lt-ltb}
 use lib.ListN.{length, set, drop, length-set}
 use lib.Seq.{sets, sets-eq}
-use Rattle.report_text.specs.Page.{nextPlace, placeBehind, pageWith, Wrote, WroteWhole}
+use Rattle.text_page.specs.Page.{nextPlace, placeBehind, pageWith, Wrote, WroteWhole}
 
 next : (room at : ℕ) → at < room → nextPlace room at ≡ at + 1
 unfolding nextPlace

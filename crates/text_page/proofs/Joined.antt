@@ -6,7 +6,7 @@ use native.Mathlib.Omega.{arith}
 use borrow.Author.Tests.{lt-ltb, le-ltb}
 use lib.ListN.{length, set, take, length-set}
 use lib.Seq.{set-out}
-use Rattle.report_text.specs.Page.{nextPlace, placeBehind, pageWith, Wrote}
+use Rattle.text_page.specs.Page.{nextPlace, placeBehind, pageWith, Wrote}
 
 pub written-length : (at : ℕ) (bytes page : List ℕ) → length (pageWith at bytes page) ≡ length page
 unfolding pageWith

@@ -1,12 +1,12 @@
--- `report_text::put_bytes` meets its contract: a turn is a byte. Assumes nothing.
+-- `text_page::put_bytes` meets its contract: a turn is a byte. Assumes nothing.
 use Prim.Native.Nat.{_≤_, _<_, _-_}
 use native.Mathlib.Omega.{arith}
 use lib.ListN.{length, drop}
-use Rattle.report_text.proofs.Joined.{Left, left-start}
-use Rattle.report_text.proofs.Turns.{bytes-turn, bytes-end}
+use Rattle.text_page.proofs.Joined.{Left, left-start}
+use Rattle.text_page.proofs.BytesLeft.{bytes-turn, bytes-end}
 use borrow.Author.Needs.{needs}
-use Rattle.report_text.proofs.put_bytes.Statement.{statement}
-use Rattle.report_text.proofs.put_bytes.Tie as tie
+use Rattle.text_page.proofs.put_bytes.Statement.{statement}
+use Rattle.text_page.proofs.put_bytes.Tie as tie
 
 abbrev Inv-loop : tie.InvT-loop
 Inv-loop page₀ at bytes place₀ i₀ page place i = (i ≤ length bytes) × Left bytes (drop i bytes) at place page₀ page

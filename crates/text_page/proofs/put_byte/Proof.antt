@@ -1,9 +1,9 @@
--- `report_text::put_byte` meets its contract, on the page and past its end. Assumes nothing.
+-- `text_page::put_byte` meets its contract, on the page and past its end. Assumes nothing.
 use native.Mathlib.Omega.{arith}
-use Rattle.report_text.proofs.Joined.{wrote-in, wrote-past}
+use Rattle.text_page.proofs.Joined.{wrote-in, wrote-past}
 use borrow.Author.Needs.{needs}
-use Rattle.report_text.proofs.put_byte.Statement.{statement}
-use Rattle.report_text.proofs.put_byte.Tie as tie
+use Rattle.text_page.proofs.put_byte.Statement.{statement}
+use Rattle.text_page.proofs.put_byte.Tie as tie
 
 slice-write-page : tie.Need-slice-write-page
 slice-write-page c = search needs
