@@ -40,5 +40,7 @@ pub mod stored;
 #[cfg(feature = "port")]
 pub mod tally;
 #[cfg(feature = "port")]
+pub mod tempo_text;
+#[cfg(feature = "port")]
 pub mod tidying;
 pub mod timings;
