@@ -6,7 +6,7 @@ use Rattle.text_decimal.proofs.nearest_shifted.Statement.{statement}
 use Rattle.text_decimal.proofs.nearest_shifted.Tie as tie
 
 returns : tie.Need-returns
-returns c = closest-small (c .before .args .n) (c .before .args .k) (c .before .pre .0) (c .if1 .taken)
+returns c = closest-small (c .before .args .n) (c .before .args .k) (c .before .pre .0) (omega arith)
 
 shl-unit : tie.Need-shl-unit
 shl-unit c = search needs
