@@ -25,7 +25,8 @@ minusSign true = 45 ∷ []
 unfoldable pub millionthsText : ℕ → List ℕ
 millionthsText n = wholeText (n / 1000000) ++ ((46 ∷ []) ++ lowestDigits 6 n)
 
--- `fin s m e` is the fraction m * up e / down e, negative where s is true. This is how many millionths it is, to the nearest whole number of them, a tie to the even one: so `closest` rounds a fraction.
+-- `fin s m e` is the fraction m * up e / down e, negative where s is true.
+-- This is how many millionths it is, to the nearest whole number of them, a tie to the even one: so `closest` rounds a fraction.
 abbrev pub millionths : ℕ → ℤ → ℕ
 millionths m e = closest (m * up e * 1000000) (down e)
 

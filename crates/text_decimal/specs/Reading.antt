@@ -32,7 +32,8 @@ pub record SixDecimals (text : List ℕ) (s : Bool) (n : ℕ) : Type 0 where
   pub noZero : 1 < length whole → getD whole 0 0 ≢ 48
   pub reads : readDigits 0 (whole ++ decimals) ≡ n
 
--- The text of six decimals that is nearest to the float `fin s m e`: it has the float's sign, and the number that it says is within half a millionth of the float's exact value, m * up e / down e, and even where it is just half a millionth away.
+-- The text of six decimals that is nearest to the float `fin s m e`: it has the float's sign, and the number that it says is within half a millionth
+-- of the float's exact value, m * up e / down e, and even where it is just half a millionth away.
 pub record NearestText (s : Bool) (m : ℕ) (e : ℤ) (text : List ℕ) : Type 0 where
   pub number : ℕ
   pub form : SixDecimals text s number

@@ -98,7 +98,8 @@ module _ (beats tempos : List Float) (same : length beats ≡ length tempos) (i 
   narrowed-same = length-map beats narrow ∙ same ∙ sym (length-map tempos narrow)
 
   module _ {all : List ℕ} {start at : ℕ} {first now : List ℕ} (l : Left all (left (map narrow beats) (map narrow tempos) i) start at first now) where
-    pub narrowed-turn : {next : ℕ} {then : List ℕ} → i < length beats → Wrote (narrowedAt beats tempos i) at next now then → Left all (left (map narrow beats) (map narrow tempos) (i + 1)) start next first then
+    pub narrowed-turn : {next : ℕ} {then : List ℕ} → i < length beats → Wrote (narrowedAt beats tempos i) at next now then
+        → Left all (left (map narrow beats) (map narrow tempos) (i + 1)) start next first then
     narrowed-turn h w =
         entries-turn (map narrow beats) (map narrow tempos) narrowed-same i l (omega (arith, length-map beats narrow)) (wrote-as (sym (narrowed-entry beats tempos i)) w)
 

@@ -31,7 +31,8 @@ module _ {tests : ℕ} {text old : List ℕ} where
   pub no-room-left : tests ≡ 0 → leb (length text) (length old) ≡ false → TextLaid tests text (refusedBy noRoom) old old
   no-room-left e h = left-alone (λ z. omega arith) (number-no-room tests (length text) (length old) e (leb-false (length text) (length old) h))
 
-  pub text-laid : {end : ℕ} {new : List ℕ} → tests ≡ 0 → leb (length text) (length old) ≡ true → Wrote text 0 end old new → TextLaid tests text (record { number = 0; count = end }) old new
+  pub text-laid : {end : ℕ} {new : List ℕ} → tests ≡ 0 → leb (length text) (length old) ≡ true → Wrote text 0 end old new
+      → TextLaid tests text (record { number = 0; count = end }) old new
   unfolding given laid
   text-laid e h w =
       let room : length text ≤ length old = leb-true (length text) (length old) h in

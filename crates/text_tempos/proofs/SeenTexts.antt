@@ -16,7 +16,8 @@ abbrev textOf : List ℕ → List ℕ → List ℕ
 textOf beats tempos = tempoText (map narrow (map (ofBits binary64) beats)) (map narrow (map (ofBits binary64) tempos))
 
 -- (0, 63): the tempo comes back one f32 below, 0.000000=62.999996
-pub one-step-below : textOf (0x0000000000000000 ∷ []) (0x404F800000000000 ∷ []) ≡ 48 ∷ 46 ∷ 48 ∷ 48 ∷ 48 ∷ 48 ∷ 48 ∷ 48 ∷ 61 ∷ 54 ∷ 50 ∷ 46 ∷ 57 ∷ 57 ∷ 57 ∷ 57 ∷ 57 ∷ 54 ∷ []
+pub one-step-below : textOf (0x0000000000000000 ∷ []) (0x404F800000000000 ∷ [])
+    ≡ 48 ∷ 46 ∷ 48 ∷ 48 ∷ 48 ∷ 48 ∷ 48 ∷ 48 ∷ 61 ∷ 54 ∷ 50 ∷ 46 ∷ 57 ∷ 57 ∷ 57 ∷ 57 ∷ 57 ∷ 54 ∷ []
 unfolding tempoText commasBetween behindCommas entries entryText roundtrip dec6 lowestDigits decimalDigits millionthsText ofBits narrow convert mul div round rint hold ofInt
 one-step-below = refl
 
@@ -27,12 +28,14 @@ unfolding tempoText commasBetween behindCommas entries entryText roundtrip dec6 
 beats-on-rows = refl
 
 -- (-0, -0): the sign stays at a tempo, and a beat has none, 0.000000=-0.000000
-pub zeros : textOf (0x8000000000000000 ∷ []) (0x8000000000000000 ∷ []) ≡ 48 ∷ 46 ∷ 48 ∷ 48 ∷ 48 ∷ 48 ∷ 48 ∷ 48 ∷ 61 ∷ 45 ∷ 48 ∷ 46 ∷ 48 ∷ 48 ∷ 48 ∷ 48 ∷ 48 ∷ 48 ∷ []
+pub zeros : textOf (0x8000000000000000 ∷ []) (0x8000000000000000 ∷ [])
+    ≡ 48 ∷ 46 ∷ 48 ∷ 48 ∷ 48 ∷ 48 ∷ 48 ∷ 48 ∷ 61 ∷ 45 ∷ 48 ∷ 46 ∷ 48 ∷ 48 ∷ 48 ∷ 48 ∷ 48 ∷ 48 ∷ []
 unfolding tempoText commasBetween behindCommas entries entryText roundtrip dec6 lowestDigits decimalDigits millionthsText ofBits narrow convert mul div round rint hold ofInt
 zeros = refl
 
 -- (0, -inf), and so every tempo that is not finite, 0.000000=0.000000
-pub not-finite : textOf (0x0000000000000000 ∷ []) (0xFFF0000000000000 ∷ []) ≡ 48 ∷ 46 ∷ 48 ∷ 48 ∷ 48 ∷ 48 ∷ 48 ∷ 48 ∷ 61 ∷ 48 ∷ 46 ∷ 48 ∷ 48 ∷ 48 ∷ 48 ∷ 48 ∷ 48 ∷ []
+pub not-finite : textOf (0x0000000000000000 ∷ []) (0xFFF0000000000000 ∷ [])
+    ≡ 48 ∷ 46 ∷ 48 ∷ 48 ∷ 48 ∷ 48 ∷ 48 ∷ 48 ∷ 61 ∷ 48 ∷ 46 ∷ 48 ∷ 48 ∷ 48 ∷ 48 ∷ 48 ∷ 48 ∷ []
 unfolding tempoText commasBetween behindCommas entries entryText roundtrip dec6 lowestDigits decimalDigits millionthsText ofBits narrow convert mul div round rint hold ofInt
 not-finite = refl
 

@@ -48,7 +48,8 @@ add-size c =
     let turn = beat .before .before in
     let head = turn .before in
     let start = head .before .before .before in
-    omega (arith, c .entry-size .ensures, entry-most (head .loop .i) (beat .narrow-f64 .result) (tempo .narrow-f642 .result), head .loop .inv .1, start .pre .0, turn .loop-test .taken)
+    let most = entry-most (head .loop .i) (beat .narrow-f64 .result) (tempo .narrow-f642 .result) in
+    omega (arith, c .entry-size .ensures, head .loop .inv .1, start .pre .0, turn .loop-test .taken)
 
 add-i : tie.Need-add-i Inv-loop μ-loop
 add-i c = search needs
@@ -64,7 +65,8 @@ loop-again c =
     let head = turn .before in
     let start = head .before .before .before in
     let counted = narrowed-counted (start .args .beats .now) (start .args .tempos .now) (start .pre .1) (head .loop .i) (head .loop .size) (head .loop .inv .2) (turn .loop-test .taken) in
-    (omega arith, omega (arith, c .entry-size .ensures, entry-most (head .loop .i) (beat .narrow-f64 .result) (tempo .narrow-f642 .result), head .loop .inv .1), rw (c .entry-size .ensures, beat .narrow-f64 .ensures, tempo .narrow-f642 .ensures) counted)
+    let most = entry-most (head .loop .i) (beat .narrow-f64 .result) (tempo .narrow-f642 .result) in
+    (omega arith, omega (arith, c .entry-size .ensures, head .loop .inv .1), rw (c .entry-size .ensures, beat .narrow-f64 .ensures, tempo .narrow-f642 .ensures) counted)
 
 returns : tie.Need-returns Inv-loop μ-loop
 returns c =

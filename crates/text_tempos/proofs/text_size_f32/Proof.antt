@@ -39,7 +39,8 @@ add-size c =
     let turn = c .before .before .before in
     let head = turn .before in
     let start = head .before .before .before in
-    omega (arith, c .entry-size .ensures, entry-most (head .loop .i) (getD (start .args .beats .now) (head .loop .i) nan) (getD (start .args .tempos .now) (head .loop .i) nan), head .loop .inv .1, start .pre .0, turn .loop-test .taken)
+    let most = entry-most (head .loop .i) (getD (start .args .beats .now) (head .loop .i) nan) (getD (start .args .tempos .now) (head .loop .i) nan) in
+    omega (arith, c .entry-size .ensures, head .loop .inv .1, start .pre .0, turn .loop-test .taken)
 
 add-i : tie.Need-add-i Inv-loop μ-loop
 add-i c = search needs
@@ -53,7 +54,8 @@ loop-again c =
     let head = turn .before in
     let start = head .before .before .before in
     let counted = counted-turn (start .args .beats .now) (start .args .tempos .now) (start .pre .1) (head .loop .size) (head .loop .i) (head .loop .inv .2) (turn .loop-test .taken) in
-    (omega arith, omega (arith, c .entry-size .ensures, entry-most (head .loop .i) (getD (start .args .beats .now) (head .loop .i) nan) (getD (start .args .tempos .now) (head .loop .i) nan), head .loop .inv .1), rw (c .entry-size .ensures) counted)
+    let most = entry-most (head .loop .i) (getD (start .args .beats .now) (head .loop .i) nan) (getD (start .args .tempos .now) (head .loop .i) nan) in
+    (omega arith, omega (arith, c .entry-size .ensures, head .loop .inv .1), rw (c .entry-size .ensures) counted)
 
 returns : tie.Need-returns Inv-loop μ-loop
 returns c =
