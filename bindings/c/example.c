@@ -1,5 +1,6 @@
 /* A chart through the C functions: assembly, the clock, the lookups, and stops for SM. Prints what it found, and ends with 1 where an answer is not the expected one. */
 #include <stdio.h>
+#include <string.h>
 
 #include "marrighentu.h"
 
@@ -170,6 +171,19 @@ int main(void) {
     outcome = marrighentu_compute_row_to_beat(note_data, sizeof note_data - 1, row_beats, 3);
     expect(outcome.number == MARRIGHENTU_TAKEN && outcome.count == 3, "rows of note data");
     expect(row_beats[0] == 0.0f && row_beats[1] == 2.0f && row_beats[2] == 8.0f, "the beats of the rows");
+
+    /* the tempos as text: a beat on its row, 63 one float below, the sign of -0 */
+    const double text_beats[] = {0, 4.01, 8}, text_tempos[] = {120, 63, -0.0};
+    const char text[] = "0.000000=120.000000,4.000000=62.999996,8.000000=-0.000000";
+    uint8_t page[3 * MARRIGHENTU_TEMPO_TEXT_BYTES];
+    outcome = marrighentu_format_bpm_segments_like_itg(text_beats, 3, text_tempos, 3, page, sizeof page);
+    expect(outcome.number == MARRIGHENTU_TAKEN && outcome.count == sizeof text - 1 && memcmp(page, text, outcome.count) == 0, "the tempos as text");
+    printf("%.*s\n", (int)outcome.count, (const char *)page);
+    outcome = marrighentu_format_bpm_segments_like_itg(text_beats, 3, text_tempos, 3, page, sizeof text - 2);
+    expect(outcome.number == MARRIGHENTU_NO_ROOM && outcome.count == 0, "a page that is too short by a byte");
+    outcome = marrighentu_format_bpm_segments_f32_like_itg(t->tempo_beats, t->made.tempos, t->tempo_values, t->made.tempos, page, sizeof page);
+    expect(outcome.number == MARRIGHENTU_TAKEN, "a timing's tempos as text");
+    printf("%.*s\n", (int)outcome.count, (const char *)page);
 
     /* one rounding where two would lose the answer: (1 + e)(1 - e) - 1 with e = 2^-27 */
     expect(marrighentu_mul_add_f64(1 + 0x1p-27, 1 - 0x1p-27, -1) == -0x1p-54, "one rounding");

@@ -55,6 +55,9 @@ enum marrighentu_refusal {
 
 enum { MARRIGHENTU_MOST_ENTRIES = 1024, MARRIGHENTU_ROWS_PER_BEAT = 48 };
 
+/* So many bytes for each entry always hold a tempo list's text. */
+enum { MARRIGHENTU_TEMPO_TEXT_BYTES = 33 };
+
 /* The file format of a chart. */
 enum marrighentu_format { MARRIGHENTU_SM = 0, MARRIGHENTU_SSC = 1 };
 
@@ -107,7 +110,7 @@ typedef struct {
     bool yes;
 } marrighentu_looked;
 
-/* A number, and how many entries were written. */
+/* A number, and how many entries were written; of a text, how many bytes. */
 typedef struct {
     uint32_t number;
     size_t count;
@@ -639,6 +642,25 @@ marrighentu_outcome marrighentu_compute_row_to_beat(
 /* x * y + z with one rounding, as IEEE 754's fusedMultiplyAdd and C's fma, on every machine alike. */
 double marrighentu_mul_add_f64(double x, double y, double z);
 float marrighentu_mul_add_f32(float x, float y, float z);
+
+/* ---- text */
+
+/* A list of tempos as text: beat=tempo for each entry, in the order given, commas between, both with six decimals; nothing ends it, neither a line feed nor a 0.
+ * A beat is moved to its row. A tempo is divided by 60 and multiplied again, at float, as the original does, so that 63 is written 62.999996; one that is not
+ * finite is written 0.000000. Of two texts that are equally near the one with the even last digit is written, and a tempo of -0 keeps its sign.
+ * The text fills the front of the page; a page of MARRIGHENTU_TEMPO_TEXT_BYTES for each entry is always long enough, and one that is just as long as the text too.
+ * Refused are, by the limits of raw tempos, a beat that is not finite with 3 and a tempo beyond them with 4, and with 7 a text that is longer than its page.
+ */
+marrighentu_outcome marrighentu_format_bpm_segments_like_itg(
+    const double *beats, size_t beats_length,
+    const double *tempos, size_t tempos_length,
+    uint8_t *page, size_t page_length);
+
+/* The same of float columns, as assembly writes them. */
+marrighentu_outcome marrighentu_format_bpm_segments_f32_like_itg(
+    const float *beats, size_t beats_length,
+    const float *tempos, size_t tempos_length,
+    uint8_t *page, size_t page_length);
 
 /* ---- the layout that the port's functions have: a compiler that lays a struct out otherwise is refused */
 

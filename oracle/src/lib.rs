@@ -42,5 +42,7 @@ pub mod stored;
 #[cfg(feature = "port")]
 pub mod tally;
 #[cfg(feature = "port")]
+pub mod tempo_text;
+#[cfg(feature = "port")]
 pub mod tidying;
 pub mod timings;

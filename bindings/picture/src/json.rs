@@ -181,6 +181,7 @@ fn timing(seen: &Seen) -> Vec<(&'static str, Json)> {
         ("offset", Json::number(timing.offset())),
         ("global_offset", Json::number(timing.global_offset())),
         ("tempos", columns(timing.tempos(), "beats_a_minute")),
+        ("tempo_text", timing.tempo_text().map_or(Json::Null, Json::text)),
         ("stops", columns(timing.stops(), "seconds")),
         ("delays", columns(timing.delays(), "seconds")),
         ("warps", columns(timing.warps(), "beats")),

@@ -14,6 +14,9 @@ fn list(out: &mut String, name: &str, columns: &Columns<f32>, unit: &str) {
 fn lists(out: &mut String, timing: &Timing) {
     let _ = writeln!(out, "offset  {} s", timing.offset());
     list(out, "tempo", timing.tempos(), "beats a minute");
+    if let Ok(text) = timing.tempo_text() {
+        let _ = writeln!(out, "bpms    {text}");
+    }
     list(out, "stop", timing.stops(), "s");
     list(out, "delay", timing.delays(), "s");
     list(out, "warp", timing.warps(), "beats");

@@ -61,7 +61,7 @@ fn the_whole_file() {
     let done = run(&["example.ssc", "--header", "--beats", "1"]);
     assert_eq!(
         String::from_utf8(done.stdout).unwrap(),
-        "offset  -0.1 s\ntempo   beat 0 100 beats a minute\nat      beat 1 row 48 0.7 s, judged\n"
+        "offset  -0.1 s\ntempo   beat 0 100 beats a minute\nbpms    0.000000=100.000000\nat      beat 1 row 48 0.7 s, judged\n"
     );
 }
 

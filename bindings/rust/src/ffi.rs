@@ -264,6 +264,8 @@ calls! {
         room positions: f64,
     ) -> Outcome = "marrighentu_get_displayed_beats";
     fn compute_row_to_beat(slice note_data: u8, room beats: f32) -> Outcome = "marrighentu_compute_row_to_beat";
+    fn format_bpm_segments(list tempos: f64, room page: u8) -> Outcome = "marrighentu_format_bpm_segments_like_itg";
+    fn format_bpm_segments_f32(list tempos: f32, room page: u8) -> Outcome = "marrighentu_format_bpm_segments_f32_like_itg";
 }
 
 /// The layout of each struct is that of the C header, where the same figures stand.

@@ -87,3 +87,27 @@ pub fn row_to_beat(note_data: &[u8]) -> Result<Vec<f32>, Refusal> {
     beats.truncate(outcome.count);
     Ok(beats)
 }
+
+/// So many bytes for each entry always hold the text of a tempo list.
+pub const TEMPO_TEXT_BYTES: usize = 33;
+
+/// A list of raw tempos as text: beat=tempo with six decimals each and commas between, in the order given. A beat is moved to its row; a tempo is
+/// divided by 60 and multiplied again at `f32`, as rssp does, and 0 is written for one that is not finite.
+///
+/// ```
+/// let text = marrighentu::tempo_text(&[(0.0, 120.0), (4.01, 63.0), (8.0, -0.0), (12.0, f64::NAN)])?;
+/// assert_eq!(text, "0.000000=120.000000,4.000000=62.999996,8.000000=-0.000000,12.000000=0.000000");
+/// # Ok::<(), marrighentu::Refusal>(())
+/// ```
+///
+/// # Errors
+/// [`Refusal::TooLong`] for more than 1,024 entries; [`Refusal::BadBeat`] for a beat beyond 65,536 or one that is not finite;
+/// [`Refusal::BadValue`] for a tempo that is neither 0 nor from 2^-20 to 2^30 in size.
+pub fn tempo_text(tempos: &[(f64, f64)]) -> Result<String, Refusal> {
+    let tempos = Columns::of(tempos);
+    let mut page = vec![0; TEMPO_TEXT_BYTES * tempos.len()];
+    let outcome = ffi::format_bpm_segments(&tempos, &mut page);
+    refusal::taken(outcome.number, ())?;
+    page.truncate(outcome.count);
+    Ok(String::from_utf8(page).expect("digits, signs, points and commas"))
+}

@@ -1,5 +1,6 @@
 //! A timing: a chart's lists, tidy, with its offsets.
 
+use crate::TEMPO_TEXT_BYTES;
 use crate::cursor::Cursor;
 use crate::ffi;
 use crate::lists::{Chart, Columns, Format, Lists, Speed, SpeedUnit};
@@ -343,6 +344,49 @@ impl Timing {
         Ok(numbers.into_iter().zip(positions).map(|(number, position)| taken(number, position)).collect())
     }
 
+    /// The tempos as text, as a song browser shows them: beat=tempo with six decimals each and commas between. A tempo is divided by 60 and
+    /// multiplied again at `f32`, as rssp does, so that some are written one step below. [`tempo_text`](crate::tempo_text) writes raw lists.
+    ///
+    /// ```
+    /// use marrighentu::{Chart, Format, Timing};
+    ///
+    /// let chart = Chart { tempos: vec![(0.0, 120.0), (16.0, 63.0)], ..Chart::default() };
+    /// let timing = Timing::assemble(Format::Ssc, &chart, 0.0, 0.0)?;
+    /// assert_eq!(timing.tempo_text()?, "0.000000=120.000000,16.000000=62.999996");
+    /// # Ok::<(), marrighentu::Refusal>(())
+    /// ```
+    ///
+    /// # Errors
+    /// None: the tempos of a timing are within the limits of raw ones.
+    pub fn tempo_text(&self) -> Result<String, Refusal> {
+        let mut page = vec![0; TEMPO_TEXT_BYTES * self.tempos.len()];
+        let count = self.tempo_text_into(&mut page)?.len();
+        page.truncate(count);
+        Ok(String::from_utf8(page).expect("digits, signs, points and commas"))
+    }
+
+    /// The same text over the front of a page of one's own. [`TEMPO_TEXT_BYTES`](crate::TEMPO_TEXT_BYTES) for each tempo are always enough.
+    ///
+    /// ```
+    /// use marrighentu::{Chart, Format, Refusal, TEMPO_TEXT_BYTES, Timing};
+    ///
+    /// let timing = Timing::assemble(Format::Ssc, &Chart::default(), 0.0, 0.0)?;
+    /// let mut page = [0; TEMPO_TEXT_BYTES];
+    /// assert_eq!(timing.tempo_text_into(&mut page)?, "0.000000=60.000000");
+    /// // a page as long as the text will do, and one byte less will not
+    /// assert_eq!(timing.tempo_text_into(&mut page[..18])?.len(), 18);
+    /// assert_eq!(timing.tempo_text_into(&mut page[..17]), Err(Refusal::NoRoom));
+    /// # Ok::<(), Refusal>(())
+    /// ```
+    ///
+    /// # Errors
+    /// [`Refusal::NoRoom`] where the text is longer than the page, which is then left as it was.
+    pub fn tempo_text_into<'a>(&self, page: &'a mut [u8]) -> Result<&'a str, Refusal> {
+        let outcome = ffi::format_bpm_segments_f32(&self.tempos, page);
+        taken(outcome.number, ())?;
+        Ok(std::str::from_utf8(&page[..outcome.count]).expect("digits, signs, points and commas"))
+    }
+
     /// Whether a row is warped: the last warp that starts at or before it reaches beyond it, and no positive stop or delay is on the row.
     ///
     /// # Errors
@@ -504,6 +548,21 @@ mod tests {
         assert_eq!(crate::row_to_beat(b" \t\r\x0c\n1\r2\n\x0b,3"), Ok(vec![0.0, 2.0, 4.0]));
         assert_eq!(crate::row_to_beat(&vec![b'1'; (1 << 20) + 1]), Err(Refusal::TooLong));
         assert_eq!(crate::row_to_beat(&b"1\n".repeat(1 << 19)).map(|beats| beats.len()), Ok(1 << 19));
+    }
+
+    #[test]
+    fn raw_tempos_are_written_by_the_raw_limits() {
+        use crate::tempo_text;
+        assert_eq!(tempo_text(&[]), Ok(String::new()));
+        // order, repeats and rows that fall are kept
+        assert_eq!(tempo_text(&[(4.0, 2.0), (-1.0, 3.0 / 128.0)]), Ok("4.000000=2.000000,-1.000000=0.023438".into()));
+        assert_eq!(tempo_text(&[(f64::INFINITY, 120.0)]), Err(Refusal::BadBeat));
+        assert_eq!(tempo_text(&[(0.0, f64::INFINITY)]), Ok("0.000000=0.000000".into()));
+        assert_eq!(tempo_text(&[(0.0, 1e-9)]), Err(Refusal::BadValue));
+        assert_eq!(tempo_text(&[(0.0, 1.0); 1_025]), Err(Refusal::TooLong));
+        // the longest entries there are
+        let longest = tempo_text(&[(-65_536.0, -1_073_741_824.0); 1_024]).unwrap();
+        assert_eq!(longest.len(), 1_024 * crate::TEMPO_TEXT_BYTES - 1);
     }
 
     #[test]

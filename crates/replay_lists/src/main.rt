@@ -1157,6 +1157,58 @@ fn replay_row_to_beat(words: &[u64], bytes: &[u8], at: usize) -> Replayed {
 
 // ---- all cases
 
+// ---- text
+
+// A list of f64 as text.
+fn replay_tempo_text(words: &[u64], numbers: &[f64], at: usize) -> Replayed {
+    let beats_at = further(at, 1);
+    let tempos_at = behind(words, beats_at);
+    let text_at = behind(words, tempos_at);
+    let answer_at = behind(words, text_at);
+    let mut page = [77u8; ROOM];
+    let outcome = text_tempos::format_bpm_segments_like_itg(
+        f64_column(numbers, words, beats_at),
+        f64_column(numbers, words, tempos_at),
+        &mut page,
+    );
+    let same = same_outcome(words, answer_at, outcome);
+    Replayed {
+        same: both(same, same_bytes(words, text_at, &page)),
+        next: further(answer_at, 2),
+    }
+}
+
+// A list of f32 as text.
+fn replay_tempo_text_f32(words: &[u64], floats: &[f32], at: usize) -> Replayed {
+    let beats_at = further(at, 1);
+    let tempos_at = behind(words, beats_at);
+    let text_at = behind(words, tempos_at);
+    let answer_at = behind(words, text_at);
+    let mut page = [77u8; ROOM];
+    let outcome = text_tempos::format_bpm_segments_f32_like_itg(
+        f32_column(floats, words, beats_at),
+        f32_column(floats, words, tempos_at),
+        &mut page,
+    );
+    let same = same_outcome(words, answer_at, outcome);
+    Replayed {
+        same: both(same, same_bytes(words, text_at, &page)),
+        next: further(answer_at, 2),
+    }
+}
+
+// An f32 with six decimals, whatever it is.
+fn replay_number_text(words: &[u64], at: usize) -> Replayed {
+    let text_at = further(at, 2);
+    let mut page = [77u8; ROOM];
+    let end = text_decimal::put_dec6(&mut page, 0, f32_of_word(word_at(words, further(at, 1))));
+    let same = end == size_at(words, text_at);
+    Replayed {
+        same: both(same, same_bytes(words, text_at, &page)),
+        next: behind(words, text_at),
+    }
+}
+
 // A call's number that names none differs, and nothing can follow it.
 fn replay_case(
     words: &[u64],
@@ -1181,6 +1233,9 @@ fn replay_case(
         12 => replay_run(words, floats, numbers, at),
         13 => replay_displayed(words, floats, numbers, at),
         14 => replay_row_to_beat(words, bytes, at),
+        15 => replay_tempo_text(words, numbers, at),
+        16 => replay_tempo_text_f32(words, floats, at),
+        17 => replay_number_text(words, at),
         _ => Replayed {
             same: false,
             next: words.len(),

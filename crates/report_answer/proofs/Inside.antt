@@ -9,8 +9,8 @@ use lib.Dec.{ltb}
 use lib.ListN.{length, take, length-take}
 use Rattle.picks.specs.Pick.{pick}
 use Rattle.io.specs.Counts.{Counts}
-use Rattle.report_text.specs.Page.{nextPlace, placeBehind, Wrote}
-use Rattle.report_text.proofs.Joined.{wrote-length}
+use Rattle.text_page.specs.Page.{nextPlace, placeBehind, Wrote}
+use Rattle.text_page.proofs.Joined.{wrote-length}
 
 end-inside : (room at : ℕ) (bytes : List ℕ) → at ≤ room → placeBehind room at bytes ≤ room
 unfolding placeBehind nextPlace

@@ -2,7 +2,7 @@
 ghost use mathlib.Core.Path.{_≡_};
 ghost use lib.ListN.{take};
 ghost use Rattle.io.specs.Counts.{Counts};
-ghost use Rattle.report_text.specs.Page.{Wrote};
+ghost use Rattle.text_page.specs.Page.{Wrote};
 ghost use Rattle.report_text.specs.Output.{answerLine};
 ghost use Rattle.report_answer.specs.Report.{doneText};
 

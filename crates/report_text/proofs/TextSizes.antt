@@ -1,30 +1,20 @@
 -- How long the report's lines are, and its lists together: a page can be made large enough. Assumes nothing.
-use Prim.Native.Nat.{ℕ, zero, suc, _+_, _*_, _^_, _/_, _%_, _≤_}
+use Prim.Native.Nat.{ℕ, zero, suc, _+_, _*_, _^_, _%_, _≤_}
 use mathlib.Core.Path.{_≡_, refl, sym, ap, _∙_}
-use mathlib.Core.Bool.{Bool, true, false}
 use mathlib.Core.List.{List, [], _∷_, _++_}
 use native.Mathlib.Omega.{arith}
-use lib.Dec.{ltb}
 use lib.ListN.{length, length-append}
 use lib.Ieee.{Float, toBits, binary32}
-use Rattle.picks.specs.Pick.{pick}
 use Rattle.ieee_patterns.specs.Hex.{hexText}
 use Rattle.report_form.specs.Text.{bpm, stop, delay, warp, scroll, fake}
-use Rattle.report_text.specs.Output.{decimalDigits, decimalText, number, answerLine, offsetLine, named, pairLine, pairLines, speedLine, speedLines, warpedRows, warpedLine, listsText}
+use Rattle.text_page.specs.Digits.{decimalText}
+use Rattle.text_page.proofs.DigitSizes.{decimal-size}
+use Rattle.report_text.specs.Output.{number, answerLine, offsetLine, named, pairLine, pairLines, speedLine, speedLines, warpedRows, warpedLine, listsText}
 
 hex-size : (k n : ℕ) → length (hexText k n) ≡ k
 unfolding hexText
 hex-size zero n = refl
 hex-size (suc k) n = ap suc (hex-size k n)
-
-decimal-size : (k n : ℕ) → length (decimalDigits k n) ≤ k
-unfolding decimalDigits
-decimal-size zero n = omega arith
-decimal-size (suc k) n = by-case (ltb n 10) (decimal-size k (n / 10))
-  where
-    by-case : (t : Bool) → length (decimalDigits k (n / 10)) ≤ k → length (pick t ((48 + n) ∷ []) (decimalDigits k (n / 10) ++ ((48 + n % 10) ∷ []))) ≤ suc k
-    by-case true h = omega arith
-    by-case false h = simp length-append (omega arith)
 
 number-size : (x : Float) → length (number x) ≡ 8
 number-size x = hex-size 8 (toBits binary32 x)

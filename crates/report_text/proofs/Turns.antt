@@ -1,4 +1,4 @@
--- One turn of each loop: what is left of bytes, of lines and of lengths. Assumes nothing.
+-- One turn of each loop: what is left of lines and of lengths. Assumes nothing.
 use Prim.Native.Nat.{ℕ, suc, min, _+_, _-_, _%_, _^_, _≤_, _<_}
 use mathlib.Core.Path.{_≡_, refl, sym, ap, _∙_}
 use mathlib.Core.List.{List, [], _∷_, _++_}
@@ -9,9 +9,9 @@ use lib.Seq.{drop-cons, getD-take}
 use lib.IntN.{ℤ, pos, negsuc}
 use lib.Ieee.{Float, nan}
 use Rattle.rows.specs.RowKey.{rowKey}
-use Rattle.report_text.specs.Page.{Wrote}
+use Rattle.text_page.specs.Page.{Wrote}
 use Rattle.report_text.specs.Output.{pairLine, pairLines, speedLine, speedLines, lengthRows, warpedRows, size}
-use Rattle.report_text.proofs.Joined.{Left, left-turn, left-end}
+use Rattle.text_page.proofs.Joined.{Left, left-turn, left-end}
 
 -- a column that has ended ends the lines
 no-value : (word : List ℕ) (beats : List Float) → pairLines word beats [] ≡ []
@@ -49,12 +49,6 @@ module _ {A : Type 0} (l : List A) (count i : ℕ) where
   front-end h = drop-of-length-le (take count l) {i = i} (omega (arith, length-take count l))
 
 module _ {all : List ℕ} {start at : ℕ} {first now : List ℕ} where
-  pub bytes-turn : {next : ℕ} {then : List ℕ} (bytes : List ℕ) (i : ℕ) → i < length bytes → Left all (drop i bytes) start at first now → Wrote (getD bytes i 0 ∷ []) at next now then → Left all (drop (i + 1) bytes) start next first then
-  bytes-turn bytes i h l w = rw (add-one i) (left-turn (rw (drop-cons bytes i 0 h) at l) w)
-
-  pub bytes-end : (bytes : List ℕ) (i : ℕ) → length bytes ≤ i → Left all (drop i bytes) start at first now → Wrote all start at first now
-  bytes-end bytes i h l = left-end (rw (drop-of-length-le bytes h) at l)
-
   -- ---- lines of two columns
   pub pairs-turn : {next : ℕ} {then : List ℕ} (word : List ℕ) (count : ℕ) (beats values : List Float) (i : ℕ) → i < count → i < length beats → i < length values
       → Left all (pairLines word (drop i (take count beats)) (drop i (take count values))) start at first now

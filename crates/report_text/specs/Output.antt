@@ -1,23 +1,14 @@
 -- What the report program writes. Definitions only.
-use Prim.Native.Nat.{ℕ, zero, suc, _+_, _^_, _/_, _%_}
+use Prim.Native.Nat.{ℕ, _+_, _^_, _%_}
 use mathlib.Core.List.{List, [], _∷_, _++_}
-use lib.Dec.{ltb}
 use lib.IntN.{ℤ, pos, negsuc}
 use lib.Ieee.{Float, toBits, binary32, binary64, lt}
 use Rattle.ieee.specs.Constants.{plusZero}
 use Rattle.picks.specs.Pick.{pick}
 use Rattle.rows.specs.Rows.{row}
 use Rattle.ieee_patterns.specs.Hex.{hexText}
+use Rattle.text_page.specs.Digits.{decimalText}
 use Rattle.report_form.specs.Text.{Pair, bpm, stop, delay, warp, scroll, fake, pairWord, speedWord}
-
--- the decimal digits of a number, k at most
-unfoldable pub decimalDigits : ℕ → ℕ → List ℕ
-decimalDigits zero n = []
-decimalDigits (suc k) n = pick (ltb n 10) ((48 + n) ∷ []) (decimalDigits k (n / 10) ++ ((48 + n % 10) ∷ []))
-
--- a number of 64 bits has 20 at most
-abbrev pub decimalText : ℕ → List ℕ
-decimalText n = decimalDigits 20 n
 
 -- an f32: the eight digits of its pattern
 abbrev pub number : Float → List ℕ

@@ -4,72 +4,46 @@ ghost use Prim.Native.Nat.{_-_, _%_, _^_};
 ghost use mathlib.Core.List.{_∷_, [], _++_};
 ghost use lib.ListN.{take};
 ghost use lib.Ieee.{toBits, binary32};
-ghost use Rattle.report_text.specs.Page.{Wrote};
-ghost use Rattle.report_text.specs.Output.{decimalText, number, answerLine, offsetLine, pairLine, pairLines, speedLine, speedLines, lengthRows, warpedRows, warpedLine, listsText};
-
-fn put_byte(page: &mut [u8], at: usize, byte: u8) -> usize
-    ensures { λ r. ⌜ Wrote (byte ∷ []) at r (now (page .entry)) (now (page .exit)) ⌝ }
-{
-    if at < page.len() {
-        page[at] = byte;
-        return at + 1;
-    }
-    at
-}
-
-fn put_bytes(page: &mut [u8], at: usize, bytes: &[u8]) -> usize
-    ensures { λ r. ⌜ Wrote (now (bytes .entry)) at r (now (page .entry)) (now (page .exit)) ⌝ }
-{
-    let mut place = at;
-    let mut i = 0;
-    while i < bytes.len() {
-        place = put_byte(page, place, bytes[i]);
-        i += 1;
-    }
-    place
-}
+ghost use Rattle.text_page.specs.Page.{Wrote};
+ghost use Rattle.text_page.specs.Digits.{decimalText};
+ghost use Rattle.report_text.specs.Output.{number, answerLine, offsetLine, pairLine, pairLines, speedLine, speedLines, lengthRows, warpedRows, warpedLine, listsText};
 
 // A number by its pattern, and the byte that ends it.
 fn put_number(page: &mut [u8], at: usize, x: f32, end: u8) -> usize
     ensures { λ r. ⌜ Wrote (number x ++ (end ∷ [])) at r (now (page .entry)) (now (page .exit)) ⌝ }
 {
     let digits = ieee_patterns::hex8(ieee_patterns::bits_of_f32(x));
-    let at = put_bytes(page, at, &digits);
-    put_byte(page, at, end)
+    let at = text_page::put_bytes(page, at, &digits);
+    text_page::put_byte(page, at, end)
 }
-
-// A u64 has no more digits.
-const MOST_DIGITS: usize = 20;
 
 // A number in decimal digits, which ends its line.
 fn put_decimal(page: &mut [u8], at: usize, n: u64) -> usize
     ensures { λ r. ⌜ Wrote (decimalText n ++ (10 ∷ [])) at r (now (page .entry)) (now (page .exit)) ⌝ }
 {
-    let mut digits = [0u8; MOST_DIGITS];
-    let count = io::decimal(n, &mut digits);
-    let at = put_bytes(page, at, &digits[..count]);
-    put_byte(page, at, b'\n')
+    let at = text_page::put_digits(page, at, n);
+    text_page::put_byte(page, at, b'\n')
 }
 
 // The answer line: all that is written of a refusal.
 pub fn put_answer(page: &mut [u8], at: usize, number: u32) -> usize
     ensures { λ r. ⌜ Wrote (answerLine number) at r (now (page .entry)) (now (page .exit)) ⌝ }
 {
-    let at = put_bytes(page, at, b"answer=");
+    let at = text_page::put_bytes(page, at, b"answer=");
     put_decimal(page, at, number as u64)
 }
 
 fn put_offset(page: &mut [u8], at: usize, offset: f32) -> usize
     ensures { λ r. ⌜ Wrote (offsetLine offset) at r (now (page .entry)) (now (page .exit)) ⌝ }
 {
-    let at = put_bytes(page, at, b"offset=");
+    let at = text_page::put_bytes(page, at, b"offset=");
     put_number(page, at, offset, b'\n')
 }
 
 fn put_pair(page: &mut [u8], at: usize, word: &[u8], beat: f32, value: f32) -> usize
     ensures { λ r. ⌜ Wrote (pairLine (now (word .entry)) beat value) at r (now (page .entry)) (now (page .exit)) ⌝ }
 {
-    let at = put_bytes(page, at, word);
+    let at = text_page::put_bytes(page, at, word);
     let at = put_number(page, at, beat, b',');
     put_number(page, at, value, b'\n')
 }
@@ -103,12 +77,12 @@ fn put_pairs(
 fn put_speed(page: &mut [u8], at: usize, beat: f32, ratio: f32, delay: f32, unit: u8) -> usize
     ensures { λ r. ⌜ Wrote (speedLine beat ratio delay unit) at r (now (page .entry)) (now (page .exit)) ⌝ }
 {
-    let at = put_bytes(page, at, b"speed=");
+    let at = text_page::put_bytes(page, at, b"speed=");
     let at = put_number(page, at, beat, b',');
     let at = put_number(page, at, ratio, b',');
     let at = put_number(page, at, delay, b',');
-    let at = put_byte(page, at, b'0' + unit % 10);
-    put_byte(page, at, b'\n')
+    let at = text_page::put_byte(page, at, b'0' + unit % 10);
+    text_page::put_byte(page, at, b'\n')
 }
 
 fn put_speeds(
@@ -192,7 +166,7 @@ fn put_warped(page: &mut [u8], at: usize, count: usize, lengths: &[f32]) -> usiz
     ensures { λ r. ⌜ Wrote (warpedLine (take count (now (lengths .entry)))) at r (now (page .entry)) (now (page .exit)) ⌝ }
 {
     let rows = warped_rows(front(lengths, count));
-    let at = put_bytes(page, at, b"warped=");
+    let at = text_page::put_bytes(page, at, b"warped=");
     put_decimal(page, at, rows)
 }
 

@@ -10,10 +10,10 @@ use lib.Ieee.{Float}
 use Rattle.picks.specs.Pick.{pick}
 use Rattle.report_form.specs.declared.Reading.{Reading}
 use Rattle.report_form.specs.Form.{answerOf}
-use Rattle.report_text.specs.Page.{Wrote}
+use Rattle.text_page.specs.Page.{Wrote}
 use Rattle.report_text.specs.Output.{answerLine}
 use Rattle.report_text.proofs.TextSizes.{answer-size}
-use Rattle.report_text.proofs.WholePage.{wrote-whole}
+use Rattle.text_page.proofs.WholePage.{wrote-whole}
 use Rattle.report_whole.specs.Taken.{takenText}
 use Rattle.report_whole.proofs.TakenFits.{taken-size}
 use Rattle.report_whole.specs.Whole.{formatRead, entriesCounted, reportText, Reported}

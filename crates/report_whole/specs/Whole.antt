@@ -12,7 +12,7 @@ use Rattle.chart.specs.declared.TimingFormat.the-variants.{Sm, Ssc}
 use Rattle.report_form.specs.declared.Reading.{Reading}
 use Rattle.report_form.specs.Form.{start, readOn, answerOf}
 use Rattle.report_form.specs.Stores.{numberIn, unitIn, countIn, columnAfter}
-use Rattle.report_text.specs.Page.{Wrote, WroteWhole}
+use Rattle.text_page.specs.Page.{Wrote, WroteWhole}
 use Rattle.report_text.specs.Output.{answerLine}
 use Rattle.report_whole.specs.Taken.{takenText}
 

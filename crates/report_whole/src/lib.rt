@@ -4,7 +4,7 @@ use report_form::Reading;
 ghost use mathlib.Core.Path.{_≡_};
 ghost use lib.ListN.{take};
 ghost use Rattle.io.specs.Counts.{Counts};
-ghost use Rattle.report_text.specs.Page.{Wrote};
+ghost use Rattle.text_page.specs.Page.{Wrote};
 ghost use Rattle.report_whole.specs.Taken.{takenText};
 ghost use Rattle.report_whole.specs.Whole.{formatRead, entriesCounted, reportText, Reported};
 

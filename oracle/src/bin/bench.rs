@@ -11,6 +11,7 @@ use oracle::processing::{self, Format, Rooms, Sm, Ssc};
 use oracle::random::Random;
 use oracle::sm_stops;
 use oracle::speeds::{self, Columns as SpeedColumns};
+use oracle::tempo_text::{self, MOST_ENTRY_BYTES, Width};
 use oracle::tidying::{self, Rows, Scrolls, Tempos, Tidying};
 use oracle::timing::{compute_row_to_beat, convert_warps_and_delays_to_sm_stops, get_displayed_beat, probe};
 use oracle::timings::{Chart, DELAYS, STOPS, TEMPOS, WARPS};
@@ -77,6 +78,11 @@ fn main() {
         bench.row_to_beat(name, rows);
     }
     bench.mul_add();
+    println!("nanoseconds an entry; the original makes a String, the port writes on a page that it is lent");
+    for entries in [4, 100, 1_024] {
+        bench.tempo_text::<f64>(entries);
+        bench.tempo_text::<f32>(entries);
+    }
     println!("worst ratio {:.2} ({})", bench.worst.0, bench.worst.1);
 }
 
@@ -359,6 +365,29 @@ impl Bench {
             },
             || drop(black_box(compute_row_to_beat(black_box(&data)))),
         );
+    }
+
+    /// A tempo list as text, on a page that holds any such list, and on one just as long as the text.
+    fn tempo_text<N: Width>(&mut self, entries: usize) {
+        let random = &mut Random::new(1, "bench of the tempo text");
+        let beats: Vec<N> = (0..entries).map(|place| N::of(place as f64 * 4.0)).collect();
+        let tempos: Vec<N> = (0..entries).map(|_| N::of((60_000 + random.below(200_000)) as f64 / 1_000.0)).collect();
+        let list = tempo_text::Tempos { beats, tempos };
+        let pairs: Vec<(N, N)> = list.beats.iter().copied().zip(list.tempos.iter().copied()).collect();
+        for (name, room) in [
+            ("on a page for any", entries * MOST_ENTRY_BYTES),
+            ("on a page as long as the text", list.original().len()),
+        ] {
+            let mut page = vec![0; room];
+            self.line(
+                &format!("{} of {entries} {name}", N::NAME),
+                entries,
+                || {
+                    black_box(N::port(black_box(&list.beats), black_box(&list.tempos), &mut page));
+                },
+                || drop(black_box(N::original(black_box(&pairs)))),
+            );
+        }
     }
 
     /// The multiply-add alone, beside the processor's.

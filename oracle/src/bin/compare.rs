@@ -10,7 +10,7 @@ use oracle::processing;
 use oracle::random::Random;
 use oracle::sm_stops;
 use oracle::tally::{Tally, Total};
-use oracle::{assembly, notes, speeds, tidying};
+use oracle::{assembly, notes, speeds, tempo_text, tidying};
 use std::process::ExitCode;
 
 fn main() -> ExitCode {
@@ -31,6 +31,7 @@ fn main() -> ExitCode {
     speeds::compare_all(work, &mut total);
     assembly::compare_all(work, &mut total);
     notes::compare_all(work, &mut total);
+    tempo_text::compare_all(work, &mut total);
     if total.end() { ExitCode::SUCCESS } else { ExitCode::FAILURE }
 }
 

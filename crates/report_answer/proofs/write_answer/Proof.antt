@@ -1,5 +1,5 @@
 -- `report_answer::write_answer` meets its contract: the answer line, and the lists where they are taken. Assumes nothing.
-use Rattle.report_text.proofs.Joined.{wrote-join, wrote-as}
+use Rattle.text_page.proofs.Joined.{wrote-join, wrote-as}
 use Rattle.report_answer.specs.Report.{doneText}
 use Rattle.report_answer.proofs.Inside.{wrote-counts}
 use Rattle.report_answer.proofs.Pieces.{refused-only, taken-lists}

@@ -1,7 +1,7 @@
 -- `report_text::put_lists` meets its contract, list by list. Assumes nothing.
 use borrow.Author.Needs.{needs}
 use Rattle.report_text.specs.Output.{listsText}
-use Rattle.report_text.proofs.Joined.{wrote-join, wrote-length}
+use Rattle.text_page.proofs.Joined.{wrote-join, wrote-length}
 use Rattle.report_text.proofs.put_lists.Statement.{statement}
 use Rattle.report_text.proofs.put_lists.Tie as tie
 

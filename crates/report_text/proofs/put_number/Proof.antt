@@ -1,5 +1,5 @@
 -- `report_text::put_number` meets its contract, by the digits of the pattern. Assumes nothing.
-use Rattle.report_text.proofs.Joined.{wrote-join}
+use Rattle.text_page.proofs.Joined.{wrote-join}
 use borrow.Author.Needs.{needs}
 use Rattle.report_text.proofs.put_number.Statement.{statement}
 use Rattle.report_text.proofs.put_number.Tie as tie

@@ -3,7 +3,7 @@ use Prim.Native.Nat.{_≤_, _-_}
 use native.Mathlib.Omega.{arith}
 use lib.ListN.{length, take, drop}
 use Rattle.report_text.specs.Output.{pairLines}
-use Rattle.report_text.proofs.Joined.{Left, left-start}
+use Rattle.text_page.proofs.Joined.{Left, left-start}
 use Rattle.report_text.proofs.Turns.{pairs-turn, pairs-all, pairs-end, pairs-short}
 use borrow.Author.Needs.{needs}
 use Rattle.report_text.proofs.put_pairs.Statement.{statement}

@@ -3,7 +3,7 @@ use Prim.Native.Nat.{ℕ}
 use mathlib.Core.Path.{sym, _∙_}
 use lib.ListN.{length-replicate}
 use lib.Ieee.{Float, binary32, ofBits}
-use Rattle.report_text.proofs.Joined.{wrote-as}
+use Rattle.text_page.proofs.Joined.{wrote-as}
 use Rattle.report_whole.proofs.AssembledText.{assembled-text}
 use borrow.Author.Needs.{needs}
 use Rattle.report_whole.proofs.write_assembled.Statement.{statement}

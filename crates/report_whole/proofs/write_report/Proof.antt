@@ -1,5 +1,5 @@
 -- `report_whole::write_report` meets its contract: the input's own number, or the answer to its lists. Assumes nothing.
-use Rattle.report_text.proofs.Joined.{wrote-as}
+use Rattle.text_page.proofs.Joined.{wrote-as}
 use Rattle.report_whole.proofs.ByNumber.{refused-text, taken-text}
 use Rattle.report_whole.proofs.ReportFits.{reported}
 use borrow.Author.Needs.{needs}

@@ -1,0 +1,9 @@
+pub mod DigitParts
+pub mod SixDigits
+pub mod ClosestBySum
+pub mod TextOfPattern
+pub mod WholeByParts
+pub mod TextSizes
+pub mod DigitsReadBack
+pub mod OnlyText
+pub mod SeenTexts

@@ -1,0 +1,3 @@
+pub mod Dec6
+pub mod Reading
+pub mod inside

@@ -1,0 +1,3 @@
+pub mod TempoText
+pub mod Answers
+pub mod inside
