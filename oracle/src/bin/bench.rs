@@ -509,7 +509,8 @@ type Order = (&'static str, fn(&mut [f64], &mut Random));
 const ORDERS: [Order; 3] = [("ordered", |_, _| ()), ("shuffled", shuffle), ("reversed", |beats, _| beats.reverse())];
 
 /// Over the whole range of beats, in no order.
-const SPREAD: Order = ("spread", |beats, random| beats.iter_mut().for_each(|beat| *beat = random.part() * 131_072.0 - 65_536.0));
+const SPREAD: Order =
+    ("spread", |beats, random| beats.iter_mut().for_each(|beat| *beat = random.part() * 131_072.0 - 65_536.0));
 
 const ASKED: [Order; 3] = [("rising", |_, _| ()), ("falling", |beats, _| beats.reverse()), ("in no order", shuffle)];
 
