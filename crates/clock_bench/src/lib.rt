@@ -267,8 +267,8 @@ fn time_on(at: Runner, row: i32) -> f64
     if warping {
         return at.time + 0.0;
     }
-    let rows = (row as i64) - (at.row as i64);
-    at.time + rows::forty_eighth(rows as f64) / (at.tempo / 60.0)
+    let beats = rows::beats_between(at.row, row);
+    at.time + beats / (at.tempo / 60.0)
 }
 
 // Past an event of the list.

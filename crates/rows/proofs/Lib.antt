@@ -15,3 +15,6 @@ pub mod Quantizing
 pub mod RowBySum
 pub mod RowMarks
 pub mod RowKeys
+pub mod RowsApart
+pub mod BackFromBits
+pub mod RowOrder
