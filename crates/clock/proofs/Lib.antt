@@ -4,3 +4,4 @@ pub mod PlayerNumber
 pub mod NearTaken
 pub mod RefusalKeepsCursor
 pub mod NewIsFresh
+pub mod NothingToAnswer

@@ -16,7 +16,7 @@ ghost use mathlib.Core.Bool.{true, false};
 ghost use Rattle.rows.specs.Rows.{row};
 ghost use Rattle.chart.specs.Timing.{timing};
 ghost use Rattle.clock_walk.specs.Quiet.{onlyTempos};
-ghost use Rattle.clock_walk.specs.Soon.{walkedSoon};
+ghost use Rattle.clock_walk.specs.Soon.{soonOf};
 ghost use Rattle.clock_walk.specs.Walk.{walk};
 ghost use Rattle.clock.specs.Question.{freshState, freshCursor, made, filled, beginning, answered, refusedWith, asking, playerQuestion, question};
 
@@ -270,26 +270,19 @@ impl Cursor {
         tempo_beats: &[f32],
         tempo_values: &[f32],
         stop_beats: &[f32],
-        stop_values: &[f32],
         delay_beats: &[f32],
-        delay_values: &[f32],
         warp_beats: &[f32],
-        warp_lengths: &[f32],
     ) -> Soon
-        ensures { λ r. ⌜ (r .whole ≡ true → (r .passed ≤ 1) × (ltZ row (self .asked) ≡ false) × (eqb (length (now («tempo_beats» .entry))) 0 ≡ false) × (walk (timing (now («tempo_beats» .entry)) (now («tempo_values» .entry)) (now («stop_beats» .entry)) (now («stop_values» .entry)) (now («delay_beats» .entry)) (now («delay_values» .entry)) (now («warp_beats» .entry)) (now («warp_lengths» .entry))) row (self .state) ≡ walkedSoon (now («tempo_values» .entry)) row r) × (cursorNumber (pick (eqb (length (now («tempo_beats» .entry))) 0) 1 (length (now («tempo_beats» .entry)))) (length (now («stop_beats» .entry))) (length (now («delay_beats» .entry))) (length (now («warp_beats» .entry))) (self .state) (self .asked) ≡ 0)) ⌝ }
+        ensures { λ r.
+            let tempos = now («tempo_beats» .entry) in
+            let stops = now («stop_beats» .entry) in
+            let delays = now («delay_beats» .entry) in
+            let warps = now («warp_beats» .entry) in
+            ⌜ (r .whole ≡ true → (ltZ row (self .asked) ≡ false) × (eqb (length tempos) 0 ≡ false) × (eqb (self .state .tempos) 0 ≡ false) × (onlyTempos stops delays warps (self .state) row ≡ true) × (cursorNumber (pick (eqb (length tempos) 0) 1 (length tempos)) (length stops) (length delays) (length warps) (self .state) (self .asked) ≡ 0) × (r ≡ soonOf tempos (now («tempo_values» .entry)) (self .state) row)) ⌝ }
     {
         let state = self.state;
         if self.is_near(row, tempo_beats, stop_beats, delay_beats, warp_beats) {
-            return clock_walk::walk_soon(
-                state,
-                row,
-                tempo_beats,
-                tempo_values,
-                stop_values,
-                delay_values,
-                warp_beats,
-                warp_lengths,
-            );
+            return clock_walk::walk_soon(state, row, tempo_beats, tempo_values);
         }
         Soon {
             state,
@@ -390,11 +383,8 @@ impl Cursor {
             tempo_beats,
             tempo_values,
             stop_beats,
-            stop_values,
             delay_beats,
-            delay_values,
             warp_beats,
-            warp_lengths,
         );
         if soon.whole {
             let state = soon.state;

@@ -15,7 +15,7 @@ use Rattle.picks.specs.Pick.{pick}
 use Rattle.limits.specs.Numbers.{mostRow}
 use Rattle.rows.specs.Rows.{row}
 use Rattle.chart.specs.Timing.{Timing}
-use Rattle.clock_walk.specs.Walk.{one, eventsLeft}
+use Rattle.clock_walk.specs.Course.{one, eventsLeft}
 use Rattle.clock_walk.proofs.EventsSpent.{spent}
 use Rattle.clock_tests.specs.TimingNumbers.{timingNumber, beatNumber}
 use Rattle.clock_tests.specs.CursorNumbers.{freshMark}

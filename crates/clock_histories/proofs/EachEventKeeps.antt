@@ -11,7 +11,6 @@ use lib.ListN.{length, getD}
 use lib.IntN.{ℤ, pos, negsuc, natAbs}
 use lib.Signed.{ltZ}
 use lib.Ieee.{Float, nan, binary64, add}
-use Rattle.picks.specs.Pick.{pick}
 use Rattle.ieee.proofs.Magnitude.{AtMost, Sized, sized}
 use Rattle.ieee.proofs.SizesAddUp.{OfFormat, digits-of-format, add-at-most, at-most-wider}
 use Rattle.rows.specs.Rows.{row}
@@ -23,19 +22,21 @@ use Rattle.limits.proofs.Every.{every-at}
 use Rattle.limits.proofs.ListTaken.{Taken}
 use Rattle.limits.proofs.TakenWithin.{taken-within}
 use Rattle.chart.specs.Timing.{Timing}
-use Rattle.clock_walk.specs.Events.{next}
-use Rattle.clock_walk.specs.Passing.{earlyTempo, timeTo, arrived, eventPassed, step, afterWarpEnd, afterTempo, afterDelay, afterStop, afterWarp}
-use Rattle.clock_walk.specs.Walk.{isEvent, isNothing, due, eventsLeft, timeAt, walkOn, walk}
+use Rattle.clock_walk.specs.Events.{rowAhead, ahead}
+use Rattle.clock_walk.specs.Passing.{earlyTempo, timeTo, timeAt, brings, arrived, eventPassed, afterWarpEnd, afterTempo, afterDelay, afterStop, afterWarp}
+use Rattle.clock_walk.specs.Course.{pastFound, onward, eventsLeft}
+use Rattle.clock_walk.specs.Walk.{isDue, walkOn, walk}
 use Rattle.chart.specs.declared.State.{State}
-use Rattle.clock_walk.specs.declared.Next.{Next}
 use Rattle.clock_walk.specs.declared.Event.{Event}
-use Rattle.clock_walk.specs.declared.Event.the-variants.{WarpEnd, Tempo, Delay, Asked, Stop, Warp, NotFound}
+use Rattle.clock_walk.specs.declared.Event.the-variants.{WarpEnd, Tempo, Delay, Stop, Warp}
+use Rattle.clock_walk.specs.declared.Ahead.{Ahead}
+use Rattle.clock_walk.specs.declared.Ahead.the-variants.{Found, NotFound}
 use Rattle.clock_walk.proofs.RowOrder.{no}
-use Rattle.clock_walk.proofs.EachCandidate.{Placed, placed, of-next}
-use Rattle.clock_walk.proofs.BeforeAnyTempo.{UpTo, next-by-asked, step-row}
+use Rattle.clock_walk.proofs.EachCandidate.{Placed, PlacedFound, placed-ahead, of-ahead}
+use Rattle.clock_walk.proofs.BeforeAnyTempo.{UpTo, onward-row}
+use Rattle.clock_walk.proofs.ClockTest.{says-due, due-up-to}
 use Rattle.clock_walk.proofs.EventByEvent.{left-falls}
-use Rattle.clock_walk.proofs.StaysWithin.{PlacesWithin, places-step, walk-keeps}
-use Rattle.clock_walk.proofs.TimeOfTheEnd.{time-of-end}
+use Rattle.clock_walk.proofs.StaysWithin.{PlacesWithin, places-onward, walk-keeps}
 use Rattle.rows.proofs.Allowed.{taken-allowed}
 use Rattle.clock_histories.proofs.TempoInForce.{IsTempo, early-taken, force-taken}
 use Rattle.clock_histories.proofs.TimeBetweenRows.{time-between}
@@ -81,7 +82,7 @@ one-more k x y v w l = add-at-most binary64 (spans-of-format (k + 1) l) x y v w 
 taken-at : (k : ℕ) (list : List Float) (i : ℕ) → allIn (upTo k) list ≡ true → i < length list → Sized k (getD list i nan)
 taken-at k list i h l = sized k (getD list i nan) (taken-within k (getD list i nan) (every-at (inRange (upTo k)) list i nan h l))
 
--- ---- the row of the next event
+-- ---- the row of what is due
 -- within the limit, or not below 0
 abbrev NotFar : ℤ → Type 0
 NotFar z = (natAbs z ≤ mostRow) ⊎ ((n : ℕ) × (z ≡ pos n))
@@ -98,20 +99,22 @@ module _ (t : Timing) (lists : ListsTaken t) (r : ℤ) (asked : natAbs r ≤ mos
   row-at : (beats : List Float) (i : ℕ) → allIn (rangeOf Kind.Beat) beats ≡ true → i < length beats → NotFar (row binary64 (getD beats i nan))
   row-at beats i h l = inl (row-within binary64 (getD beats i nan) (taken-allowed (getD beats i nan) (every-at (inRange (rangeOf Kind.Beat)) beats i nan h l)))
 
-  pub next-near : (s : State) → EndFine (s .end) → natAbs (next t r s .row) ≤ mostRow
-  next-near s e =
-      brought-near r (next t r s .row) asked (next-by-asked t r s)
-      (of-next (λ (n : Next). NotFar (n .row)) t r s
+  due-near : (s : State) → EndFine (s .end) → isDue t r s ≡ true → natAbs (rowAhead (ahead t s)) ≤ mostRow
+  due-near s e d =
+      brought-near r (rowAhead (ahead t s)) asked (due-up-to r t s d)
+      (of-ahead (λ (a : Ahead). NotFar (rowAhead a)) t s
       (inr (2147483647, refl))
       (λ _. inr (row-not-negative binary64 (s .end) (e .num) (e .den) (e .den-pos) (e .value) (e .small)))
       (row-at (t .tempoBeats) (s .tempos) (lists .tempos .beatsIn))
       (row-at (t .delayBeats) (s .delays) (lists .delays .beatsIn))
-      (inl asked)
       (row-at (t .stopBeats) (s .stops) (lists .stops .beatsIn))
       (row-at (t .warpBeats) (s .warps) (lists .warps .beatsIn)))
 
-  -- ---- what an event leaves
-  end-after : (s : State) (at : ℤ) (time : Float) (k : Event) → Placed t s k → EndFine (s .end) → EndFine (arrived (t .stopValues) (t .delayValues) (t .warpBeats) (t .warpLengths) s at time k .end)
+  -- ---- what an event leaves, with the number that it brings
+  abbrev number : State → Event → Float
+  number s k = brings (t .stopValues) (t .delayValues) (t .warpBeats) (t .warpLengths) s k
+
+  end-after : (s : State) (at : ℤ) (time : Float) (k : Event) → Placed t s k → EndFine (s .end) → EndFine (arrived s at time (number s k) k .end)
   unfolding afterWarpEnd afterTempo afterDelay afterStop afterWarp
   end-after s at time WarpEnd p e = e
   end-after s at time Tempo p e = e
@@ -121,56 +124,53 @@ module _ (t : Timing) (lists : ListsTaken t) (r : ℤ) (asked : natAbs r ≤ mos
       end-grows (s .end) (getD (t .warpBeats) (s .warps) nan) (getD (t .warpLengths) (s .warps) nan) e
       (taken-at 16 (t .warpBeats) (s .warps) (lists .warps .beatsIn) p)
       (taken-at 30 (t .warpLengths) (s .warps) (lists .warps .valuesIn) (rw (lists .warps .even) at p))
-  end-after s at time Asked p e = e
-  end-after s at time NotFound p e = e
 
-  time-after : (s : State) (at : ℤ) (time : Float) (k : ℕ) (kind : Event) → k + 1 ≤ 2 ^ 20 → isEvent kind ≡ true → Placed t s kind → AtMost (spans k) time
-      → AtMost (spans (k + 1)) (arrived (t .stopValues) (t .delayValues) (t .warpBeats) (t .warpLengths) s at time kind .time)
+  time-after : (s : State) (at : ℤ) (time : Float) (k : ℕ) (kind : Event) → k + 1 ≤ 2 ^ 20 → Placed t s kind → AtMost (spans k) time
+      → AtMost (spans (k + 1)) (arrived s at time (number s kind) kind .time)
   unfolding afterWarpEnd afterTempo afterDelay afterStop afterWarp
-  time-after s at time k WarpEnd l d p h = at-most-wider (omega arith) h
-  time-after s at time k Tempo l d p h = at-most-wider (omega arith) h
-  time-after s at time k Delay l d p h = one-more k time (getD (t .delayValues) (s .delays) nan) h (taken-at 50 (t .delayValues) (s .delays) (lists .delays .valuesIn) (rw (lists .delays .even) at p)) l
-  time-after s at time k Stop l d p h = one-more k time (getD (t .stopValues) (s .stops) nan) h (taken-at 50 (t .stopValues) (s .stops) (lists .stops .valuesIn) (rw (lists .stops .even) at p)) l
-  time-after s at time k Warp l d p h = at-most-wider (omega arith) h
-  time-after s at time k Asked l d p h = no d
-  time-after s at time k NotFound l d p h = no d
+  time-after s at time k WarpEnd l p h = at-most-wider (omega arith) h
+  time-after s at time k Tempo l p h = at-most-wider (omega arith) h
+  time-after s at time k Delay l p h = one-more k time (getD (t .delayValues) (s .delays) nan) h (taken-at 50 (t .delayValues) (s .delays) (lists .delays .valuesIn) (rw (lists .delays .even) at p)) l
+  time-after s at time k Stop l p h = one-more k time (getD (t .stopValues) (s .stops) nan) h (taken-at 50 (t .stopValues) (s .stops) (lists .stops .valuesIn) (rw (lists .stops .even) at p)) l
+  time-after s at time k Warp l p h = at-most-wider (omega arith) h
 
   module _ (early : Float) (tempo : IsTempo early) where
-    -- the time at the next event
-    pub time-there : (s : State) (n : ℕ) → Fine t s n → AtMost (spans (spansAfter n + 1)) (add binary64 (s .time) (timeTo early (t .tempoValues) s (next t r s .row)))
-    time-there s n f =
-        let there = next t r s .row in
+    end-found : (s : State) (a : Ahead) → PlacedFound t s a → EndFine (s .end) → EndFine (pastFound early t s a .end)
+    unfolding eventPassed
+    end-found s (Found n) p e = end-after s (n .row) _ (n .kind) p e
+    end-found s NotFound p e = e
+
+    time-found : (s : State) (k : ℕ) (a : Ahead) → k + 1 ≤ 2 ^ 20 → PlacedFound t s a → AtMost (spans k) (s .time) → AtMost (spans k) (timeAt early (t .tempoValues) s (rowAhead a))
+        → AtMost (spans (k + 1)) (pastFound early t s a .time)
+    unfolding eventPassed
+    time-found s k (Found n) l p before h = time-after s (n .row) _ k (n .kind) l p h
+    time-found s k NotFound l p before h = at-most-wider (omega arith) before
+
+    -- the time at a row within the limit
+    time-there : (s : State) (n : ℕ) → Fine t s n → (at : ℤ) → natAbs at ≤ mostRow → AtMost (spans (spansAfter n + 1)) (timeAt early (t .tempoValues) s at)
+    unfolding timeAt
+    time-there s n f at near =
         let force = force-taken early (t .tempoValues) (s .tempos) tempo (lists .tempos .valuesIn) (rw (lists .tempos .even) at (f .places .tempos)) in
         let few = f .few in
-        one-more (spansAfter n) (s .time) (timeTo early (t .tempoValues) s there) (f .time)
-        (at-most-wider (lit≤ tt) (time-between early (t .tempoValues) s there (f .near) (next-near s (f .end)) force)) (omega arith)
+        one-more (spansAfter n) (s .time) (timeTo early (t .tempoValues) s at) (f .time)
+        (at-most-wider (lit≤ tt) (time-between early (t .tempoValues) s at (f .near) near force)) (omega arith)
 
-    fine-step : (s : State) (n : ℕ) → due t r s ≡ true → Fine t s n → Fine t (step early t r s) (n + 1)
-    unfolding eventPassed
-    fine-step s n d f =
+    fine-onward : (s : State) (n : ℕ) → isDue t r s ≡ true → Fine t s n → Fine t (onward early t s) (n + 1)
+    fine-onward s n d f =
         let few = f .few in
-        let less = left-falls early t r s d in
-        let k = next t r s .kind in
-        let time = add binary64 (s .time) (timeTo early (t .tempoValues) s (next t r s .row)) in
+        let less = left-falls early t s (says-due t r s d) in
+        let near = due-near s (f .end) d in
         record {
-          places = places-step early t r s (f .places);
-          near = rw (step-row early t r s d) (next-near s (f .end));
-          time = at-most-wider (two-each n) (time-after s (next t r s .row) time (spansAfter n + 1) k (omega arith) d (placed t r s) (time-there s n f));
-          end = end-after s (next t r s .row) time k (placed t r s) (f .end);
+          places = places-onward early t s (f .places);
+          near = rw (onward-row early t s (says-due t r s d)) near;
+          time = at-most-wider (two-each n)
+              (time-found s (spansAfter n + 1) (ahead t s) (omega arith) (placed-ahead t s) (at-most-wider (omega arith) (f .time)) (time-there s n f (rowAhead (ahead t s)) near));
+          end = end-found s (ahead t s) (placed-ahead t s) (f .end);
           few = omega arith;
         }
 
     pub fine-walk : (s : State) (n : ℕ) → Fine t s n → Fine t (walkOn early t r s n .state) (walkOn early t r s n .passed)
-    fine-walk s n f = walk-keeps early t r (Fine t) fine-step s n f
-
-    -- where nothing is next, the last time
-    there : (s : State) (n : ℕ) → Fine t s n → AtMost (spans (spansAfter n + 1)) (timeAt early (t .tempoValues) s (next t r s))
-    unfolding timeAt
-    there s n f = go (isNothing (next t r s .kind))
-      where
-        go : (b : Bool) → AtMost (spans (spansAfter n + 1)) (pick b (s .time) (add binary64 (s .time) (timeTo early (t .tempoValues) s (next t r s .row))))
-        go true = at-most-wider (omega arith) (f .time)
-        go false = time-there s n f
+    fine-walk s n f = walk-keeps early t r (Fine t) fine-onward s n f
 
   -- ---- the walk of a question, from before any tempo
   module _ (s : State) (none : s .tempos ≡ 0) (fine : Fine t s 0) where
@@ -183,8 +183,8 @@ module _ (t : Timing) (lists : ListsTaken t) (r : ℤ) (asked : natAbs r ≤ mos
 
     -- and its time
     pub walk-time : AtMost (spans (spansAfter (walk t r s .passed) + 1)) (walk t r s .time)
-    unfolding walk
+    unfolding walk walkOn
     walk-time =
         let early = earlyTempo (t .tempoBeats) (t .tempoValues) s in
         let w = walkOn early t r s 0 in
-        rw (time-of-end early t r s 0) (there early tempo (w .state) (w .passed) (fine-walk early tempo s 0 fine))
+        time-there early tempo (w .state) (w .passed) (fine-walk early tempo s 0 fine) r asked

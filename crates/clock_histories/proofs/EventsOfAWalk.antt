@@ -9,9 +9,10 @@ use lib.Ieee.{Float, fin, add, sub, neg, mul, div, ofInt, lt, le, eq, sum}
 use Rattle.ieee.specs.Constants.{plusZero, sixty}
 use Rattle.ieee.specs.Rounding.{rint, hold}
 use Rattle.chart.specs.Timing.{Timing, timing}
-use Rattle.clock_walk.specs.Events.{sooner, offered, endOffered, nextEvent}
-use Rattle.clock_walk.specs.Passing.{lastUpTo, tempoAt, earlyTempo, inForce, timeTo, afterWarpEnd, afterTempo, afterDelay, afterStop, larger, afterWarp, eventPassed}
-use Rattle.clock_walk.specs.Walk.{timeAt, walkWithin, walkOn, walk}
+use Rattle.clock_walk.specs.Events.{sooner, offered, endOffered, ahead, goesBefore}
+use Rattle.clock_walk.specs.Passing.{lastUpTo, tempoAt, earlyTempo, inForce, timeTo, timeAt, afterWarpEnd, afterTempo, afterDelay, afterStop, larger, afterWarp, eventPassed}
+use Rattle.clock_walk.specs.Course.{passWithin, passWhile}
+use Rattle.clock_walk.specs.Walk.{walkOn, walk}
 use Rattle.clock_walk.proofs.EventsSpent.{spent}
 use Rattle.limits.specs.Numbers.{inRange, every}
 use Rattle.limits.specs.Refusals.{lower, listNumber}
@@ -31,7 +32,7 @@ abbrev pub small : Timing
 small = timing (plusZero ∷ []) (sixty ∷ []) (one ∷ []) (one ∷ []) (one ∷ []) (one ∷ []) (fin false 1 (pos 1) ∷ []) (one ∷ [])
 
 pub events-all-passed : walk (filled small) (pos 192) (freshState plusZero plusZero) .passed ≡ events small
-unfolding filled temposOf freshState walk walkOn walkWithin timeAt earlyTempo tempoAt lastUpTo inForce timeTo eventPassed afterWarpEnd afterTempo afterDelay afterStop afterWarp larger nextEvent sooner offered endOffered rint hold add sub neg mul div ofInt lt le sum
+unfolding filled temposOf freshState walk walkOn passWhile passWithin timeAt earlyTempo tempoAt lastUpTo inForce timeTo eventPassed afterWarpEnd afterTempo afterDelay afterStop afterWarp larger ahead goesBefore sooner offered endOffered rint hold add sub neg mul div ofInt lt le sum
 events-all-passed = refl
 
 -- a timing that is taken

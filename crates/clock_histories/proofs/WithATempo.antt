@@ -11,7 +11,7 @@ use lib.Ieee.{Float}
 use Rattle.ieee.specs.Constants.{plusZero, sixty}
 use Rattle.picks.specs.Pick.{pick}
 use Rattle.chart.specs.Timing.{Timing}
-use Rattle.clock_walk.specs.Walk.{eventsLeft}
+use Rattle.clock_walk.specs.Course.{eventsLeft}
 use Rattle.clock.specs.Question.{filled, temposOf, freshState}
 use Rattle.clock_histories.specs.Costs.{events}
 

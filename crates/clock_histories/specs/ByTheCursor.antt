@@ -7,7 +7,7 @@ use lib.Signed.{ltZ}
 use lib.Ieee.{Float, binary64}
 use Rattle.rows.specs.Rows.{row}
 use Rattle.chart.specs.Timing.{Timing}
-use Rattle.clock_walk.specs.Walk.{one}
+use Rattle.clock_walk.specs.Course.{one}
 use Rattle.clock.specs.History.{asks, History}
 use Rattle.clock.specs.declared.Cursor.{Cursor}
 use Rattle.clock.specs.declared.Answer.{Answer}

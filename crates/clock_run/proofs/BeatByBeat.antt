@@ -11,15 +11,14 @@ use lib.Ieee.{Float, nan, binary64, sub}
 use Rattle.rows.specs.Rows.{row}
 use Rattle.order.proofs.LaidOverFront.{Laying, laying-none, laying-more, laying-all}
 use Rattle.chart.specs.Timing.{Timing}
-use Rattle.chart.specs.declared.State.{State}
+use Rattle.clock_walk.specs.declared.Walked.{Walked}
 use Rattle.clock.specs.Question.{asking}
 use Rattle.clock.specs.History.{answers, lastCursor, numberOf, timeOf, countOf}
 use Rattle.clock.specs.declared.Cursor.{Cursor}
 use Rattle.clock.specs.declared.Answer.{Answer}
 use Rattle.clock_run.specs.Run.{runOf}
 use Rattle.clock_run.specs.inside.Asked.{AllAsked}
-use Rattle.clock_run.specs.inside.Ahead.{quietTime}
-use Rattle.clock_run.proofs.QuietRows.{quietly}
+use Rattle.clock_run.proofs.QuietRows.{answer-of}
 
 module _ (t : Timing) (offset global : Float) where
   -- with the next beat the answers have one less to come
@@ -70,13 +69,13 @@ module _ (t : Timing) (offset global : Float) where
             ofCounts = laying-more _ _ _ _ i (r .ofCounts) (a .count) _ (ap (map countOf) more) (omega (arith, r .ofCounts .size));
           }
 
-      -- a beat that is answered without a walk, so many events being passed
-      pub quiet-turn : (passed : ℕ) (s : State) (rate : Float) → quietly t offset global c (getD beats i nan) passed s rate ≡ asking t c offset global (getD beats i nan)
-          → (r : ℤ) → r ≡ row binary64 (getD beats i nan) → (time : Float) → time ≡ sub binary64 (quietTime s rate r) global
+      -- a beat that is answered without a walk, by what a walk would come to
+      pub quiet-turn : (w : Walked) → answer-of t offset global c (getD beats i nan) w ≡ asking t c offset global (getD beats i nan)
+          → (r : ℤ) → r ≡ row binary64 (getD beats i nan) → (time : Float) → time ≡ sub binary64 (w .time) global
           → i < length beats → length beats ≤ length numbers₀ → length beats ≤ length times₀ → length beats ≤ length counts₀
-          → Running c₀ beats numbers₀ times₀ counts₀ (record { state = s; asked = r }) (set numbers i 0) (set times i time) (set counts i (passed + 1)) (i + 1)
-      quiet-turn passed s rate is r isRow time isTime h inNumbers inTimes inCounts =
-          turned (record { number = 0; time = time; count = passed + 1; cursor = record { state = s; asked = r } })
+          → Running c₀ beats numbers₀ times₀ counts₀ (record { state = w .state; asked = r }) (set numbers i 0) (set times i time) (set counts i (w .passed + 1)) (i + 1)
+      quiet-turn w is r isRow time isTime h inNumbers inTimes inCounts =
+          turned (record { number = 0; time = time; count = w .passed + 1; cursor = record { state = w .state; asked = r } })
           (rw (isTime, isRow) is)
           h inNumbers inTimes inCounts
 

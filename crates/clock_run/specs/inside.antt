@@ -1,2 +1,2 @@
-pub mod Ahead
+pub mod Outlook
 pub mod Asked

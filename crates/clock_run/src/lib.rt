@@ -1,13 +1,14 @@
 // A run: at what times are these beats? The timing and the cursor are tested once, and each beat is asked by the cursor that the one before it left.
 use chart::State;
 use clock::Cursor;
+use clock_walk::Soon;
 ghost use mathlib.Core.Path.{_≡_};
 ghost use Prim.Native.Nat.{_≤_};
 ghost use lib.ListN.{length};
 ghost use Rattle.chart.specs.Timing.{timing};
 ghost use Rattle.clock_run.specs.Run.{runRoomNumber, RunLaid};
 ghost use Rattle.clock_run.specs.inside.Asked.{AllAsked};
-ghost use Rattle.clock_run.specs.inside.Ahead.{lesserRow, restUntil, lookOn, lookAhead, isBefore, quietTime, pastTempo};
+ghost use Rattle.clock_run.specs.inside.Outlook.{lesserRow, restUntil, lookOn, lookAhead, isBefore, quietTime, soonBefore};
 
 // The run's number, and the cursor after its last beat; after a refusal the cursor that was lent.
 #[repr(C)]
@@ -31,7 +32,7 @@ fn room_number(beats: usize, numbers: usize, times: usize, counts: usize) -> u32
 
 // The row of the next event, that of the next one which is no tempo, and beats a second, so that a beat before the first is answered without a walk, and
 // one before the second past a tempo; not known before any tempo is passed.
-struct Ahead {
+struct Outlook {
     known: bool,
     row: i32,
     rest: i32,
@@ -61,12 +62,12 @@ fn rest_until(state: State, stop_beats: &[f32], delay_beats: &[f32], warp_beats:
 }
 
 // What is ahead of a state, the row of the next event that is no tempo being known.
-fn look_on(state: State, rest: i32, tempo_beats: &[f32], tempo_values: &[f32]) -> Ahead
+fn look_on(state: State, rest: i32, tempo_beats: &[f32], tempo_values: &[f32]) -> Outlook
     ensures { λ r. ⌜ r ≡ lookOn (now («tempo_beats» .entry)) (now («tempo_values» .entry)) state rest ⌝ }
 {
     let tempos = state.tempos;
     if tempos == 0 {
-        return Ahead {
+        return Outlook {
             known: false,
             row: 0,
             rest: 0,
@@ -78,14 +79,14 @@ fn look_on(state: State, rest: i32, tempo_beats: &[f32], tempo_values: &[f32]) -
         let rate = std::num::f32_to_f64_with_nan(tempo_values[place]) / 60.0;
         let tempo = clock_walk::row_at(tempo_beats, tempos);
         let row = least_of(tempo, rest);
-        return Ahead {
+        return Outlook {
             known: true,
             row: row,
             rest: rest,
             rate: rate,
         };
     }
-    Ahead {
+    Outlook {
         known: false,
         row: 0,
         rest: 0,
@@ -103,11 +104,11 @@ fn look_ahead(
     delay_values: &[f32],
     warp_beats: &[f32],
     warp_lengths: &[f32],
-) -> Ahead
+) -> Outlook
     ensures { λ r. ⌜ r ≡ lookAhead (timing (now («tempo_beats» .entry)) (now («tempo_values» .entry)) (now («stop_beats» .entry)) (now («stop_values» .entry)) (now («delay_beats» .entry)) (now («delay_values» .entry)) (now («warp_beats» .entry)) (now («warp_lengths» .entry))) state ⌝ }
 {
     if tempo_beats.len() == 0 {
-        return Ahead {
+        return Outlook {
             known: false,
             row: 0,
             rest: 0,
@@ -145,57 +146,42 @@ fn quiet_time(state: State, rate: f64, row: i32) -> f64
     state.time + beats / rate
 }
 
-// How many events were passed, one tempo or none, the state past them, and what is ahead of it.
-struct Past {
-    passed: usize,
-    state: State,
-    ahead: Ahead,
-}
-
-// Passes the next tempo for a beat that is not before it, where there is one and the beat is before all that follows: what is passed is kept. Else passes nothing.
-fn past_tempo(
-    ahead: Ahead,
+// A walk that is soon over: passes the next tempo for a beat that is not before it, where there is one with a value and the beat is before all that follows, by the
+// rows that are kept. Whole only there, and then what is passed is kept.
+fn soon(
+    outlook: Outlook,
     at: Cursor,
     beat: f64,
     row: i32,
     tempo_beats: &[f32],
     tempo_values: &[f32],
-    stop_values: &[f32],
-    delay_values: &[f32],
-    warp_beats: &[f32],
-    warp_lengths: &[f32],
-) -> Past
-    ensures { λ r. ⌜ r ≡ pastTempo (now («tempo_beats» .entry)) (now («tempo_values» .entry)) (now («stop_values» .entry)) (now («delay_values» .entry)) (now («warp_beats» .entry)) (now («warp_lengths» .entry)) ahead at beat row ⌝ }
+) -> Soon
+    ensures { λ r. ⌜ r ≡ soonBefore (now («tempo_beats» .entry)) (now («tempo_values» .entry)) outlook at beat row ⌝ }
 {
     let state = at.state;
     let next = state.tempos;
-    let until = least_of(clock_walk::row_after(tempo_beats, next), ahead.rest);
-    if is_before(ahead.known, until, at.asked, beat, row) {
+    let until = least_of(clock_walk::row_after(tempo_beats, next), outlook.rest);
+    if is_before(outlook.known, until, at.asked, beat, row) {
         if next < tempo_beats.len() {
             if next < tempo_values.len() {
                 let moved = clock_walk::pass_next_tempo(
                     state,
-                    ahead.row,
+                    outlook.row,
                     tempo_beats,
                     tempo_values,
-                    stop_values,
-                    delay_values,
-                    warp_beats,
-                    warp_lengths,
                 );
-                let on = look_on(moved, ahead.rest, tempo_beats, tempo_values);
-                return Past {
-                    passed: 1,
+                return Soon {
                     state: moved,
-                    ahead: on,
+                    passed: 1,
+                    whole: true,
                 };
             }
         }
     }
-    Past {
+    Soon {
+        state,
         passed: 0,
-        state: state,
-        ahead: ahead,
+        whole: false,
     }
 }
 
@@ -224,7 +210,7 @@ fn ask_each(
     ensures { λ r. ⌜ AllAsked (timing (now («tempo_beats» .entry)) (now («tempo_values» .entry)) (now («stop_beats» .entry)) (now («stop_values» .entry)) (now («delay_beats» .entry)) (now («delay_values» .entry)) (now («warp_beats» .entry)) (now («warp_lengths» .entry))) offset global cursor (now (beats .entry)) r (now (numbers .entry)) (now (numbers .exit)) (now (times .entry)) (now (times .exit)) (now (counts .entry)) (now (counts .exit)) ⌝ }
 {
     let mut at = cursor;
-    let mut ahead = Ahead {
+    let mut outlook = Outlook {
         known: false,
         row: 0,
         rest: 0,
@@ -234,9 +220,9 @@ fn ask_each(
     while i < beats.len() {
         let beat = beats[i];
         let row = rows::beat_to_note_row(beat);
-        if is_before(ahead.known, ahead.row, at.asked, beat, row) {
+        if is_before(outlook.known, outlook.row, at.asked, beat, row) {
             let state = at.state;
-            let time = quiet_time(state, ahead.rate, row) - global;
+            let time = quiet_time(state, outlook.rate, row) - global;
             numbers[i] = limits::TAKEN;
             times[i] = time;
             counts[i] = 1;
@@ -244,30 +230,19 @@ fn ask_each(
             i += 1;
             continue;
         }
-        let past = past_tempo(
-            ahead,
-            at,
-            beat,
-            row,
-            tempo_beats,
-            tempo_values,
-            stop_values,
-            delay_values,
-            warp_beats,
-            warp_lengths,
-        );
-        if 0 < past.passed {
-            let state = past.state;
-            let on = past.ahead;
+        let near = soon(outlook, at, beat, row, tempo_beats, tempo_values);
+        if near.whole {
+            let state = near.state;
+            let on = look_on(state, outlook.rest, tempo_beats, tempo_values);
             let time = quiet_time(state, on.rate, row) - global;
             numbers[i] = limits::TAKEN;
             times[i] = time;
-            counts[i] = past.passed + 1;
+            counts[i] = near.passed + 1;
             at = Cursor {
                 state: state,
                 asked: row,
             };
-            ahead = on;
+            outlook = on;
             i += 1;
             continue;
         }
@@ -290,7 +265,7 @@ fn ask_each(
         let next = answer.cursor;
         at = next;
         let state = next.state;
-        ahead = look_ahead(
+        outlook = look_ahead(
             state,
             tempo_beats,
             tempo_values,

@@ -1,88 +1,45 @@
--- The walk goes on event by event while one is due, and every event lessens what is left to pass. Assumes nothing.
-use Prim.Native.Nat.{ℕ, zero, suc, _+_, _-_, _*_, _^_, _<_, _≤_}
+-- Every event that is passed lessens what is left to pass, so that places and counts fit their integers. Assumes nothing.
+use Prim.Native.Nat.{ℕ, suc, _+_, _-_, _*_, _^_, _<_, _≤_}
 use mathlib.Core.Bool.{Bool, true, false}
-use mathlib.Core.Path.{_≡_, refl, sym, ap, _∙_}
+use mathlib.Core.Path.{_≡_}
 use native.Mathlib.Omega.{arith}
 use lib.ListN.{length}
 use lib.IntN.{ℤ}
 use lib.Ieee.{Float}
 use Rattle.chart.specs.Timing.{Timing}
-use Rattle.clock_walk.specs.Events.{next}
-use Rattle.clock_walk.specs.Passing.{arrived, eventPassed, step, afterWarpEnd, afterTempo, afterDelay, afterStop, afterWarp}
+use Rattle.clock_walk.specs.Events.{ahead}
+use Rattle.clock_walk.specs.Passing.{arrived, eventPassed, afterWarpEnd, afterTempo, afterDelay, afterStop, afterWarp}
 use Rattle.clock_walk.specs.inside.CanMove.{CanMove}
-use Rattle.clock_walk.specs.Walk.{isEvent, due, one, eventsLeft, ended, walkWithin, walkOn}
+use Rattle.clock_walk.specs.Course.{isFound, isAhead, pastFound, onward, one, eventsLeft}
 use Rattle.chart.specs.declared.State.{State}
 use Rattle.clock_walk.specs.declared.Next.{Next}
 use Rattle.clock_walk.specs.declared.Event.{Event}
-use Rattle.clock_walk.specs.declared.Event.the-variants.{WarpEnd, Tempo, Delay, Asked, Stop, Warp, NotFound}
-use Rattle.clock_walk.proofs.EachCandidate.{Placed, placed}
+use Rattle.clock_walk.specs.declared.Event.the-variants.{WarpEnd, Tempo, Delay, Stop, Warp}
+use Rattle.clock_walk.specs.declared.Ahead.{Ahead}
+use Rattle.clock_walk.specs.declared.Ahead.the-variants.{Found, NotFound}
+use Rattle.clock_walk.proofs.RowOrder.{no}
+use Rattle.clock_walk.proofs.EachCandidate.{Placed, PlacedFound, placed-ahead, placed}
 
 -- ---- what is left to pass
 one-le : (b : Bool) → one b ≤ 1
 one-le true = omega arith
 one-le false = omega arith
 
-fewer : (t : Timing) (s : State) (at : ℤ) (time : Float) (k : Event) → isEvent k ≡ true → Placed t s k
-    → suc (eventsLeft t (arrived (t .stopValues) (t .delayValues) (t .warpBeats) (t .warpLengths) s at time k)) ≤ eventsLeft t s
+fewer : (t : Timing) (s : State) (at : ℤ) (time number : Float) (k : Event) → Placed t s k → suc (eventsLeft t (arrived s at time number k)) ≤ eventsLeft t s
 unfolding afterWarpEnd afterTempo afterDelay afterStop afterWarp
-fewer t s at time WarpEnd e p = rw p (omega arith)
-fewer t s at time Tempo e p = omega arith
-fewer t s at time Delay e p = omega arith
-fewer t s at time Stop e p = omega arith
-fewer t s at time Warp e p = let h = one-le (s .warping) in omega arith
-fewer t s at time Asked e p = let z : _≡_ {A = ℕ} 0 1 = cc in absurd (omega arith)
-fewer t s at time NotFound e p = let z : _≡_ {A = ℕ} 0 1 = cc in absurd (omega arith)
+fewer t s at time number WarpEnd p = rw p (omega arith)
+fewer t s at time number Tempo p = omega arith
+fewer t s at time number Delay p = omega arith
+fewer t s at time number Stop p = omega arith
+fewer t s at time number Warp p = let h = one-le (s .warping) in omega arith
 
-module _ (early : Float) (t : Timing) (r : ℤ) where
-  pub left-falls : (s : State) → due t r s ≡ true → eventsLeft t (step early t r s) < eventsLeft t s
-  unfolding eventPassed
-  left-falls s e = fewer t s (next t r s .row) _ (next t r s .kind) e (placed t r s)
+found-falls : (early : Float) (t : Timing) (s : State) (a : Ahead) → PlacedFound t s a → isFound a ≡ true → eventsLeft t (pastFound early t s a) < eventsLeft t s
+unfolding eventPassed
+found-falls early t s (Found n) p e = fewer t s (n .row) _ _ (n .kind) p
+found-falls early t s NotFound p e = no e
 
-  -- ---- any bound that is not below what is left gives the same walk
-  enough : (f g : ℕ) (b : Bool) (s : State) (n : ℕ) → due t r s ≡ b → eventsLeft t s ≤ f → eventsLeft t s ≤ g → walkWithin f b early t r s n ≡ walkWithin g b early t r s n
-  unfolding walkWithin
-  enough zero zero b s n e p q = refl
-  enough zero (suc g) true s n e p q = let h = left-falls s e in absurd (omega arith)
-  enough zero (suc g) false s n e p q = refl
-  enough (suc f) zero true s n e p q = let h = left-falls s e in absurd (omega arith)
-  enough (suc f) zero false s n e p q = refl
-  enough (suc f) (suc g) true s n e p q = let h = left-falls s e in enough f g (due t r (step early t r s)) (step early t r s) (n + 1) refl (omega arith) (omega arith)
-  enough (suc f) (suc g) false s n e p q = refl
-
-  -- one event more
-  pub walk-on : (s : State) (n : ℕ) → due t r s ≡ true → walkOn early t r s n ≡ walkOn early t r (step early t r s) (n + 1)
-  unfolding walkOn walkWithin
-  walk-on s n e = go (eventsLeft t s) refl
-    where
-      go : (f : ℕ) → eventsLeft t s ≡ f
-          → walkWithin (eventsLeft t s) (due t r s) early t r s n ≡ walkWithin (eventsLeft t (step early t r s)) (due t r (step early t r s)) early t r (step early t r s) (n + 1)
-      go zero q = let h = left-falls s e in absurd (omega arith)
-      go (suc f) q = let h = left-falls s e in rw (q, e) (enough f (eventsLeft t (step early t r s)) (due t r (step early t r s)) (step early t r s) (n + 1) refl (omega arith) (omega arith))
-
-  -- none is due
-  pub walk-end : (s : State) (n : ℕ) → due t r s ≡ false → walkOn early t r s n ≡ ended early t r s n
-  unfolding walkOn walkWithin
-  walk-end s n e = go (eventsLeft t s) refl
-    where
-      go : (f : ℕ) → eventsLeft t s ≡ f → walkWithin (eventsLeft t s) (due t r s) early t r s n ≡ ended early t r s n
-      go zero q = rw q
-      go (suc f) q = rw (q, e)
-
-  -- ---- a turn of the loop
-  pub record Going (start s : State) (n : ℕ) : Type 0 where
-    pub same : walkOn early t r s n ≡ walkOn early t r start 0
-    pub few : n + eventsLeft t s ≤ eventsLeft t start
-
-  pub turn : (start s : State) (n : ℕ) (found : Next) (s′ : State) → found ≡ next t r s → isEvent (found .kind) ≡ true
-      → s′ ≡ eventPassed early (t .tempoValues) (t .stopValues) (t .delayValues) (t .warpBeats) (t .warpLengths) s found
-      → Going start s n → Going start s′ (n + 1) × (eventsLeft t s′ < eventsLeft t s)
-  turn start s n found s′ is event after going =
-      let d : due t r s ≡ true = ap (λ (m : Next). isEvent (m .kind)) (sym is) ∙ event in
-      let e : s′ ≡ step early t r s = after ∙ ap (λ (m : Next). eventPassed early (t .tempoValues) (t .stopValues) (t .delayValues) (t .warpBeats) (t .warpLengths) s m) is in
-      let l : eventsLeft t (step early t r s) < eventsLeft t s = left-falls s d in
-      let w : eventsLeft t s′ < eventsLeft t s = rw e l in
-      let f = going .few in
-      (record { same = ap (λ (x : State). walkOn early t r x (n + 1)) e ∙ sym (walk-on s n d) ∙ going .same; few = omega arith }, w)
+pub left-falls : (early : Float) (t : Timing) (s : State) → isAhead t s ≡ true → eventsLeft t (onward early t s) < eventsLeft t s
+left-falls early t s e = found-falls early t s (ahead t s) (placed-ahead t s) e
 
 -- ---- places and counts fit their integers
 can-move : (t : Timing) (s : State) (k : Event) → Placed t s k
@@ -92,12 +49,10 @@ can-move t s Tempo p a b c d = omega arith
 can-move t s Delay p a b c d = omega arith
 can-move t s Stop p a b c d = omega arith
 can-move t s Warp p a b c d = omega arith
-can-move t s Asked p a b c d = tt
-can-move t s NotFound p a b c d = tt
 
-pub moves : (t : Timing) (r : ℤ) (s : State) (found : Next) → found ≡ next t r s
-    → length (t .tempoBeats) * 4 < 2 ^ 63 → length (t .stopBeats) * 4 < 2 ^ 63 → length (t .delayBeats) * 4 < 2 ^ 63 → length (t .warpBeats) * 4 < 2 ^ 63 → CanMove s (found .kind)
-moves t r s found is a b c d = rw is (can-move t s (next t r s .kind) (placed t r s) a b c d)
+pub moves : (t : Timing) (s : State) (n : Next) → ahead t s ≡ Found n
+    → length (t .tempoBeats) * 4 < 2 ^ 63 → length (t .stopBeats) * 4 < 2 ^ 63 → length (t .delayBeats) * 4 < 2 ^ 63 → length (t .warpBeats) * 4 < 2 ^ 63 → CanMove s (n .kind)
+moves t s n is a b c d = can-move t s (n .kind) (placed t s n is) a b c d
 
 cut : (a b : ℕ) → a - b ≤ a
 cut a b = omega arith

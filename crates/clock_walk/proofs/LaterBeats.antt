@@ -27,7 +27,8 @@ use Rattle.rows.proofs.RowOfBeat.{row-of-beat}
 use Rattle.rows.proofs.RowsKeepOrder.{row-mono}
 use Rattle.rows.proofs.BeatsRise.{beat-allowed}
 use Rattle.rows.proofs.Allowed.{within-allowed}
-use Rattle.clock_walk.specs.Quiet.{farthest, rowAt, notBefore, isLater}
+use Rattle.clock_walk.specs.Events.{farthest}
+use Rattle.clock_walk.specs.Quiet.{rowAt, notBefore, isLater}
 use Rattle.clock_walk.proofs.RowOrder.{no}
 use Rattle.clock_walk.proofs.BackFromBits.{back}
 

@@ -1,31 +1,28 @@
--- What every event keeps, every walk keeps: so its places stay within their lists. Assumes nothing.
-use Prim.Native.Nat.{ℕ, zero, suc, _+_, _≤_}
-use mathlib.Core.Bool.{Bool, true, false}
-use mathlib.Core.Path.{_≡_, refl}
+-- What every event keeps, every walk of the clock keeps: so its places stay within their lists. Assumes nothing.
+use Prim.Native.Nat.{ℕ, _+_, _≤_}
+use mathlib.Core.Bool.{true}
+use mathlib.Core.Path.{_≡_}
 use native.Mathlib.Omega.{arith}
 use lib.ListN.{length}
 use lib.IntN.{ℤ}
 use lib.Ieee.{Float}
 use Rattle.chart.specs.Timing.{Timing}
-use Rattle.clock_walk.specs.Events.{next}
-use Rattle.clock_walk.specs.Passing.{earlyTempo, arrived, eventPassed, step, afterWarpEnd, afterTempo, afterDelay, afterStop, afterWarp}
-use Rattle.clock_walk.specs.Walk.{due, eventsLeft, walkWithin, walkOn, walk}
+use Rattle.clock_walk.specs.Events.{ahead}
+use Rattle.clock_walk.specs.Passing.{earlyTempo, arrived, eventPassed, afterWarpEnd, afterTempo, afterDelay, afterStop, afterWarp}
+use Rattle.clock_walk.specs.Course.{pastFound, onward}
+use Rattle.clock_walk.specs.Walk.{isDue, walkOn, walk}
 use Rattle.chart.specs.declared.State.{State}
 use Rattle.clock_walk.specs.declared.Event.{Event}
-use Rattle.clock_walk.specs.declared.Event.the-variants.{WarpEnd, Tempo, Delay, Asked, Stop, Warp, NotFound}
-use Rattle.clock_walk.proofs.EachCandidate.{Placed, placed}
+use Rattle.clock_walk.specs.declared.Event.the-variants.{WarpEnd, Tempo, Delay, Stop, Warp}
+use Rattle.clock_walk.specs.declared.Ahead.{Ahead}
+use Rattle.clock_walk.specs.declared.Ahead.the-variants.{Found, NotFound}
+use Rattle.clock_walk.proofs.EachCandidate.{Placed, PlacedFound, placed-ahead}
+use Rattle.clock_walk.proofs.AllWalks.{pass-keeps}
 
--- P speaks of a state and of how many events were passed before it
-module _ (early : Float) (t : Timing) (r : ℤ) (P : State → ℕ → Type 0) (keeps : (s : State) (n : ℕ) → due t r s ≡ true → P s n → P (step early t r s) (n + 1)) where
-  within : (f : ℕ) (b : Bool) (s : State) (n : ℕ) → due t r s ≡ b → P s n → P (walkWithin f b early t r s n .state) (walkWithin f b early t r s n .passed)
-  unfolding walkWithin
-  within zero b s n e h = h
-  within (suc f) false s n e h = h
-  within (suc f) true s n e h = within f (due t r (step early t r s)) (step early t r s) (n + 1) refl (keeps s n e h)
-
-  pub walk-keeps : (s : State) (n : ℕ) → P s n → P (walkOn early t r s n .state) (walkOn early t r s n .passed)
-  unfolding walkOn
-  walk-keeps s n h = within (eventsLeft t s) (due t r s) s n refl h
+pub walk-keeps : (early : Float) (t : Timing) (r : ℤ) (P : State → ℕ → Type 0) → ((s : State) (n : ℕ) → isDue t r s ≡ true → P s n → P (onward early t s) (n + 1))
+    → (s : State) (n : ℕ) → P s n → P (walkOn early t r s n .state) (walkOn early t r s n .passed)
+unfolding walkOn
+walk-keeps early t r P keeps s n h = pass-keeps early t (isDue t r) P keeps s n h
 
 pub record PlacesWithin (t : Timing) (s : State) : Type 0 where
   pub tempos : s .tempos ≤ length (t .tempoBeats)
@@ -33,22 +30,24 @@ pub record PlacesWithin (t : Timing) (s : State) : Type 0 where
   pub delays : s .delays ≤ length (t .delayBeats)
   pub warps : s .warps ≤ length (t .warpBeats)
 
-arrives : (t : Timing) (s : State) (at : ℤ) (time : Float) (k : Event) → Placed t s k → PlacesWithin t s → PlacesWithin t (arrived (t .stopValues) (t .delayValues) (t .warpBeats) (t .warpLengths) s at time k)
+arrives : (t : Timing) (s : State) (at : ℤ) (time number : Float) (k : Event) → Placed t s k → PlacesWithin t s → PlacesWithin t (arrived s at time number k)
 unfolding afterWarpEnd afterTempo afterDelay afterStop afterWarp
-arrives t s at time WarpEnd p w = record { tempos = w .tempos; stops = w .stops; delays = w .delays; warps = w .warps }
-arrives t s at time Tempo p w = record { tempos = omega arith; stops = w .stops; delays = w .delays; warps = w .warps }
-arrives t s at time Delay p w = record { tempos = w .tempos; stops = w .stops; delays = omega arith; warps = w .warps }
-arrives t s at time Stop p w = record { tempos = w .tempos; stops = omega arith; delays = w .delays; warps = w .warps }
-arrives t s at time Warp p w = record { tempos = w .tempos; stops = w .stops; delays = w .delays; warps = omega arith }
-arrives t s at time Asked p w = w
-arrives t s at time NotFound p w = w
+arrives t s at time number WarpEnd p w = record { tempos = w .tempos; stops = w .stops; delays = w .delays; warps = w .warps }
+arrives t s at time number Tempo p w = record { tempos = omega arith; stops = w .stops; delays = w .delays; warps = w .warps }
+arrives t s at time number Delay p w = record { tempos = w .tempos; stops = w .stops; delays = omega arith; warps = w .warps }
+arrives t s at time number Stop p w = record { tempos = w .tempos; stops = omega arith; delays = w .delays; warps = w .warps }
+arrives t s at time number Warp p w = record { tempos = w .tempos; stops = w .stops; delays = w .delays; warps = omega arith }
 
-pub places-step : (early : Float) (t : Timing) (r : ℤ) (s : State) → PlacesWithin t s → PlacesWithin t (step early t r s)
+found-within : (early : Float) (t : Timing) (s : State) (a : Ahead) → PlacedFound t s a → PlacesWithin t s → PlacesWithin t (pastFound early t s a)
 unfolding eventPassed
-places-step early t r s w = arrives t s (next t r s .row) _ (next t r s .kind) (placed t r s) w
+found-within early t s (Found n) p w = arrives t s (n .row) _ _ (n .kind) p w
+found-within early t s NotFound p w = w
+
+pub places-onward : (early : Float) (t : Timing) (s : State) → PlacesWithin t s → PlacesWithin t (onward early t s)
+places-onward early t s w = found-within early t s (ahead t s) (placed-ahead t s) w
 
 pub places-stay : (t : Timing) (r : ℤ) (s : State) → PlacesWithin t s → PlacesWithin t (walk t r s .state)
 unfolding walk
 places-stay t r s w =
     let early = earlyTempo (t .tempoBeats) (t .tempoValues) s in
-    walk-keeps early t r (λ (s : State) (n : ℕ). PlacesWithin t s) (λ s n e h. places-step early t r s h) s 0 w
+    walk-keeps early t r (λ (s : State) (n : ℕ). PlacesWithin t s) (λ s n e h. places-onward early t s h) s 0 w

@@ -1,6 +1,9 @@
 pub mod Events
+pub mod SixCandidates
 pub mod Passing
+pub mod Course
 pub mod Walk
 pub mod Quiet
 pub mod Soon
+pub mod Heads
 pub mod inside

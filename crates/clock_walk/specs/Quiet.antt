@@ -9,11 +9,8 @@ use lib.ListN.{length, getD}
 use lib.Ieee.{Float, fin, nan, binary64, le}
 use Rattle.picks.specs.Pick.{pick}
 use Rattle.rows.specs.Rows.{row, beatOf}
+use Rattle.clock_walk.specs.Events.{farthest}
 use Rattle.chart.specs.declared.State.{State}
-
--- where nothing is ahead: the greatest i32
-abbrev pub farthest : ℤ
-farthest = pos 2147483647
 
 unfoldable pub rowAt : List Float → ℕ → ℤ
 rowAt beats place = pick (ltb place (length beats)) (row binary64 (getD beats place nan)) farthest

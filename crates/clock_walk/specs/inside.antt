@@ -1,2 +1,1 @@
 pub mod CanMove
-pub mod Heads

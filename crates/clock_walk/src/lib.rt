@@ -5,35 +5,45 @@ ghost use mathlib.Core.Bool.{true};
 ghost use Prim.Native.Nat.{_<_, _^_};
 ghost use lib.IntN.{_-ℤ_};
 ghost use lib.ListN.{length, getD};
-ghost use lib.Ieee.{nan, binary64, add};
-ghost use Rattle.ieee.specs.Constants.{plusZero, sixty};
+ghost use lib.Ieee.{nan, binary64};
+ghost use Rattle.ieee.specs.Constants.{sixty};
 ghost use Rattle.rows.specs.Rows.{beatOf};
 ghost use Rattle.chart.specs.Timing.{timing};
-ghost use Rattle.clock_walk.specs.Events.{sooner};
-ghost use Rattle.clock_walk.specs.inside.Heads.{headsOf, headsAfter, nextOf};
-ghost use Rattle.clock_walk.specs.Passing.{tempoAt, earlyTempo, inForce, timeTo, larger, afterWarpEnd, afterTempo, afterDelay, afterStop, afterWarp, eventPassed as Passing·passed, firstOr, lastUpTo};
+ghost use Rattle.clock_walk.specs.Events.{goesFirst, goesBefore, dueOf};
+ghost use Rattle.clock_walk.specs.Heads.{headsOf, headsAfter, soonerHead, leastHead, aheadOf};
+ghost use Rattle.clock_walk.specs.Passing.{tempoAt, earlyTempo, inForce, timeTo, timeAt, larger, afterWarpEnd, afterTempo, afterDelay, afterStop, afterWarp, brings, eventPassed, firstOr, lastUpTo};
 ghost use Rattle.clock_walk.specs.inside.CanMove.{CanMove};
 ghost use Rattle.clock_walk.specs.Quiet.{rowAt, endRow, notBefore, isLater, isNextLater, onlyTempos};
-ghost use Rattle.clock_walk.specs.Soon.{tempoPassed, rowAfter, soonOf};
+ghost use Rattle.clock_walk.specs.Soon.{quietAt, tempoPassed, rowAfter, soonOf};
 ghost use Rattle.clock_walk.specs.declared.Event.the-variants.{Tempo};
-ghost use Rattle.clock_walk.specs.Walk.{isEvent, isNothing, timeAt, walk};
+ghost use Rattle.clock_walk.specs.declared.Due.the-variants.{Passes};
+ghost use Rattle.clock_walk.specs.Walk.{walk};
 
-// What can be next, in the order in which events of one row come.
+// What a walk passes, in the order in which events of one row come; the asked beat comes between a delay and a stop.
 pub enum Event {
     WarpEnd,
     Tempo,
     Delay,
-    // The asked beat, which ends the walk.
-    Asked,
     Stop,
     Warp,
-    NotFound,
 }
 
-// The next event, and the row it is on.
+// An event, and the row that it is on.
 pub struct Next {
     pub row: i32,
     pub kind: Event,
+}
+
+// What is ahead of a state where no beat is asked.
+pub enum Ahead {
+    Found(Next),
+    NotFound,
+}
+
+// What a walk to an asked beat meets next: an event that goes before the beat, or the beat.
+pub enum Due {
+    Passes(Next),
+    Asked,
 }
 
 // ---- what is ahead
@@ -59,15 +69,15 @@ pub fn end_row(warping: bool, end: f64) -> i32
 }
 
 // The rows of what is ahead of a state: kept between the events of a walk, of which each moves one or two.
-struct Heads {
-    end: i32,
-    tempo: i32,
-    delay: i32,
-    stop: i32,
-    warp: i32,
+pub struct Heads {
+    pub end: i32,
+    pub tempo: i32,
+    pub delay: i32,
+    pub stop: i32,
+    pub warp: i32,
 }
 
-fn heads_of(
+pub fn heads_of(
     state: State,
     tempo_beats: &[f32],
     stop_beats: &[f32],
@@ -91,18 +101,17 @@ fn heads_of(
 }
 
 // The heads after an event of a kind, which left the state.
-fn heads_after(
+pub fn heads_after(
     heads: Heads,
-    next: Next,
+    kind: Event,
     state: State,
     tempo_beats: &[f32],
     stop_beats: &[f32],
     delay_beats: &[f32],
     warp_beats: &[f32],
 ) -> Heads
-    ensures { λ r. ⌜ r ≡ headsAfter (now («tempo_beats» .entry)) (now («stop_beats» .entry)) (now («delay_beats» .entry)) (now («warp_beats» .entry)) heads state (next .kind) ⌝ }
+    ensures { λ r. ⌜ r ≡ headsAfter (now («tempo_beats» .entry)) (now («stop_beats» .entry)) (now («delay_beats» .entry)) (now («warp_beats» .entry)) heads state kind ⌝ }
 {
-    let kind = next.kind;
     match kind {
         Event::WarpEnd => Heads {
             end: 2147483647,
@@ -152,16 +161,14 @@ fn heads_after(
                 warp,
             }
         }
-        Event::Asked => heads,
-        Event::NotFound => heads,
     }
 }
 
-// ---- the next event
+// ---- the two searches
 
 // Only an earlier row takes the place of what was found so far.
 fn earlier(best: Next, row: i32, kind: Event) -> Next
-    ensures { λ r. ⌜ r ≡ sooner best row kind ⌝ }
+    ensures { λ r. ⌜ r ≡ soonerHead best row kind ⌝ }
 {
     let found = best.row;
     if row < found {
@@ -170,17 +177,70 @@ fn earlier(best: Next, row: i32, kind: Event) -> Next
     best
 }
 
-// True only where a tempo is next, which most events of many charts are: no other head is looked at twice.
-fn is_tempo_next(heads: Heads, asked: i32) -> bool
-    ensures { λ r. ⌜ (r ≡ true → nextOf heads asked ≡ record { row = heads .tempo; kind = Tempo }) ⌝ }
+// The least row, and on one row what comes first. Where there is none the greatest i32, as a warp's, which goes before no beat.
+fn least_head(heads: Heads) -> Next
+    ensures { λ r. ⌜ r ≡ leastHead heads ⌝ }
 {
-    if heads.tempo < asked {
-        if heads.tempo < heads.stop {
-            if heads.tempo < heads.delay {
-                if heads.tempo < heads.warp {
-                    return heads.tempo < heads.end;
-                }
-                return false;
+    let none = Next {
+        row: 2147483647,
+        kind: Event::Warp,
+    };
+    let end = earlier(none, heads.end, Event::WarpEnd);
+    let tempo = earlier(end, heads.tempo, Event::Tempo);
+    let delay = earlier(tempo, heads.delay, Event::Delay);
+    let stop = earlier(delay, heads.stop, Event::Stop);
+    earlier(stop, heads.warp, Event::Warp)
+}
+
+// What is ahead where no beat is asked.
+pub fn find_ahead(heads: Heads) -> Ahead
+    ensures { λ r. ⌜ r ≡ aheadOf heads ⌝ }
+{
+    let next = least_head(heads);
+    if next.row < 2147483647 {
+        return Ahead::Found(next);
+    }
+    Ahead::NotFound
+}
+
+fn goes_first(kind: Event) -> bool
+    ensures { λ r. ⌜ r ≡ goesFirst kind ⌝ }
+{
+    match kind {
+        Event::WarpEnd => true,
+        Event::Tempo => true,
+        Event::Delay => true,
+        Event::Stop => false,
+        Event::Warp => false,
+    }
+}
+
+// Whether an event goes before an asked beat: it is on a lower row, or on the same one and goes first there.
+fn goes_before(next: Next, asked: i32) -> bool
+    ensures { λ r. ⌜ r ≡ goesBefore asked next ⌝ }
+{
+    let row = next.row;
+    if row < asked {
+        return true;
+    }
+    if asked < row {
+        return false;
+    }
+    let kind = next.kind;
+    goes_first(kind)
+}
+
+// True only where a tempo is due, which most events of many charts are: no other head is looked at twice.
+fn is_tempo_due(heads: Heads, asked: i32) -> bool
+    ensures { λ r. ⌜ (r ≡ true → dueOf asked (aheadOf heads) ≡ Passes (record { row = heads .tempo; kind = Tempo })) ⌝ }
+{
+    if asked < heads.tempo {
+        return false;
+    }
+    if heads.tempo < heads.stop {
+        if heads.tempo < heads.delay {
+            if heads.tempo < heads.warp {
+                return heads.tempo < heads.end;
             }
             return false;
         }
@@ -189,26 +249,22 @@ fn is_tempo_next(heads: Heads, asked: i32) -> bool
     false
 }
 
-// What is next: the least row, and on one row what comes first.
-fn find_next_event(heads: Heads, asked: i32) -> Next
-    ensures { λ r. ⌜ r ≡ nextOf heads asked ⌝ }
+// What is due: an event that goes before the asked beat, or the beat.
+fn find_due(heads: Heads, asked: i32) -> Due
+    ensures { λ r. ⌜ r ≡ dueOf asked (aheadOf heads) ⌝ }
 {
-    if is_tempo_next(heads, asked) {
-        return Next {
+    if is_tempo_due(heads, asked) {
+        let tempo = Next {
             row: heads.tempo,
             kind: Event::Tempo,
         };
+        return Due::Passes(tempo);
     }
-    let nothing = Next {
-        row: 2147483647,
-        kind: Event::NotFound,
-    };
-    let end = earlier(nothing, heads.end, Event::WarpEnd);
-    let tempo = earlier(end, heads.tempo, Event::Tempo);
-    let delay = earlier(tempo, heads.delay, Event::Delay);
-    let marker = earlier(delay, asked, Event::Asked);
-    let stop = earlier(marker, heads.stop, Event::Stop);
-    earlier(stop, heads.warp, Event::Warp)
+    let next = least_head(heads);
+    if goes_before(next, asked) {
+        return Due::Passes(next);
+    }
+    Due::Asked
 }
 
 // ---- time
@@ -303,6 +359,13 @@ fn time_to(state: State, early: f64, tempo_values: &[f32], row: i32) -> f64
     beats / (tempo / 60.0)
 }
 
+// The time of a row, worked out beside the state.
+pub fn time_at(state: State, row: i32, early: f64, tempo_values: &[f32]) -> f64
+    ensures { λ r. ⌜ r ≡ timeAt early (now («tempo_values» .entry)) state row ⌝ }
+{
+    state.time + time_to(state, early, tempo_values, row)
+}
+
 // ---- passing an event
 
 fn larger_of(old: f64, new: f64) -> f64
@@ -333,43 +396,32 @@ fn pass_tempo(mut state: State, row: i32, time: f64) -> State
     state
 }
 
-fn pass_delay(mut state: State, row: i32, time: f64, delay_values: &[f32]) -> State
+fn pass_delay(mut state: State, row: i32, time: f64, seconds: f64) -> State
     requires { ⌜ state .delays < 2 ^ 63 ⌝ }
-    ensures { λ r. ⌜ r ≡ afterDelay state row time (now («delay_values» .entry)) ⌝ }
+    ensures { λ r. ⌜ r ≡ afterDelay state row time seconds ⌝ }
 {
-    let later = time + read_at(delay_values, state.delays);
     state.row = row;
-    state.time = later;
+    state.time = time + seconds;
     state.delays = state.delays + 1;
     state
 }
 
-fn pass_stop(mut state: State, row: i32, time: f64, stop_values: &[f32]) -> State
+fn pass_stop(mut state: State, row: i32, time: f64, seconds: f64) -> State
     requires { ⌜ state .stops < 2 ^ 63 ⌝ }
-    ensures { λ r. ⌜ r ≡ afterStop state row time (now («stop_values» .entry)) ⌝ }
+    ensures { λ r. ⌜ r ≡ afterStop state row time seconds ⌝ }
 {
-    let later = time + read_at(stop_values, state.stops);
     state.row = row;
-    state.time = later;
+    state.time = time + seconds;
     state.stops = state.stops + 1;
     state
 }
 
 // The end is the larger of the old one and the warp's own; it is not held at the warp's start.
-fn pass_warp(
-    mut state: State,
-    row: i32,
-    time: f64,
-    warp_beats: &[f32],
-    warp_lengths: &[f32],
-) -> State
+fn pass_warp(mut state: State, row: i32, time: f64, own: f64) -> State
     requires { ⌜ state .warps < 2 ^ 63 ⌝ }
-    ensures { λ r. ⌜ r ≡ afterWarp state row time (now («warp_beats» .entry)) (now («warp_lengths» .entry)) ⌝ }
+    ensures { λ r. ⌜ r ≡ afterWarp state row time own ⌝ }
 {
-    let end = larger_of(
-        state.end,
-        read_at(warp_beats, state.warps) + read_at(warp_lengths, state.warps),
-    );
+    let end = larger_of(state.end, own);
     state.row = row;
     state.time = time;
     state.end = end;
@@ -378,64 +430,40 @@ fn pass_warp(
     state
 }
 
-// Passes one event. Nothing else does.
-fn pass_event(
+// The number that the next event of a kind brings: the seconds of a pause, the own end of a warp.
+pub fn number_of(
     state: State,
-    next: Next,
-    early: f64,
-    tempo_values: &[f32],
+    kind: Event,
     stop_values: &[f32],
     delay_values: &[f32],
     warp_beats: &[f32],
     warp_lengths: &[f32],
-) -> State
+) -> f64
+    ensures { λ r. ⌜ r ≡ brings (now («stop_values» .entry)) (now («delay_values» .entry)) (now («warp_beats» .entry)) (now («warp_lengths» .entry)) state kind ⌝ }
+{
+    match kind {
+        Event::WarpEnd => 0.0,
+        Event::Tempo => 0.0,
+        Event::Delay => read_at(delay_values, state.delays),
+        Event::Stop => read_at(stop_values, state.stops),
+        Event::Warp => read_at(warp_beats, state.warps) + read_at(warp_lengths, state.warps),
+    }
+}
+
+// Passes one event, which comes at a time and brings a number. Nothing else does.
+fn pass_event(state: State, next: Next, time: f64, number: f64) -> State
     requires { ⌜ CanMove state (next .kind) ⌝ }
-    ensures { λ r. ⌜ r ≡ Passing·passed early (now («tempo_values» .entry)) (now («stop_values» .entry)) (now («delay_values» .entry)) (now («warp_beats» .entry)) (now («warp_lengths» .entry)) state next ⌝ }
+    ensures { λ r. ⌜ r ≡ eventPassed state next time number ⌝ }
 {
     let row = next.row;
-    let time = state.time + time_to(state, early, tempo_values, row);
     let kind = next.kind;
     match kind {
         Event::WarpEnd => pass_warp_end(state, row, time),
         Event::Tempo => pass_tempo(state, row, time),
-        Event::Delay => pass_delay(state, row, time, delay_values),
-        Event::Stop => pass_stop(state, row, time, stop_values),
-        Event::Warp => pass_warp(state, row, time, warp_beats, warp_lengths),
-        Event::Asked => state,
-        Event::NotFound => state,
+        Event::Delay => pass_delay(state, row, time, number),
+        Event::Stop => pass_stop(state, row, time, number),
+        Event::Warp => pass_warp(state, row, time, number),
     }
-}
-
-// The state after the tempo that is next, on its row, where one was passed before it; the state as it is where none is left.
-pub fn pass_next_tempo(
-    state: State,
-    row: i32,
-    tempo_beats: &[f32],
-    tempo_values: &[f32],
-    stop_values: &[f32],
-    delay_values: &[f32],
-    warp_beats: &[f32],
-    warp_lengths: &[f32],
-) -> State
-    ensures { λ r. ⌜ r ≡ tempoPassed (now («tempo_beats» .entry)) (now («tempo_values» .entry)) (now («stop_values» .entry)) (now («delay_values» .entry)) (now («warp_beats» .entry)) (now («warp_lengths» .entry)) state row ⌝ }
-{
-    if state.tempos < tempo_beats.len() {
-        let next = Next {
-            row,
-            kind: Event::Tempo,
-        };
-        return pass_event(
-            state,
-            next,
-            0.0,
-            tempo_values,
-            stop_values,
-            delay_values,
-            warp_beats,
-            warp_lengths,
-        );
-    }
-    state
 }
 
 // ---- the walk
@@ -445,46 +473,6 @@ pub struct Walked {
     pub state: State,
     pub passed: usize,
     pub time: f64,
-}
-
-fn is_event(next: Next) -> bool
-    ensures { λ r. ⌜ r ≡ isEvent (next .kind) ⌝ }
-{
-    let kind = next.kind;
-    match kind {
-        Event::WarpEnd => true,
-        Event::Tempo => true,
-        Event::Delay => true,
-        Event::Stop => true,
-        Event::Warp => true,
-        Event::Asked => false,
-        Event::NotFound => false,
-    }
-}
-
-fn is_nothing(next: Next) -> bool
-    ensures { λ r. ⌜ r ≡ isNothing (next .kind) ⌝ }
-{
-    let kind = next.kind;
-    match kind {
-        Event::WarpEnd => false,
-        Event::Tempo => false,
-        Event::Delay => false,
-        Event::Stop => false,
-        Event::Warp => false,
-        Event::Asked => false,
-        Event::NotFound => true,
-    }
-}
-
-// The time of what ends the walk.
-fn time_at(state: State, next: Next, early: f64, tempo_values: &[f32]) -> f64
-    ensures { λ r. ⌜ r ≡ timeAt early (now («tempo_values» .entry)) state next ⌝ }
-{
-    if is_nothing(next) {
-        return state.time;
-    }
-    state.time + time_to(state, early, tempo_values, next.row)
 }
 
 // ---- walks that pass nothing, or one tempo
@@ -569,6 +557,17 @@ pub fn row_after(beats: &[f32], place: usize) -> i32
     2147483647
 }
 
+// The state after the tempo that is next, on its row, where one was passed before it; the state as it is where none is left.
+pub fn pass_next_tempo(state: State, row: i32, tempo_beats: &[f32], tempo_values: &[f32]) -> State
+    ensures { λ r. ⌜ r ≡ tempoPassed (now («tempo_beats» .entry)) (now («tempo_values» .entry)) state row ⌝ }
+{
+    if state.tempos < tempo_beats.len() {
+        let time = time_at(state, row, 0.0, tempo_values);
+        return pass_tempo(state, row, time);
+    }
+    state
+}
+
 // A walk that passes nothing or its first tempo: the state, how many were passed, and whether that is the whole walk; where it is not, nothing is passed.
 pub struct Soon {
     pub state: State,
@@ -576,18 +575,9 @@ pub struct Soon {
     pub whole: bool,
 }
 
-// A walk to an asked row of which `is_only_tempos` said yes, as far as its first tempo; where it would go on, it is not begun.
-pub fn walk_soon(
-    state: State,
-    asked: i32,
-    tempo_beats: &[f32],
-    tempo_values: &[f32],
-    stop_values: &[f32],
-    delay_values: &[f32],
-    warp_beats: &[f32],
-    warp_lengths: &[f32],
-) -> Soon
-    ensures { λ r. ⌜ r ≡ soonOf (now («tempo_beats» .entry)) (now («tempo_values» .entry)) (now («stop_values» .entry)) (now («delay_values» .entry)) (now («warp_beats» .entry)) (now («warp_lengths» .entry)) state asked ⌝ }
+// A walk to an asked row by which nothing but tempos is due, as far as its first tempo, where a tempo was passed before; where it would go on, it is not begun.
+pub fn walk_soon(state: State, asked: i32, tempo_beats: &[f32], tempo_values: &[f32]) -> Soon
+    ensures { λ r. ⌜ r ≡ soonOf (now («tempo_beats» .entry)) (now («tempo_values» .entry)) state asked ⌝ }
 {
     if is_later(tempo_beats, state.tempos, asked) {
         return Soon {
@@ -605,16 +595,7 @@ pub fn walk_soon(
         };
     }
     if is_next_later(tempo_beats, state.tempos, asked) {
-        let moved = pass_next_tempo(
-            state,
-            first,
-            tempo_beats,
-            tempo_values,
-            stop_values,
-            delay_values,
-            warp_beats,
-            warp_lengths,
-        );
+        let moved = pass_next_tempo(state, first, tempo_beats, tempo_values);
         return Soon {
             state: moved,
             passed: 1,
@@ -630,9 +611,9 @@ pub fn walk_soon(
 
 // The time of a row by which no event is due, where a tempo was passed.
 pub fn quiet_time(state: State, asked: i32, tempo_values: &[f32]) -> f64
-    ensures { λ r. ⌜ r ≡ add binary64 (state .time) (timeTo plusZero (now («tempo_values» .entry)) state asked) ⌝ }
+    ensures { λ r. ⌜ r ≡ quietAt (now («tempo_values» .entry)) state asked ⌝ }
 {
-    state.time + time_to(state, 0.0, tempo_values, asked)
+    time_at(state, asked, 0.0, tempo_values)
 }
 
 // ---- the whole walk
@@ -657,29 +638,29 @@ pub fn walk_to(
     let mut heads = heads_of(start, tempo_beats, stop_beats, delay_beats, warp_beats);
     let mut passed: usize = 0;
     loop {
-        let next = find_next_event(heads, asked);
-        let more = is_event(next);
-        if !more {
-            let time = time_at(state, next, early, tempo_values);
+        let found = find_due(heads, asked);
+        let Due::Passes(next) = found else {
+            let time = time_at(state, asked, early, tempo_values);
             return Walked {
                 state,
                 passed,
                 time,
             };
-        }
-        state = pass_event(
+        };
+        let kind = next.kind;
+        let number = number_of(
             state,
-            next,
-            early,
-            tempo_values,
+            kind,
             stop_values,
             delay_values,
             warp_beats,
             warp_lengths,
         );
+        let time = time_at(state, next.row, early, tempo_values);
+        state = pass_event(state, next, time, number);
         heads = heads_after(
             heads,
-            next,
+            kind,
             state,
             tempo_beats,
             stop_beats,

@@ -13,9 +13,10 @@ use Rattle.lookup.specs.Lookups.{lastPasses, isPaused, isWarped}
 use Rattle.stops_for_sm.specs.Merging.{lesser, leastBeat, meets, leading, forward, turn, isOver, sumWritten, mergedWithin, mergedStops}
 use Rattle.limits.specs.Numbers.{inRange, every, rowIn}
 use Rattle.limits.specs.Refusals.{lower, listNumber}
-use Rattle.clock_walk.specs.Events.{sooner, offered, endOffered, nextEvent}
-use Rattle.clock_walk.specs.Passing.{lastUpTo, tempoAt, earlyTempo, inForce, timeTo, larger, afterWarpEnd, afterTempo, afterStop, afterWarp, eventPassed}
-use Rattle.clock_walk.specs.Walk.{timeAt, walkWithin, walkOn, walk}
+use Rattle.clock_walk.specs.Events.{sooner, offered, endOffered, ahead, goesBefore}
+use Rattle.clock_walk.specs.Passing.{lastUpTo, tempoAt, earlyTempo, inForce, timeTo, timeAt, larger, afterWarpEnd, afterTempo, afterStop, afterWarp, eventPassed}
+use Rattle.clock_walk.specs.Course.{passWithin, passWhile}
+use Rattle.clock_walk.specs.Walk.{walkOn, walk}
 use Rattle.clock_tests.specs.TimingNumbers.{rises, risesFrom, startsAtZero, timingListsNumber, offsetNumber, offsetsNumber, orderNumber, timingNumber, beatNumber}
 use Rattle.clock_tests.specs.CursorNumbers.{placesIn, rowsIn, endIn, cursorNumber}
 use Rattle.clock.specs.Question.{filled, temposOf, freshState, freshCursor, beginning, reply, cursorRefusal, playerNumber, questionNumber, question}
@@ -27,7 +28,7 @@ use Rattle.played.specs.Table.{Examples}
 use Rattle.played.proofs.PlayedSm.{sm-backward, sm-backward-from-the-start}
 
 pub played : Examples
-unfolding lesser leastBeat meets leading forward turn isOver sumWritten mergedWithin mergedStops ne decimalFloat neg add sub mul div ofInt rint hold eq lt le toBits narrow lastPasses isPaused isWarped run put tidied entries rowKey floatKey tidyRows fromZero changesAfter changes tidyTempos inRange every rowIn lower listNumber sooner offered endOffered nextEvent lastUpTo tempoAt earlyTempo inForce timeTo larger afterWarpEnd afterTempo afterStop afterWarp eventPassed timeAt walkWithin walkOn walk rises risesFrom startsAtZero timingListsNumber offsetNumber offsetsNumber orderNumber timingNumber beatNumber placesIn rowsIn endIn cursorNumber filled temposOf freshState freshCursor beginning reply cursorRefusal playerNumber questionNumber question ofBits neverFalls mayPrecede nearTo onLastRow keep atFront onRowOf previous cleared settled amid placedBetween placedAfter fallsWhile keptOf keepNumber tidyScrolls scrollsNumber
+unfolding lesser leastBeat meets leading forward turn isOver sumWritten mergedWithin mergedStops ne decimalFloat neg add sub mul div ofInt rint hold eq lt le toBits narrow lastPasses isPaused isWarped run put tidied entries rowKey floatKey tidyRows fromZero changesAfter changes tidyTempos inRange every rowIn lower listNumber sooner offered endOffered ahead goesBefore lastUpTo tempoAt earlyTempo inForce timeTo larger afterWarpEnd afterTempo afterStop afterWarp eventPassed timeAt passWithin passWhile walkOn walk rises risesFrom startsAtZero timingListsNumber offsetNumber offsetsNumber orderNumber timingNumber beatNumber placesIn rowsIn endIn cursorNumber filled temposOf freshState freshCursor beginning reply cursorRefusal playerNumber questionNumber question ofBits neverFalls mayPrecede nearTo onLastRow keep atFront onRowOf previous cleared settled amid placedBetween placedAfter fallsWhile keptOf keepNumber tidyScrolls scrollsNumber
 played =
     record {
       rows-f64 = refl;

@@ -1,5 +1,5 @@
 -- `clock_run::ask_each` asks beat by beat. Assumes nothing.
-use Prim.Native.Nat.{_-_, _<_}
+use Prim.Native.Nat.{_-_}
 use mathlib.Core.Path.{_≡_, sym, ap, _∙_, subst}
 use mathlib.Core.Bool.{Bool, true, false}
 use native.Mathlib.Omega.{arith}
@@ -12,21 +12,22 @@ use Rattle.rows.specs.Rows.{row}
 use Rattle.chart.specs.Timing.{timing}
 use Rattle.clock_walk.proofs.BackFromBits.{back}
 use Rattle.clock_walk.proofs.RowOrder.{no}
-use Rattle.clock_run.specs.inside.Ahead.{isBefore, pastTempo}
-use Rattle.clock_run.specs.declared.Past.{Past}
+use Rattle.clock_walk.specs.declared.Soon.{Soon}
+use Rattle.clock_run.specs.inside.Outlook.{lookOn, isBefore, quietTime, soonBefore}
+use Rattle.clock_run.specs.declared.Outlook.{Outlook}
 use Rattle.clock_run.proofs.BeatByBeat.{Running, begun, turned, quiet-turn, ended}
-use Rattle.clock_run.proofs.QuietRows.{Sees, quietly, quiet-answer, past-few, passing, past-answer}
+use Rattle.clock_run.proofs.QuietRows.{Sees, quiet-answer, few-before, soon-answer}
 use Rattle.clock_run.proofs.PlacesInColumns.{scaled4, scaled8, inside}
 use borrow.Author.Needs.{needs}
 use Rattle.clock_run.proofs.ask_each.Statement.{statement}
 use Rattle.clock_run.proofs.ask_each.Tie as tie
 
 abbrev Inv-loop : tie.InvT-loop
-Inv-loop tempo-beats tempo-values stop-beats stop-values delay-beats delay-values warp-beats warp-lengths offset global beats numbers₀ times₀ counts₀ at₀ ahead₀ i₀ numbers times counts at ahead i =
-    Running (timing tempo-beats tempo-values stop-beats stop-values delay-beats delay-values warp-beats warp-lengths) offset global at₀ beats numbers₀ times₀ counts₀ at numbers times counts i × Sees (timing tempo-beats tempo-values stop-beats stop-values delay-beats delay-values warp-beats warp-lengths) (at .state) ahead
+Inv-loop tempo-beats tempo-values stop-beats stop-values delay-beats delay-values warp-beats warp-lengths offset global beats numbers₀ times₀ counts₀ at₀ outlook₀ i₀ numbers times counts at outlook i =
+    Running (timing tempo-beats tempo-values stop-beats stop-values delay-beats delay-values warp-beats warp-lengths) offset global at₀ beats numbers₀ times₀ counts₀ at numbers times counts i × Sees (timing tempo-beats tempo-values stop-beats stop-values delay-beats delay-values warp-beats warp-lengths) (at .state) outlook
 
 abbrev μ-loop : tie.MeasureT-loop
-μ-loop tempo-beats tempo-values stop-beats stop-values delay-beats delay-values warp-beats warp-lengths offset global beats numbers₀ times₀ counts₀ at₀ ahead₀ i₀ numbers times counts at ahead i = length beats - i
+μ-loop tempo-beats tempo-values stop-beats stop-values delay-beats delay-values warp-beats warp-lengths offset global beats numbers₀ times₀ counts₀ at₀ outlook₀ i₀ numbers times counts at outlook i = length beats - i
 
 -- what a test of rows that stand in structs found
 test-of : (known : Bool) (until last : ℤ) (beat : Float) (r : ℤ) (found : Bool) → SFits w32 until → SFits w32 last
@@ -102,13 +103,16 @@ loop-again c =
     let asked = c .before .before .before .before .before .before .beat-to-note-row in
     let r = toZ w32 (ofZ w32 (asked .result)) in
     let isRow : r ≡ row binary64 beat = back (asked .result) (record { sfits = asked .ok }) ∙ asked .ensures in
-    let quiet : isBefore (l .ahead .known) (l .ahead .row) (l .at .asked) beat r ≡ true =
-    test-of (l .ahead .known) (l .ahead .row) (l .at .asked) beat r true (record { sfits = c .before .before .before .before .before .struct-told .given .1 .0 .1 }) (record { sfits = c .before .before .before .before .struct-told2 .given .1 .0 .1 }) (sym (c .before .before .before .is-before .ensures) ∙ c .before .before .if1 .taken) in
-    let is = quiet-answer (timing (a .tempo-beats .now) (a .tempo-values .now) (a .stop-beats .now) (a .stop-values .now) (a .delay-beats .now) (a .delay-values .now) (a .warp-beats .now) (a .warp-lengths .now)) (a .offset) (a .global) (l .at) beat (l .ahead) (l .inv .1) (rw isRow at quiet) in
-    (quiet-turn (timing (a .tempo-beats .now) (a .tempo-values .now) (a .stop-beats .now) (a .stop-values .now) (a .delay-beats .now) (a .delay-values .now) (a .warp-beats .now) (a .warp-lengths .now)) (a .offset) (a .global) (a .cursor) (a .beats .now) (a .numbers .now) (a .times .now) (a .counts .now) (l .at) (l .numbers) (l .times) (l .counts) (l .i) (l .inv .0) 0 (l .at .state) (l .ahead .rate) is r isRow _ (ap (λ (x : Float). sub binary64 x (a .global)) (c .quiet-time .ensures)) (c .before .before .before .before .before .before .before .before .loop-test .taken) (s .pre .0) (s .pre .1) (s .pre .2), l .inv .1)
+    let quiet : isBefore (l .outlook .known) (l .outlook .row) (l .at .asked) beat r ≡ true =
+    test-of (l .outlook .known) (l .outlook .row) (l .at .asked) beat r true (record { sfits = c .before .before .before .before .before .struct-told .given .1 .0 .1 }) (record { sfits = c .before .before .before .before .struct-told2 .given .1 .0 .1 }) (sym (c .before .before .before .is-before .ensures) ∙ c .before .before .if1 .taken) in
+    let is = quiet-answer (timing (a .tempo-beats .now) (a .tempo-values .now) (a .stop-beats .now) (a .stop-values .now) (a .delay-beats .now) (a .delay-values .now) (a .warp-beats .now) (a .warp-lengths .now)) (a .offset) (a .global) (l .at) beat (l .outlook) (l .inv .1) (rw isRow at quiet) in
+    (quiet-turn (timing (a .tempo-beats .now) (a .tempo-values .now) (a .stop-beats .now) (a .stop-values .now) (a .delay-beats .now) (a .delay-values .now) (a .warp-beats .now) (a .warp-lengths .now)) (a .offset) (a .global) (a .cursor) (a .beats .now) (a .numbers .now) (a .times .now) (a .counts .now) (l .at) (l .numbers) (l .times) (l .counts) (l .i) (l .inv .0) (record { state = l .at .state; passed = 0; time = quietTime (l .at .state) (l .outlook .rate) (row binary64 beat) }) is r isRow _ (ap (λ (x : Float). sub binary64 x (a .global)) (c .quiet-time .ensures ∙ ap (λ (z : ℤ). quietTime (l .at .state) (l .outlook .rate) z) isRow)) (c .before .before .before .before .before .before .before .before .loop-test .taken) (s .pre .0) (s .pre .1) (s .pre .2), l .inv .1)
 
-past-tempo-requires : tie.Need-past-tempo-requires Inv-loop μ-loop
-past-tempo-requires c κs = search needs
+soon-requires : tie.Need-soon-requires Inv-loop μ-loop
+soon-requires c κs = search needs
+
+look-on-requires : tie.Need-look-on-requires Inv-loop μ-loop
+look-on-requires c κs = search needs
 
 quiet-time-requires-2 : tie.Need-quiet-time-requires-2 Inv-loop μ-loop
 quiet-time-requires-2 c κs = search needs
@@ -137,8 +141,8 @@ add-counts : tie.Need-add-counts Inv-loop μ-loop
 add-counts c =
     let a = c .before .before .before .before .before .before .before .before .before .before .before .before .before .before .before .before .before .before .before .before .before .before .before .before .before .before .before .args in
     let l = c .before .before .before .before .before .before .before .before .before .before .before .before .before .before .loop in
-    let past = c .before .before .before .before .before .before .past-tempo in
-    omega (arith, ap (λ (x : Past). x .passed) (past .ensures), past-few (a .tempo-beats .now) (a .tempo-values .now) (a .stop-values .now) (a .delay-values .now) (a .warp-beats .now) (a .warp-lengths .now) (l .ahead) (l .at) (getD (a .beats .now) (l .i) nan) (toZ w32 (ofZ w32 (c .before .before .before .before .before .before .before .before .before .before .before .beat-to-note-row .result))))
+    let near = c .before .before .before .before .before .before .soon in
+    omega (arith, ap (λ (w : Soon). w .passed) (near .ensures), few-before (a .tempo-beats .now) (a .tempo-values .now) (l .outlook) (l .at) (getD (a .beats .now) (l .i) nan) (toZ w32 (ofZ w32 (c .before .before .before .before .before .before .before .before .before .before .before .beat-to-note-row .result))))
 
 mul-counts-2 : tie.Need-mul-counts-2 Inv-loop μ-loop
 mul-counts-2 c =
@@ -168,65 +172,67 @@ loop-again-2 c =
     let r = toZ w32 (ofZ w32 (asked .result)) in
     let isRow : r ≡ row binary64 beat = back (asked .result) (record { sfits = asked .ok }) ∙ asked .ensures in
     let t = timing (a .tempo-beats .now) (a .tempo-values .now) (a .stop-beats .now) (a .stop-values .now) (a .delay-beats .now) (a .delay-values .now) (a .warp-beats .now) (a .warp-lengths .now) in
-    let p = c .before .before .before .before .before .before .past-tempo .result in
-    let behind : isBefore (l .ahead .known) (l .ahead .row) (l .at .asked) beat r ≡ false =
-    test-of (l .ahead .known) (l .ahead .row) (l .at .asked) beat r false (record { sfits = c .before .before .before .before .before .before .before .before .before .before .struct-told .given .1 .0 .1 }) (record { sfits = c .before .before .before .before .before .before .before .before .before .struct-told2 .given .1 .0 .1 }) (sym (c .before .before .before .before .before .before .before .before .is-before .ensures) ∙ c .before .before .before .before .before .before .before .if1 .left) in
-    let behind-row : isBefore (l .ahead .known) (l .ahead .row) (l .at .asked) beat (row binary64 beat) ≡ false = rw isRow at behind in
-    let isPast : p ≡ passing t (a .offset) (a .global) (l .at) beat (l .ahead) (l .inv .1) behind-row = c .before .before .before .before .before .before .past-tempo .ensures ∙ ap (λ (z : ℤ). pastTempo (a .tempo-beats .now) (a .tempo-values .now) (a .stop-values .now) (a .delay-values .now) (a .warp-beats .now) (a .warp-lengths .now) (l .ahead) (l .at) beat z) isRow in
-    let found = past-answer t (a .offset) (a .global) (l .at) beat (l .ahead) (l .inv .1) behind-row (subst (λ (x : Past). 0 < x .passed) isPast (c .before .before .before .before .if2 .taken)) in
-    let is = ap (λ (x : Past). quietly t (a .offset) (a .global) (l .at) beat (x .passed) (x .state) (x .ahead .rate)) isPast ∙ found .0 in
-    (quiet-turn t (a .offset) (a .global) (a .cursor) (a .beats .now) (a .numbers .now) (a .times .now) (a .counts .now) (l .at) (l .numbers) (l .times) (l .counts) (l .i) (l .inv .0) (p .passed) (p .state) (p .ahead .rate) is r isRow _ (ap (λ (x : Float). sub binary64 x (a .global)) (c .before .quiet-time2 .ensures)) (c .before .before .before .before .before .before .before .before .before .before .before .before .before .loop-test .taken) (s .pre .0) (s .pre .1) (s .pre .2), subst (λ (x : Past). Sees t (x .state) (x .ahead)) (sym isPast) (found .1))
+    let near = c .before .before .before .before .before .before .soon in
+    let st = near .result .state in
+    let behind : isBefore (l .outlook .known) (l .outlook .row) (l .at .asked) beat r ≡ false =
+    test-of (l .outlook .known) (l .outlook .row) (l .at .asked) beat r false (record { sfits = c .before .before .before .before .before .before .before .before .before .before .struct-told .given .1 .0 .1 }) (record { sfits = c .before .before .before .before .before .before .before .before .before .struct-told2 .given .1 .0 .1 }) (sym (c .before .before .before .before .before .before .before .before .is-before .ensures) ∙ c .before .before .before .before .before .before .before .if1 .left) in
+    let isSoon = near .ensures ∙ ap (λ (z : ℤ). soonBefore (a .tempo-beats .now) (a .tempo-values .now) (l .outlook) (l .at) beat z) isRow in
+    let found = soon-answer t (a .offset) (a .global) (l .at) beat (l .outlook) (l .inv .1) (rw isRow at behind) (near .result) isSoon (c .before .before .before .before .before .if2 .taken) in
+    let on = lookOn (a .tempo-beats .now) (a .tempo-values .now) st (l .outlook .rest) in
+    let isOn : c .before .before .look-on .result ≡ on = rw (back (l .outlook .rest) (record { sfits = c .before .before .before .struct-told3 .given .1 .1 .0 .1 })) at (c .before .before .look-on .ensures) in
+    let isTime = c .before .quiet-time2 .ensures ∙ ap (λ (o : Outlook). quietTime st (o .rate) r) isOn ∙ ap (λ (z : ℤ). quietTime st (on .rate) z) isRow in
+    (quiet-turn t (a .offset) (a .global) (a .cursor) (a .beats .now) (a .numbers .now) (a .times .now) (a .counts .now) (l .at) (l .numbers) (l .times) (l .counts) (l .i) (l .inv .0) (record { state = st; passed = near .result .passed; time = quietTime st (on .rate) (row binary64 beat) }) (found .0) r isRow _ (ap (λ (x : Float). sub binary64 x (a .global)) isTime) (c .before .before .before .before .before .before .before .before .before .before .before .before .before .loop-test .taken) (s .pre .0) (s .pre .1) (s .pre .2), subst (Sees t st) (sym isOn) (found .1))
 
 ask-requires : tie.Need-ask-requires Inv-loop μ-loop
 ask-requires c κs = search needs
 
 mul-numbers-3 : tie.Need-mul-numbers-3 Inv-loop μ-loop
 mul-numbers-3 c =
-    let s = c .before .before .before .before .before .before .before .before .before .before .before .before .before .before .before .before .before .before .before .before .before .before .before .before in
-    scaled4 (c .before .before .before .before .before .before .before .before .before .before .before .loop .i) (length (s .args .numbers .now)) (inside (c .before .before .before .before .before .before .before .before .before .before .before .loop .i) (length (s .args .beats .now)) (length (s .args .numbers .now)) (c .before .before .before .before .before .before .before .before .before .before .loop-test .taken) (s .pre .0)) (s .good .1 .1 .1 .1 .1 .1 .1 .1 .1 .1 .1 .1 .0 .1)
+    let s = c .before .before .before .before .before .before .before .before .before .before .before .before .before .before .before .before .before .before .before .before .before .before .before in
+    scaled4 (c .before .before .before .before .before .before .before .before .before .before .loop .i) (length (s .args .numbers .now)) (inside (c .before .before .before .before .before .before .before .before .before .before .loop .i) (length (s .args .beats .now)) (length (s .args .numbers .now)) (c .before .before .before .before .before .before .before .before .before .loop-test .taken) (s .pre .0)) (s .good .1 .1 .1 .1 .1 .1 .1 .1 .1 .1 .1 .1 .0 .1)
 
 slice-write-numbers-3 : tie.Need-slice-write-numbers-3 Inv-loop μ-loop
 slice-write-numbers-3 c =
-    let s = c .before .before .before .before .before .before .before .before .before .before .before .before .before .before .before .before .before .before .before .before .before .before .before .before in
-    rw (c .before .before .before .before .before .before .before .before .before .before .before .loop .inv .0 .ofNumbers .size) (inside (c .before .before .before .before .before .before .before .before .before .before .before .loop .i) (length (s .args .beats .now)) (length (s .args .numbers .now)) (c .before .before .before .before .before .before .before .before .before .before .loop-test .taken) (s .pre .0))
+    let s = c .before .before .before .before .before .before .before .before .before .before .before .before .before .before .before .before .before .before .before .before .before .before .before in
+    rw (c .before .before .before .before .before .before .before .before .before .before .loop .inv .0 .ofNumbers .size) (inside (c .before .before .before .before .before .before .before .before .before .before .loop .i) (length (s .args .beats .now)) (length (s .args .numbers .now)) (c .before .before .before .before .before .before .before .before .before .loop-test .taken) (s .pre .0))
 
 mul-times-3 : tie.Need-mul-times-3 Inv-loop μ-loop
 mul-times-3 c =
-    let s = c .before .before .before .before .before .before .before .before .before .before .before .before .before .before .before .before .before .before .before .before .before .before .before .before in
-    scaled8 (c .before .before .before .before .before .before .before .before .before .before .before .loop .i) (length (s .args .times .now)) (inside (c .before .before .before .before .before .before .before .before .before .before .before .loop .i) (length (s .args .beats .now)) (length (s .args .times .now)) (c .before .before .before .before .before .before .before .before .before .before .loop-test .taken) (s .pre .1)) (s .good .1 .1 .1 .1 .1 .1 .1 .1 .1 .1 .1 .1 .1 .0 .1)
+    let s = c .before .before .before .before .before .before .before .before .before .before .before .before .before .before .before .before .before .before .before .before .before .before .before in
+    scaled8 (c .before .before .before .before .before .before .before .before .before .before .loop .i) (length (s .args .times .now)) (inside (c .before .before .before .before .before .before .before .before .before .before .loop .i) (length (s .args .beats .now)) (length (s .args .times .now)) (c .before .before .before .before .before .before .before .before .before .loop-test .taken) (s .pre .1)) (s .good .1 .1 .1 .1 .1 .1 .1 .1 .1 .1 .1 .1 .1 .0 .1)
 
 slice-write-times-3 : tie.Need-slice-write-times-3 Inv-loop μ-loop
 slice-write-times-3 c =
-    let s = c .before .before .before .before .before .before .before .before .before .before .before .before .before .before .before .before .before .before .before .before .before .before .before .before in
-    rw (c .before .before .before .before .before .before .before .before .before .before .before .loop .inv .0 .ofTimes .size) (inside (c .before .before .before .before .before .before .before .before .before .before .before .loop .i) (length (s .args .beats .now)) (length (s .args .times .now)) (c .before .before .before .before .before .before .before .before .before .before .loop-test .taken) (s .pre .1))
+    let s = c .before .before .before .before .before .before .before .before .before .before .before .before .before .before .before .before .before .before .before .before .before .before .before in
+    rw (c .before .before .before .before .before .before .before .before .before .before .loop .inv .0 .ofTimes .size) (inside (c .before .before .before .before .before .before .before .before .before .before .loop .i) (length (s .args .beats .now)) (length (s .args .times .now)) (c .before .before .before .before .before .before .before .before .before .loop-test .taken) (s .pre .1))
 
 mul-counts-3 : tie.Need-mul-counts-3 Inv-loop μ-loop
 mul-counts-3 c =
-    let s = c .before .before .before .before .before .before .before .before .before .before .before .before .before .before .before .before .before .before .before .before .before .before .before .before in
-    scaled8 (c .before .before .before .before .before .before .before .before .before .before .before .loop .i) (length (s .args .counts .now)) (inside (c .before .before .before .before .before .before .before .before .before .before .before .loop .i) (length (s .args .beats .now)) (length (s .args .counts .now)) (c .before .before .before .before .before .before .before .before .before .before .loop-test .taken) (s .pre .2)) (s .good .1 .1 .1 .1 .1 .1 .1 .1 .1 .1 .1 .1 .1 .1 .0 .1)
+    let s = c .before .before .before .before .before .before .before .before .before .before .before .before .before .before .before .before .before .before .before .before .before .before .before in
+    scaled8 (c .before .before .before .before .before .before .before .before .before .before .loop .i) (length (s .args .counts .now)) (inside (c .before .before .before .before .before .before .before .before .before .before .loop .i) (length (s .args .beats .now)) (length (s .args .counts .now)) (c .before .before .before .before .before .before .before .before .before .loop-test .taken) (s .pre .2)) (s .good .1 .1 .1 .1 .1 .1 .1 .1 .1 .1 .1 .1 .1 .1 .0 .1)
 
 slice-write-counts-3 : tie.Need-slice-write-counts-3 Inv-loop μ-loop
 slice-write-counts-3 c =
-    let s = c .before .before .before .before .before .before .before .before .before .before .before .before .before .before .before .before .before .before .before .before .before .before .before .before in
-    rw (c .before .before .before .before .before .before .before .before .before .before .before .loop .inv .0 .ofCounts .size) (inside (c .before .before .before .before .before .before .before .before .before .before .before .loop .i) (length (s .args .beats .now)) (length (s .args .counts .now)) (c .before .before .before .before .before .before .before .before .before .before .loop-test .taken) (s .pre .2))
+    let s = c .before .before .before .before .before .before .before .before .before .before .before .before .before .before .before .before .before .before .before .before .before .before .before in
+    rw (c .before .before .before .before .before .before .before .before .before .before .loop .inv .0 .ofCounts .size) (inside (c .before .before .before .before .before .before .before .before .before .before .loop .i) (length (s .args .beats .now)) (length (s .args .counts .now)) (c .before .before .before .before .before .before .before .before .before .loop-test .taken) (s .pre .2))
 
 look-ahead-requires : tie.Need-look-ahead-requires Inv-loop μ-loop
 look-ahead-requires c κs = search needs
 
 add-i-3 : tie.Need-add-i-3 Inv-loop μ-loop
 add-i-3 c =
-    let s = c .before .before .before .before .before .before .before .before .before .before .before .before .before .before .before .before .before .before .before .before .before .before .before .before .before .before .before in
-    omega (arith, c .before .before .before .before .before .before .before .before .before .before .before .before .before .loop-test .taken, s .good .1 .1 .1 .1 .1 .1 .1 .1 .1 .1 .1 .0 .0)
+    let s = c .before .before .before .before .before .before .before .before .before .before .before .before .before .before .before .before .before .before .before .before .before .before .before .before .before .before in
+    omega (arith, c .before .before .before .before .before .before .before .before .before .before .before .before .loop-test .taken, s .good .1 .1 .1 .1 .1 .1 .1 .1 .1 .1 .1 .0 .0)
 
 loop-less-3 : tie.Need-loop-less-3 Inv-loop μ-loop
-loop-less-3 c = omega (arith, c .before .before .before .before .before .before .before .before .before .before .before .before .before .loop-test .taken)
+loop-less-3 c = omega (arith, c .before .before .before .before .before .before .before .before .before .before .before .before .loop-test .taken)
 
 loop-again-3 : tie.Need-loop-again-3 Inv-loop μ-loop
 loop-again-3 c =
-    let s = c .before .before .before .before .before .before .before .before .before .before .before .before .before .before .before .before .before .before .before .before .before .before .before .before .before .before .before in
+    let s = c .before .before .before .before .before .before .before .before .before .before .before .before .before .before .before .before .before .before .before .before .before .before .before .before .before .before in
     let a = s .args in
-    let l = c .before .before .before .before .before .before .before .before .before .before .before .before .before .before .loop in
-    (turned (timing (a .tempo-beats .now) (a .tempo-values .now) (a .stop-beats .now) (a .stop-values .now) (a .delay-beats .now) (a .delay-values .now) (a .warp-beats .now) (a .warp-lengths .now)) (a .offset) (a .global) (a .cursor) (a .beats .now) (a .numbers .now) (a .times .now) (a .counts .now) (l .at) (l .numbers) (l .times) (l .counts) (l .i) (l .inv .0) (c .before .before .before .ask .result) (c .before .before .before .ask .ensures) (c .before .before .before .before .before .before .before .before .before .before .before .before .before .loop-test .taken) (s .pre .0) (s .pre .1) (s .pre .2), λ e. c .look-ahead .ensures)
+    let l = c .before .before .before .before .before .before .before .before .before .before .before .before .before .loop in
+    (turned (timing (a .tempo-beats .now) (a .tempo-values .now) (a .stop-beats .now) (a .stop-values .now) (a .delay-beats .now) (a .delay-values .now) (a .warp-beats .now) (a .warp-lengths .now)) (a .offset) (a .global) (a .cursor) (a .beats .now) (a .numbers .now) (a .times .now) (a .counts .now) (l .at) (l .numbers) (l .times) (l .counts) (l .i) (l .inv .0) (c .before .before .before .ask .result) (c .before .before .before .ask .ensures) (c .before .before .before .before .before .before .before .before .before .before .before .before .loop-test .taken) (s .pre .0) (s .pre .1) (s .pre .2), λ e. c .look-ahead .ensures)
 
 same-length : tie.Need-same-length Inv-loop μ-loop
 same-length c = c .before .loop .inv .0 .ofNumbers .size
@@ -264,7 +270,8 @@ ask-each-spec =
     add-i
     loop-less
     loop-again
-    past-tempo-requires
+    soon-requires
+    look-on-requires
     quiet-time-requires-2
     mul-numbers-2
     slice-write-numbers-2

@@ -2,7 +2,7 @@
 use mathlib.Core.Bool.{true, false}
 use borrow.Author.Tests.{eq-eqb, ne-eqb}
 use Rattle.clock_walk.proofs.BackFromBits.{back, tested}
-use Rattle.clock_run.specs.inside.Ahead.{isBefore}
+use Rattle.clock_run.specs.inside.Outlook.{isBefore}
 use borrow.Author.Needs.{needs}
 use Rattle.clock_run.proofs.is_before.Statement.{statement}
 use Rattle.clock_run.proofs.is_before.Tie as tie

@@ -1,7 +1,7 @@
 -- `clock_run::least_of` is `lesserRow`. Assumes nothing.
 use mathlib.Core.Bool.{true, false}
 use Rattle.clock_walk.proofs.BackFromBits.{back, tested}
-use Rattle.clock_run.specs.inside.Ahead.{lesserRow}
+use Rattle.clock_run.specs.inside.Outlook.{lesserRow}
 use borrow.Author.Needs.{needs}
 use Rattle.clock_run.proofs.least_of.Statement.{statement}
 use Rattle.clock_run.proofs.least_of.Tie as tie

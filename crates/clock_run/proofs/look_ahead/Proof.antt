@@ -2,7 +2,7 @@
 use lib.Ieee.{ofBits}
 use borrow.Author.Tests.{eq-eqb, ne-eqb}
 use Rattle.clock_walk.proofs.BackFromBits.{back}
-use Rattle.clock_run.specs.inside.Ahead.{lookAhead}
+use Rattle.clock_run.specs.inside.Outlook.{lookAhead}
 use borrow.Author.Needs.{needs}
 use Rattle.clock_run.proofs.look_ahead.Statement.{statement}
 use Rattle.clock_run.proofs.look_ahead.Tie as tie

@@ -1,13 +1,14 @@
 -- `clock_walk::earlier` meets its contract. Assumes nothing.
 use mathlib.Core.Bool.{true, false}
 use Rattle.clock_walk.specs.Events.{sooner}
+use Rattle.clock_walk.specs.Heads.{soonerHead}
 use Rattle.clock_walk.proofs.BackFromBits.{back, tested}
 use borrow.Author.Needs.{needs}
 use Rattle.clock_walk.proofs.earlier.Statement.{statement}
 use Rattle.clock_walk.proofs.earlier.Tie as tie
 
 returns : tie.Need-returns
-unfolding sooner
+unfolding soonerHead sooner
 returns c =
     let a = c .before .before .args in
     rw (
@@ -16,7 +17,7 @@ returns c =
     )
 
 returns-2 : tie.Need-returns-2
-unfolding sooner
+unfolding soonerHead sooner
 returns-2 c =
     let a = c .before .before .args in
     rw (tested (a .row) (a .best .row) (c .before .before .fits .row) (record { sfits = c .before .struct-told .given .0 .1 }) false (c .if1 .left))

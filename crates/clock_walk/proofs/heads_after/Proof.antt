@@ -34,12 +34,6 @@ beat-to-note-row-requires c κs = search needs
 row-at-requires-4 : tie.Need-row-at-requires-4
 row-at-requires-4 c κs = search needs
 
-enum-told-6 : tie.Need-enum-told-6
-enum-told-6 c = search needs
-
-enum-told-7 : tie.Need-enum-told-7
-enum-told-7 c = search needs
-
 returns : tie.Need-returns
 returns c =
     let h = c .before .before .before .before .before .before .before .args .heads in
@@ -104,12 +98,6 @@ returns-5 c =
       back (h .stop) (record { sfits = c .struct-told5 .given .1 .1 .1 .0 .1 }),
     )
 
-returns-6 : tie.Need-returns-6
-returns-6 c = rw (c .enum-told6 .given .1)
-
-returns-7 : tie.Need-returns-7
-returns-7 c = rw (c .enum-told7 .given .1)
-
 pub heads-after-spec : {M : Type 1} → statement M
 heads-after-spec =
     tie.close
@@ -124,12 +112,8 @@ heads-after-spec =
     enum-told-5
     beat-to-note-row-requires
     row-at-requires-4
-    enum-told-6
-    enum-told-7
     returns
     returns-2
     returns-3
     returns-4
-    returns-5
-    returns-6
-    returns-7)
+    returns-5)

@@ -1,5 +1,5 @@
 -- `clock_walk::heads_of` is `headsOf`. Assumes nothing.
-use Rattle.clock_walk.specs.inside.Heads.{headsOf}
+use Rattle.clock_walk.specs.Heads.{headsOf}
 use Rattle.clock_walk.proofs.BackFromBits.{back}
 use borrow.Author.Needs.{needs}
 use Rattle.clock_walk.proofs.heads_of.Statement.{statement}

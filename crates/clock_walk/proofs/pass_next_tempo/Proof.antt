@@ -7,18 +7,21 @@ use borrow.Author.Needs.{needs}
 use Rattle.clock_walk.proofs.pass_next_tempo.Statement.{statement}
 use Rattle.clock_walk.proofs.pass_next_tempo.Tie as tie
 
-pass-event-requires : tie.Need-pass-event-requires
-pass-event-requires c κs = search needs
+time-at-requires : tie.Need-time-at-requires
+time-at-requires c κs = search needs
+
+pass-tempo-requires : tie.Need-pass-tempo-requires
+pass-tempo-requires c κs = search needs
 
 returns : tie.Need-returns
 unfolding tempoPassed ofBits
 returns c =
-    let s = c .before .before .before .before .before .before .before .before .before in
-    rw (lt-ltb _ _ (c .before .if1 .taken), c .pass-event .ensures, back (s .args .row) (s .fits .row))
+    let s = c .before .before .before .before .before .before in
+    rw (lt-ltb _ _ (c .before .before .if1 .taken), c .pass-tempo .ensures, c .before .time-at .ensures, back (s .args .row) (s .fits .row))
 
 returns-2 : tie.Need-returns-2
 unfolding tempoPassed
 returns-2 c = rw (le-ltb _ _ (c .if1 .left))
 
 pub pass-next-tempo-spec : {M : Type 1} → statement M
-pass-next-tempo-spec = tie.close (tie.spec pass-event-requires returns returns-2)
+pass-next-tempo-spec = tie.close (tie.spec time-at-requires pass-tempo-requires returns returns-2)

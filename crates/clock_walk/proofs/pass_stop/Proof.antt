@@ -5,17 +5,12 @@ use borrow.Author.Needs.{needs}
 use Rattle.clock_walk.proofs.pass_stop.Statement.{statement}
 use Rattle.clock_walk.proofs.pass_stop.Tie as tie
 
-read-at-requires : tie.Need-read-at-requires
-read-at-requires c κs = search needs
-
 add-state : tie.Need-add-state
 add-state c = search needs
 
 returns : tie.Need-returns
 unfolding afterStop
-returns c =
-    let s = c .before .before .before in
-    rw (c .before .read-at .ensures, back (s .args .row) (s .fits .row))
+returns c = rw (back (c .before .args .row) (c .before .fits .row))
 
 pub pass-stop-spec : {M : Type 1} → statement M
-pass-stop-spec = tie.close (tie.spec read-at-requires add-state returns)
+pass-stop-spec = tie.close (tie.spec add-state returns)

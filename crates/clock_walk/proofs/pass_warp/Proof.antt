@@ -5,12 +5,6 @@ use borrow.Author.Needs.{needs}
 use Rattle.clock_walk.proofs.pass_warp.Statement.{statement}
 use Rattle.clock_walk.proofs.pass_warp.Tie as tie
 
-read-at-requires : tie.Need-read-at-requires
-read-at-requires c κs = search needs
-
-read-at-requires-2 : tie.Need-read-at-requires-2
-read-at-requires-2 c κs = search needs
-
 larger-of-requires : tie.Need-larger-of-requires
 larger-of-requires c κs = search needs
 
@@ -19,10 +13,7 @@ add-state c = search needs
 
 returns : tie.Need-returns
 unfolding afterWarp
-returns c =
-    let s = c .before .before .before .before .before .before in
-    rw (c .before .larger-of .ensures, c .before .before .read-at2 .ensures, c .before .before .before .read-at .ensures, back (s .args .row) (s .fits .row))
+returns c = let s = c .before .before in rw (c .before .larger-of .ensures, back (s .args .row) (s .fits .row))
 
 pub pass-warp-spec : {M : Type 1} → statement M
-pass-warp-spec =
-    tie.close (tie.spec read-at-requires read-at-requires-2 larger-of-requires add-state returns)
+pass-warp-spec = tie.close (tie.spec larger-of-requires add-state returns)

@@ -12,7 +12,7 @@ is-later-requires c κs = search needs
 returns : tie.Need-returns
 unfolding soonOf
 returns c =
-    let s = c .before .before .before .before .before .before .before .before in
+    let s = c .before .before .before .before in
     rw (← (rw (back (s .args .asked) (s .fits .asked)) at (c .before .is-later .ensures)), c .if1 .taken)
 
 row-at-requires : tie.Need-row-at-requires
@@ -21,7 +21,7 @@ row-at-requires c κs = search needs
 returns-2 : tie.Need-returns-2
 unfolding soonOf
 returns-2 c =
-    let s = c .before .before .before .before .before .before .before .before .before .before in
+    let s = c .before .before .before .before .before .before in
     let first = c .before .row-at in
     rw (
       ← (rw (back (s .args .asked) (s .fits .asked)) at (c .before .before .before .is-later .ensures)),
@@ -38,7 +38,7 @@ pass-next-tempo-requires c κs = search needs
 returns-3 : tie.Need-returns-3
 unfolding soonOf
 returns-3 c =
-    let s = c .before .before .before .before .before .before .before .before .before .before .before .before .before in
+    let s = c .before .before .before .before .before .before .before .before .before in
     let first = c .before .before .before .before .row-at in
     let is = back (s .args .asked) (s .fits .asked) in
     rw (
@@ -55,7 +55,7 @@ returns-3 c =
 returns-4 : tie.Need-returns-4
 unfolding soonOf
 returns-4 c =
-    let s = c .before .before .before .before .before .before .before .before .before .before .before .before in
+    let s = c .before .before .before .before .before .before .before .before in
     let first = c .before .before .before .row-at in
     let is = back (s .args .asked) (s .fits .asked) in
     rw (

@@ -2,28 +2,31 @@
 use Prim.Native.Nat.{_+_, _<_}
 use mathlib.Core.Path.{_≡_, refl, sym, ap, _∙_}
 use mathlib.Core.Bool.{true, false}
-use borrow.Author.Tests.{not-true, not-false}
 use lib.IntN.{ℤ}
+use lib.Ieee.{Float}
 use mir.Syntax.{w32}
 use mir.Val.{toZ, ofZ}
 use native.Mathlib.Omega.{arith}
 use Rattle.chart.specs.Timing.{Timing, timing}
-use Rattle.clock_walk.specs.Events.{next}
-use Rattle.clock_walk.specs.Walk.{isEvent, eventsLeft, walkOn, walk}
-use Rattle.clock_walk.specs.inside.Heads.{headsOf, nextOf}
-use Rattle.clock_walk.specs.declared.Next.{Next}
+use Rattle.clock_walk.specs.Events.{ahead, dueOf, due}
+use Rattle.clock_walk.specs.Passing.{passing}
+use Rattle.clock_walk.specs.Course.{eventsLeft}
+use Rattle.clock_walk.specs.Walk.{isPasses, isDue, ended, walkOn, walk}
+use Rattle.clock_walk.specs.Heads.{headsOf, aheadOf}
 use Rattle.clock_walk.specs.declared.Heads.{Heads}
-use lib.Ieee.{Float}
 use Rattle.clock_walk.proofs.BackFromBits.{back}
-use Rattle.clock_walk.proofs.EventByEvent.{Going, turn, moves, count-fits, walk-end}
-use Rattle.clock_walk.proofs.HeadsAhead.{next-by-heads, passed-heads}
+use Rattle.clock_walk.proofs.EventByEvent.{moves, count-fits}
+use Rattle.clock_walk.proofs.AllWalks.{Going, turn, pass-end}
+use Rattle.clock_walk.proofs.ClockTest.{says-due, due-found, due-passed}
+use Rattle.clock_walk.proofs.HeadsAhead.{ahead-by-heads, passed-heads}
 use borrow.Author.Needs.{needs}
 use Rattle.clock_walk.proofs.walk_to.Statement.{statement}
 use Rattle.clock_walk.proofs.walk_to.Tie as tie
 
 abbrev Inv-loop : tie.InvT-loop
 Inv-loop asked tempo-beats tempo-values stop-beats stop-values delay-beats delay-values warp-beats warp-lengths early start heads₀ none state heads passed =
-    Going early (timing tempo-beats tempo-values stop-beats stop-values delay-beats delay-values warp-beats warp-lengths) (toZ w32 asked) start state passed × (heads ≡ headsOf tempo-beats stop-beats delay-beats warp-beats state)
+    let t = timing tempo-beats tempo-values stop-beats stop-values delay-beats delay-values warp-beats warp-lengths in
+    Going early t (isDue t (toZ w32 asked)) (says-due t (toZ w32 asked)) start state passed × (heads ≡ headsOf tempo-beats stop-beats delay-beats warp-beats state)
 
 abbrev μ-loop : tie.MeasureT-loop
 μ-loop asked tempo-beats tempo-values stop-beats stop-values delay-beats delay-values warp-beats warp-lengths early start heads₀ none state heads passed =
@@ -36,91 +39,112 @@ heads-of-requires : tie.Need-heads-of-requires Inv-loop μ-loop
 heads-of-requires c κs = search needs
 
 loop-holds : tie.Need-loop-holds Inv-loop μ-loop
-loop-holds c =
-    (record { same = refl; few = omega arith }, c .heads-of .ensures)
+loop-holds c = (record { same = refl; few = omega arith }, c .heads-of .ensures)
 
-find-next-event-requires : tie.Need-find-next-event-requires Inv-loop μ-loop
-find-next-event-requires c κs = search needs
+find-due-requires : tie.Need-find-due-requires Inv-loop μ-loop
+find-due-requires c κs = search needs
 
-is-event-requires : tie.Need-is-event-requires Inv-loop μ-loop
-is-event-requires c κs = search needs
+enum-known-found : tie.Need-enum-known-found Inv-loop μ-loop
+enum-known-found c = search needs
 
--- what is found by the heads is the next event
-is-next : (c : tie.After-find-next-event Inv-loop μ-loop) →
+enum-told : tie.Need-enum-told Inv-loop μ-loop
+enum-told c = search needs
+
+-- what is found by the heads is what is due
+is-due : (c : tie.After-find-due Inv-loop μ-loop) →
     let a = c .before .before .before .before .before .before .before .before .before .before .before .before .args in
     let t : Timing = timing (a .tempo-beats .now) (a .tempo-values .now) (a .stop-beats .now) (a .stop-values .now) (a .delay-beats .now) (a .delay-values .now) (a .warp-beats .now) (a .warp-lengths .now) in
-    c .find-next-event .result ≡ next t (toZ w32 (ofZ w32 (a .asked))) (c .before .loop .state)
-is-next c =
+    c .find-due .result ≡ due t (toZ w32 (ofZ w32 (a .asked))) (c .before .loop .state)
+is-due c =
     let a = c .before .before .before .before .before .before .before .before .before .before .before .before .args in
+    let t : Timing = timing (a .tempo-beats .now) (a .tempo-values .now) (a .stop-beats .now) (a .stop-values .now) (a .delay-beats .now) (a .delay-values .now) (a .warp-beats .now) (a .warp-lengths .now) in
     let l = c .before .loop in
     let r = toZ w32 (ofZ w32 (a .asked)) in
-    c .find-next-event .ensures ∙ ap (λ (h : Heads). nextOf h r) (l .inv .1) ∙ next-by-heads (a .tempo-beats .now) (a .stop-beats .now) (a .delay-beats .now) (a .warp-beats .now) (l .state) r
+    c .find-due .ensures ∙ ap (λ (h : Heads). dueOf r (aheadOf h)) (l .inv .1) ∙ ap (dueOf r) (ahead-by-heads t (l .state))
 
 time-at-requires : tie.Need-time-at-requires Inv-loop μ-loop
 time-at-requires c κs = search needs
 
 returns : tie.Need-returns Inv-loop μ-loop
-unfolding walk
+unfolding walk walkOn
 returns c =
     let s = c .before .before .before .before .before .before .before .before .before .before .before .before .before .before .before in
     let a = s .args in
     let t : Timing = timing (a .tempo-beats .now) (a .tempo-values .now) (a .stop-beats .now) (a .stop-values .now) (a .delay-beats .now) (a .delay-values .now) (a .warp-beats .now) (a .warp-lengths .now) in
     let r = toZ w32 (ofZ w32 (a .asked)) in
-    let early = c .before .before .before .before .before .before .early-tempo .result in
+    let early = c .before .before .before .before .before .before .early-tempo in
     let l = c .before .before .before .before .loop in
-    let found = is-next (c .before .before .before) in
-    let e : isEvent (next t r (l .state) .kind) ≡ false =
-    ap (λ (m : Next). isEvent (m .kind)) (sym found) ∙ sym (c .before .before .is-event .ensures) ∙ not-true _ (c .before .if1 .taken) in
-    rw (c .time-at .ensures, found)
-    (sym (walk-end early t r (l .state) (l .passed) e) ∙ l .inv .0 .same ∙ ap (λ (z : ℤ). walkOn early t z (a .start) 0) (back (a .asked) (s .fits .asked))
-    ∙ ap (λ (x : Float). walkOn x t (a .asked) (a .start) 0) (c .before .before .before .before .before .before .early-tempo .ensures))
+    let none : isDue t r (l .state) ≡ false = ap isPasses (sym (is-due (c .before .before .before)) ∙ c .before .enum-told .given .1) in
+    rw (c .time-at .ensures)
+    (ap (ended (early .result) t r) (sym (pass-end (early .result) t (isDue t r) (says-due t r) (l .state) (l .passed) none) ∙ l .inv .0 .same)
+    ∙ ap (λ (z : ℤ). walkOn (early .result) t z (a .start) 0) (back (a .asked) (s .fits .asked))
+    ∙ ap (λ (x : Float). walkOn x t (a .asked) (a .start) 0) (early .ensures))
+
+number-of-requires : tie.Need-number-of-requires Inv-loop μ-loop
+number-of-requires c κs = search needs
+
+time-at-requires-2 : tie.Need-time-at-requires-2 Inv-loop μ-loop
+time-at-requires-2 c κs = search needs
 
 pass-event-requires : tie.Need-pass-event-requires Inv-loop μ-loop
 pass-event-requires c κs =
-    let s = c .before .before .before .before .before .before .before .before .before .before .before .before .before .before in
+    let s = c .before .before .before .before .before .before .before .before .before .before .before .before .before .before .before .before .before .before in
     let a = s .args in
     let t : Timing = timing (a .tempo-beats .now) (a .tempo-values .now) (a .stop-beats .now) (a .stop-values .now) (a .delay-beats .now) (a .delay-values .now) (a .warp-beats .now) (a .warp-lengths .now) in
     let r = toZ w32 (ofZ w32 (a .asked)) in
     let g = s .good in
-    moves t r (c .before .before .before .loop .state) (c .before .before .find-next-event .result) (is-next (c .before .before)) (g .1 .1 .0 .1) (g .1 .1 .1 .1 .0 .1) (g .1 .1 .1 .1 .1 .1 .0 .1) (g .1 .1 .1 .1 .1 .1 .1 .1 .0 .1)
+    let l = c .before .before .before .before .before .before .before .loop in
+    let found = c .before .before .before .before .found .given in
+    moves t (l .state) (found .0 .0) (due-found r (ahead t (l .state)) (found .0 .0) (sym (is-due (c .before .before .before .before .before .before)) ∙ found .1)) (g .1 .1 .0 .1) (g .1 .1 .1 .1 .0 .1) (g .1 .1 .1 .1 .1 .1 .0 .1) (g .1 .1 .1 .1 .1 .1 .1 .1 .0 .1)
 
 heads-after-requires : tie.Need-heads-after-requires Inv-loop μ-loop
 heads-after-requires c κs = search needs
 
-moved : (c : tie.After-pass-event Inv-loop μ-loop) →
-    let a = c .before .before .before .before .before .before .before .before .before .before .before .before .before .before .before .args in
+-- the event that is due is passed
+is-passed : (c : tie.After-pass-event Inv-loop μ-loop) →
+    let a = c .before .before .before .before .before .before .before .before .before .before .before .before .before .before .before .before .before .before .before .args in
     let t : Timing = timing (a .tempo-beats .now) (a .tempo-values .now) (a .stop-beats .now) (a .stop-values .now) (a .delay-beats .now) (a .delay-values .now) (a .warp-beats .now) (a .warp-lengths .now) in
-    let l = c .before .before .before .before .loop in
-    Going (c .before .before .before .before .before .before .early-tempo .result) t (toZ w32 (ofZ w32 (a .asked))) (a .start) (c .pass-event .result) (l .passed + 1) × (eventsLeft t (c .pass-event .result) < eventsLeft t (l .state))
-moved c =
-    let a = c .before .before .before .before .before .before .before .before .before .before .before .before .before .before .before .args in
+    c .pass-event .result ≡ passing (c .before .before .before .before .before .before .before .before .before .before .early-tempo .result) t (c .before .before .before .before .before .before .before .before .loop .state) (c .before .before .before .before .before .found .given .0 .0)
+is-passed c =
+    let n = c .before .before .before .before .before .found .given .0 .0 in
+    let time = c .before .time-at2 in
+    rw (c .pass-event .ensures, c .before .before .before .number-of .ensures, rw (back (n .row) (record { sfits = c .before .before .struct-told .given .0 .1 })) at (time .ensures))
+
+moved : (c : tie.After-pass-event Inv-loop μ-loop) →
+    let a = c .before .before .before .before .before .before .before .before .before .before .before .before .before .before .before .before .before .before .before .args in
     let t : Timing = timing (a .tempo-beats .now) (a .tempo-values .now) (a .stop-beats .now) (a .stop-values .now) (a .delay-beats .now) (a .delay-values .now) (a .warp-beats .now) (a .warp-lengths .now) in
     let r = toZ w32 (ofZ w32 (a .asked)) in
-    let l = c .before .before .before .before .loop in
-    let n = c .before .before .before .find-next-event .result in
-    let ev : isEvent (n .kind) ≡ true = sym (c .before .before .is-event .ensures) ∙ not-false _ (c .before .if1 .left) in
-    turn (c .before .before .before .before .before .before .early-tempo .result) t r (a .start) (l .state) (l .passed) n (c .pass-event .result) (is-next (c .before .before .before)) ev (c .pass-event .ensures) (l .inv .0)
+    let l = c .before .before .before .before .before .before .before .before .loop in
+    Going (c .before .before .before .before .before .before .before .before .before .before .early-tempo .result) t (isDue t r) (says-due t r) (a .start) (c .pass-event .result) (l .passed + 1) × (eventsLeft t (c .pass-event .result) < eventsLeft t (l .state))
+moved c =
+    let a = c .before .before .before .before .before .before .before .before .before .before .before .before .before .before .before .before .before .before .before .args in
+    let t : Timing = timing (a .tempo-beats .now) (a .tempo-values .now) (a .stop-beats .now) (a .stop-values .now) (a .delay-beats .now) (a .delay-values .now) (a .warp-beats .now) (a .warp-lengths .now) in
+    let r = toZ w32 (ofZ w32 (a .asked)) in
+    let l = c .before .before .before .before .before .before .before .before .loop in
+    let found = c .before .before .before .before .before .found .given in
+    let early = c .before .before .before .before .before .before .before .before .before .before .early-tempo .result in
+    let is : due t r (l .state) ≡ _ = sym (is-due (c .before .before .before .before .before .before .before)) ∙ found .1 in
+    turn early t (isDue t r) (says-due t r) (a .start) (l .state) (l .passed) (c .pass-event .result) (ap isPasses is) (is-passed c ∙ sym (due-passed early t r (l .state) (found .0 .0) is)) (l .inv .0)
 
 add-passed : tie.Need-add-passed Inv-loop μ-loop
 add-passed c =
-    let s = c .before .before .before .before .before .before .before .before .before .before .before .before .before .before .before .before in
+    let s = c .before .before .before .before .before .before .before .before .before .before .before .before .before .before .before .before .before .before .before .before in
     let a = s .args in
     let t : Timing = timing (a .tempo-beats .now) (a .tempo-values .now) (a .stop-beats .now) (a .stop-values .now) (a .delay-beats .now) (a .delay-values .now) (a .warp-beats .now) (a .warp-lengths .now) in
     let g = s .good in
-    let l = c .before .before .before .before .before .loop in
+    let l = c .before .before .before .before .before .before .before .before .before .loop in
     record { fits = count-fits t (a .start) (l .passed) (eventsLeft t (l .state)) (l .inv .0 .few) (g .1 .1 .0 .1) (g .1 .1 .1 .1 .0 .1) (g .1 .1 .1 .1 .1 .1 .0 .1) (g .1 .1 .1 .1 .1 .1 .1 .1 .0 .1) }
 
 loop-less : tie.Need-loop-less Inv-loop μ-loop
-loop-less c =
-    moved (c .before) .1
+loop-less c = moved (c .before) .1
 
 loop-again : tie.Need-loop-again Inv-loop μ-loop
 loop-again c =
-    let a = c .before .before .before .before .before .before .before .before .before .before .before .before .before .before .before .before .args in
+    let a = c .before .before .before .before .before .before .before .before .before .before .before .before .before .before .before .before .before .before .before .before .args in
     let t : Timing = timing (a .tempo-beats .now) (a .tempo-values .now) (a .stop-beats .now) (a .stop-values .now) (a .delay-beats .now) (a .delay-values .now) (a .warp-beats .now) (a .warp-lengths .now) in
-    let l = c .before .before .before .before .before .loop in
-    let n = c .before .before .before .before .find-next-event .result in
-    (moved (c .before) .0, rw (c .heads-after .ensures, l .inv .1, c .before .pass-event .ensures) (passed-heads (c .before .before .before .before .before .before .before .early-tempo .result) t (l .state) n))
+    let l = c .before .before .before .before .before .before .before .before .before .loop in
+    let n = c .before .before .before .before .before .before .found .given .0 .0 in
+    (moved (c .before) .0, rw (c .heads-after .ensures, l .inv .1, is-passed (c .before)) (passed-heads (c .before .before .before .before .before .before .before .before .before .before .before .early-tempo .result) t (l .state) n))
 
 pub walk-to-spec : {M : Type 1} → statement M
 walk-to-spec =
@@ -131,10 +155,13 @@ walk-to-spec =
     early-tempo-requires
     heads-of-requires
     loop-holds
-    find-next-event-requires
-    is-event-requires
+    find-due-requires
+    enum-known-found
+    enum-told
     time-at-requires
     returns
+    number-of-requires
+    time-at-requires-2
     pass-event-requires
     heads-after-requires
     add-passed

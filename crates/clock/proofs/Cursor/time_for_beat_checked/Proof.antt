@@ -1,4 +1,5 @@
 -- `clock::Cursor::time_for_beat_checked` is `playerQuestion`. Assumes nothing.
+use Prim.Native.Nat.{_≤_}
 use mathlib.Core.Path.{_≡_, refl, sym, _∙_}
 use native.Mathlib.Omega.{arith}
 use borrow.Author.Tests.{eq-eqb, ne-eqb}
@@ -8,7 +9,8 @@ use mir.Val.{toZ, ofZ}
 use Rattle.rows.specs.Rows.{row}
 use Rattle.chart.specs.Timing.{Timing, timing}
 use Rattle.clock_walk.proofs.BackFromBits.{back}
-use Rattle.clock.proofs.ReplyByTheWalk.{soon-reply, walked-reply}
+use Rattle.clock_walk.proofs.OneTempo.{soon-few}
+use Rattle.clock.proofs.ReplyByTheWalk.{soon-walked, soon-reply, walked-reply}
 use Rattle.clock.proofs.PlayerNumber.{beat-refused, cursor-refused, both-taken}
 use borrow.Author.Needs.{needs}
 use Rattle.clock.proofs.Cursor.time_for_beat_checked.Statement.{statement}
@@ -37,7 +39,12 @@ quiet-time-requires : tie.Need-quiet-time-requires
 quiet-time-requires c κs = search needs
 
 answered-requires : tie.Need-answered-requires
-answered-requires c κs = omega (arith, c .before .before .before .soon .ensures (c .before .before .if2 .taken) .0)
+answered-requires c κs =
+    let a = c .before .before .before .before .before .before .before .before .before .before .before .before .before .before .before .args in
+    let found = c .before .before .before .soon in
+    let is-soon = found .ensures (c .before .before .if2 .taken) in
+    let few : found .result .passed ≤ 1 = rw (is-soon .5) (soon-few (a .tempo-beats .now) (a .tempo-values .now) _ (a .self .state)) in
+    omega (arith, few)
 
 returns-2 : tie.Need-returns-2
 returns-2 c =
@@ -46,9 +53,11 @@ returns-2 c =
     let asked = c .before .before .before .before .before .before .before .beat-number in
     let on = c .before .before .before .before .before .row-of-taken in
     let r = toZ w32 (ofZ w32 (on .result)) in
-    let is-soon = c .before .before .before .before .soon .ensures (c .before .before .before .if2 .taken) in
+    let found = c .before .before .before .before .soon in
+    let whole = c .before .before .before .if2 .taken in
+    let is-soon = found .ensures whole in
     let is : r ≡ row binary64 (a .beat) = back (on .result) (record { sfits = on .ok }) ∙ on .ensures in
-    (rw (c .before .quiet-time .ensures) at (c .answered .ensures)) ∙ soon-reply t (a .self) (a .offset) (a .global) (a .beat) r _ is (is-soon .1) (is-soon .2) (is-soon .3)
+    (rw (c .before .quiet-time .ensures) at (c .answered .ensures)) ∙ soon-reply t (a .self) (a .offset) (a .global) (a .beat) r _ is (is-soon .0) (is-soon .1) (soon-walked t r (a .self .state) (found .result) (is-soon .5) whole (is-soon .2) (is-soon .3))
     ∙ both-taken t (a .self) (a .offset) (a .global) (a .beat) (asked .result) (asked .ensures) (eq-eqb _ _ (c .before .before .before .before .before .before .if1 .left)) _ refl (eq-eqb _ _ (is-soon .4))
 
 refusal-requires : tie.Need-refusal-requires

@@ -1,15 +1,19 @@
--- The rows of what is ahead of a state, and the next event by them. Definitions only.
+-- The rows of what is ahead of a state, kept between the events of a walk, and what is ahead by them. Definitions only.
 use mathlib.Core.List.{List}
 use lib.IntN.{ℤ}
+use lib.Signed.{ltZ}
 use lib.Ieee.{Float, binary64}
+use Rattle.picks.specs.Pick.{pick}
 use Rattle.rows.specs.Rows.{row}
-use Rattle.clock_walk.specs.Events.{nothingYet, sooner}
-use Rattle.clock_walk.specs.Quiet.{farthest, rowAt, endRow}
+use Rattle.clock_walk.specs.Events.{farthest, sooner}
+use Rattle.clock_walk.specs.Quiet.{rowAt, endRow}
 use Rattle.chart.specs.declared.State.{State}
 use Rattle.clock_walk.specs.declared.Next.{Next}
 use Rattle.clock_walk.specs.declared.Heads.{Heads}
 use Rattle.clock_walk.specs.declared.Event.{Event}
-use Rattle.clock_walk.specs.declared.Event.the-variants.{WarpEnd, Tempo, Delay, Asked, Stop, Warp, NotFound}
+use Rattle.clock_walk.specs.declared.Event.the-variants.{WarpEnd, Tempo, Delay, Stop, Warp}
+use Rattle.clock_walk.specs.declared.Ahead.{Ahead}
+use Rattle.clock_walk.specs.declared.Ahead.the-variants.{Found, NotFound}
 
 -- the row of the warp's end and of the next entry of each list
 unfoldable pub headsOf : (tempoBeats stopBeats delayBeats warpBeats : List Float) → State → Heads
@@ -28,14 +32,23 @@ headsAfter tempoBeats stopBeats delayBeats warpBeats h s Tempo = record { end = 
 headsAfter tempoBeats stopBeats delayBeats warpBeats h s Delay = record { end = h .end; tempo = h .tempo; delay = rowAt delayBeats (s .delays); stop = h .stop; warp = h .warp }
 headsAfter tempoBeats stopBeats delayBeats warpBeats h s Stop = record { end = h .end; tempo = h .tempo; delay = h .delay; stop = rowAt stopBeats (s .stops); warp = h .warp }
 headsAfter tempoBeats stopBeats delayBeats warpBeats h s Warp = record { end = row binary64 (s .end); tempo = h .tempo; delay = h .delay; stop = h .stop; warp = rowAt warpBeats (s .warps) }
-headsAfter tempoBeats stopBeats delayBeats warpBeats h s Asked = h
-headsAfter tempoBeats stopBeats delayBeats warpBeats h s NotFound = h
 
--- the order of candidates is that of `nextEvent`
-unfoldable pub nextOf : Heads → ℤ → Next
-nextOf h asked =
-    sooner
-    (sooner
-    (sooner (sooner (sooner (sooner nothingYet (h .end) WarpEnd) (h .tempo) Tempo) (h .delay) Delay) asked Asked)
-    (h .stop) Stop)
-    (h .warp) Warp
+-- ---- what is ahead, by the rows alone
+
+-- none of the rows: an event of the greatest i32, which goes before no beat
+abbrev pub noHead : Next
+noHead = record { row = farthest; kind = Warp }
+
+unfoldable pub soonerHead : Next → ℤ → Event → Next
+soonerHead best at kind = sooner (λ (n : Next). n .row) best (record { row = at; kind = kind })
+
+-- the least row, ties as in `ahead`
+unfoldable pub leastHead : Heads → Next
+leastHead h =
+    soonerHead (soonerHead (soonerHead (soonerHead (soonerHead noHead (h .end) WarpEnd) (h .tempo) Tempo) (h .delay) Delay) (h .stop) Stop) (h .warp) Warp
+
+abbrev pub foundAt : Next → Ahead
+foundAt n = pick (ltZ (n .row) farthest) (Found n) NotFound
+
+unfoldable pub aheadOf : Heads → Ahead
+aheadOf h = foundAt (leastHead h)

@@ -11,13 +11,14 @@ use Rattle.ieee.specs.Constants.{plusZero, sixty}
 use Rattle.picks.specs.Pick.{pick}
 use Rattle.rows.specs.Rows.{beatOf}
 use Rattle.chart.specs.Timing.{Timing}
-use Rattle.clock_walk.specs.Quiet.{farthest, rowAt, endRow}
+use Rattle.clock_walk.specs.Events.{farthest}
+use Rattle.clock_walk.specs.Quiet.{rowAt, endRow}
 use Rattle.clock_walk.specs.Soon.{tempoPassed, rowAfter}
 use Rattle.chart.specs.declared.State.{State}
 use Rattle.clock_tests.specs.TimingNumbers.{beatNumber}
 use Rattle.clock.specs.declared.Cursor.{Cursor}
-use Rattle.clock_run.specs.declared.Ahead.{Ahead}
-use Rattle.clock_run.specs.declared.Past.{Past}
+use Rattle.clock_walk.specs.declared.Soon.{Soon}
+use Rattle.clock_run.specs.declared.Outlook.{Outlook}
 
 unfoldable pub lesserRow : ℤ → ℤ → ℤ
 lesserRow a b = pick (ltZ a b) a b
@@ -28,11 +29,11 @@ restUntil stopBeats delayBeats warpBeats s =
     lesserRow farthest
     (lesserRow (endRow (s .warping) (s .end)) (lesserRow (rowAt delayBeats (s .delays)) (lesserRow (rowAt stopBeats (s .stops)) (rowAt warpBeats (s .warps)))))
 
-abbrev pub blind : Ahead
+abbrev pub blind : Outlook
 blind = record { known = false; row = pos 0; rest = pos 0; rate = plusZero }
 
 -- what is ahead of a state, with a row before which only tempos are; before any tempo is passed it looks for nothing
-unfoldable pub lookOn : (tempoBeats tempoValues : List Float) → State → ℤ → Ahead
+unfoldable pub lookOn : (tempoBeats tempoValues : List Float) → State → ℤ → Outlook
 lookOn tempoBeats tempoValues s rest =
     pick (eqb (s .tempos) 0) blind
     (pick (ltb (s .tempos - 1) (length tempoValues))
@@ -44,7 +45,7 @@ lookOn tempoBeats tempoValues s rest =
     })
     blind)
 
-unfoldable pub lookAhead : Timing → State → Ahead
+unfoldable pub lookAhead : Timing → State → Outlook
 lookAhead t s =
     pick (eqb (length (t .tempoBeats)) 0) blind (lookOn (t .tempoBeats) (t .tempoValues) s (restUntil (t .stopBeats) (t .delayBeats) (t .warpBeats) s))
 
@@ -55,20 +56,14 @@ isBefore known until last beat asked = pick (eqb (beatNumber beat) 0) (pick know
 unfoldable pub quietTime : State → Float → ℤ → Float
 quietTime s rate asked = add binary64 (s .time) (pick (s .warping) plusZero (div binary64 (beatOf binary64 (asked -ℤ s .row)) rate))
 
--- a state past a tempo, and one that nothing is passed from
-abbrev pub pastOne : (tempoBeats tempoValues : List Float) → ℤ → State → Past
-pastOne tempoBeats tempoValues rest s = record { passed = 1; state = s; ahead = lookOn tempoBeats tempoValues s rest }
-
-abbrev pub pastNone : Ahead → State → Past
-pastNone ahead s = record { passed = 0; state = s; ahead = ahead }
-
--- the next tempo passed, where there is one and a beat is before all that follows it
-unfoldable pub pastTempo : (tempoBeats tempoValues stopValues delayValues warpBeats warpLengths : List Float) → Ahead → Cursor → Float → ℤ → Past
-pastTempo tempoBeats tempoValues stopValues delayValues warpBeats warpLengths ahead c beat asked =
-    pick (isBefore (ahead .known) (lesserRow (rowAfter tempoBeats (c .state .tempos)) (ahead .rest)) (c .asked) beat asked)
+-- The next tempo passed, where there is one with a value and a beat is before all that follows it, by the rows that are kept; else nothing, and it is not the whole
+-- walk.
+unfoldable pub soonBefore : (tempoBeats tempoValues : List Float) → Outlook → Cursor → Float → ℤ → Soon
+soonBefore tempoBeats tempoValues outlook c beat asked =
+    pick (isBefore (outlook .known) (lesserRow (rowAfter tempoBeats (c .state .tempos)) (outlook .rest)) (c .asked) beat asked)
     (pick (ltb (c .state .tempos) (length tempoBeats))
     (pick (ltb (c .state .tempos) (length tempoValues))
-    (pastOne tempoBeats tempoValues (ahead .rest) (tempoPassed tempoBeats tempoValues stopValues delayValues warpBeats warpLengths (c .state) (ahead .row)))
-    (pastNone ahead (c .state)))
-    (pastNone ahead (c .state)))
-    (pastNone ahead (c .state))
+    (record { state = tempoPassed tempoBeats tempoValues (c .state) (outlook .row); passed = 1; whole = true })
+    (record { state = c .state; passed = 0; whole = false }))
+    (record { state = c .state; passed = 0; whole = false }))
+    (record { state = c .state; passed = 0; whole = false })
