@@ -14,7 +14,7 @@ use Rattle.columns.specs.Laying.{given}
 use Rattle.columns.specs.declared.Outcome.{Outcome}
 use Rattle.chart.specs.Timing.{Timing}
 use Rattle.clock_tests.specs.TimingNumbers.{timingNumber, beatNumber}
-use Rattle.clock_bench.specs.EventList.{withATempo, eventList}
+use Rattle.clock_bench.specs.EventList.{eventList}
 use Rattle.clock_bench.specs.EventRoom.{EventRoom, eventRoomNumber, roomWith}
 use Rattle.clock_bench.specs.RunningDown.{timeOn, runDown, setOff}
 use Rattle.clock_bench.specs.declared.Runner.{Runner}
@@ -38,7 +38,7 @@ tempoAtTheStart (v ∷ values) = v
 
 -- the runner at an asked row; it sets off on row 0, less both offsets, with the first tempo
 unfoldable pub runnerAt : Timing → Float → Float → ℤ → Runner
-runnerAt t offset global asked = runDown asked (setOff (sub binary64 (neg offset) global) (tempoAtTheStart (withATempo t .tempoValues))) (eventList t)
+runnerAt t offset global asked = runDown asked (setOff (sub binary64 (neg offset) global) (tempoAtTheStart (t .tempoValues))) (eventList t)
 
 unfoldable pub benchNumber : Timing → Float → Float → Float → EventRoom → ℕ
 benchNumber t offset global beat room = lower (timingNumber t offset global) (lower (beatNumber beat) (eventRoomNumber t room))

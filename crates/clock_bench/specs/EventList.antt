@@ -119,7 +119,7 @@ unfoldable pub listedWithin : ℕ → Timing → Spot → List Listed
 listedWithin zero t p = []
 listedWithin (suc most) t p =
     let e = nextListed t p in
-    pick (ltb (e .kind) noneLeft) (e ∷ listedWithin most t (spotPast p (e .kind) (e .number))) []
+    pick (eqb (e .kind) noneLeft) [] (e ∷ listedWithin most t (spotPast p (e .kind) (e .number)))
 
 abbrev pub firstSpot : Spot
 firstSpot = record { tempos = 0; stops = 0; delays = 0; warps = 0; end = plusZero; warping = false }

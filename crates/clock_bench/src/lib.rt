@@ -335,7 +335,7 @@ fn either<'a>(first: bool, one: &'a [f32], other: &'a [f32]) -> &'a [f32]
 
 // As many events as a timing of so many entries can have. Without a tempo it has the one of 60, and a warp has two events.
 fn most_events(tempos: usize, stops: usize, delays: usize, warps: usize) -> usize
-    requires { ⌜ tempos + stops + delays + 2 * warps < 2 ^ 63 ⌝ }
+    requires { ⌜ tempos + stops + delays + 2 * warps + 1 < 2 ^ 64 ⌝ }
     ensures { λ r. ⌜ r ≡ pick (eqb tempos 0) 1 tempos + stops + delays + 2 * warps ⌝ }
 {
     if tempos == 0 {

@@ -1,54 +1,49 @@
+-- `clock_bench::brings` meets its contract. Assumes nothing.
+use borrow.Author.Tests.{eq-eqb, ne-eqb}
+use Rattle.clock_bench.specs.EventList.{bringing}
 use borrow.Author.Needs.{needs}
 use Rattle.clock_bench.proofs.brings.Statement.{statement}
 use Rattle.clock_bench.proofs.brings.Tie as tie
-use Rattle.clock_bench.proofs.brings.Reads as reads
-use Rattle.clock_bench.proofs.brings.Lts as lts
-use Rattle.clock_bench.proofs.further_end.Reads as further-end-reads
-use Rattle.clock_bench.proofs.number_at.Reads as number-at-reads
 
--- src/lib.rt:139:9
 number-at-requires : tie.Need-number-at-requires
 number-at-requires c κs = search needs
 
--- src/lib.rt:139:9
 returns : tie.Need-returns
-returns c = search needs
+unfolding bringing
+returns c = rw (eq-eqb _ 1 (c .before .if1 .taken)) (c .number-at .ensures)
 
--- src/lib.rt:142:9
 number-at-requires-2 : tie.Need-number-at-requires-2
 number-at-requires-2 c κs = search needs
 
--- src/lib.rt:142:9
 returns-2 : tie.Need-returns-2
-returns-2 c = search needs
+unfolding bringing
+returns-2 c = rw (ne-eqb _ 1 (c .before .before .if1 .left), eq-eqb _ 2 (c .before .if2 .taken)) (c .number-at2 .ensures)
 
--- src/lib.rt:145:9
 number-at-requires-3 : tie.Need-number-at-requires-3
 number-at-requires-3 c κs = search needs
 
--- src/lib.rt:145:9
 returns-3 : tie.Need-returns-3
-returns-3 c = search needs
+unfolding bringing
+returns-3 c = rw (ne-eqb _ 1 (c .before .before .before .if1 .left), ne-eqb _ 2 (c .before .before .if2 .left), eq-eqb _ 3 (c .before .if3 .taken)) (c .number-at3 .ensures)
 
--- src/lib.rt:148:19
 number-at-requires-4 : tie.Need-number-at-requires-4
 number-at-requires-4 c κs = search needs
 
--- src/lib.rt:148:55
 number-at-requires-5 : tie.Need-number-at-requires-5
 number-at-requires-5 c κs = search needs
 
--- src/lib.rt:149:9
 further-end-requires : tie.Need-further-end-requires
 further-end-requires c κs = search needs
 
--- src/lib.rt:149:9
 returns-4 : tie.Need-returns-4
-returns-4 c = search needs
+unfolding bringing
+returns-4 c =
+    rw (ne-eqb _ 1 (c .before .before .before .before .before .before .if1 .left), ne-eqb _ 2 (c .before .before .before .before .before .if2 .left), ne-eqb _ 3 (c .before .before .before .before .if3 .left), eq-eqb _ 4 (c .before .before .before .if4 .taken), ← c .before .before .number-at4 .ensures, ← c .before .number-at5 .ensures)
+    (c .further-end .ensures)
 
--- src/lib.rt:127:1
 returns-5 : tie.Need-returns-5
-returns-5 c = search needs
+unfolding bringing
+returns-5 c = rw (ne-eqb _ 1 (c .before .before .before .if1 .left), ne-eqb _ 2 (c .before .before .if2 .left), ne-eqb _ 3 (c .before .if3 .left), ne-eqb _ 4 (c .if4 .left))
 
 pub brings-spec : {M : Type 1} → statement M
 brings-spec =

@@ -1,99 +1,124 @@
+-- `clock_bench::lay_events` lays the list, event by event. Assumes nothing.
+use Prim.Native.Nat.{_-_}
+use native.Mathlib.Omega.{arith}
+use lib.Ieee.{ofBits}
+use borrow.Author.Tests.{eq-eqb, ne-eqb}
+use Rattle.chart.specs.Timing.{timing}
+use Rattle.rows.proofs.BackFromBits.{back}
+use Rattle.clock_bench.proofs.ListGrows.{Growing, begun, spot-fits, row-room, kind-room, number-room, spent, full, turned}
 use borrow.Author.Needs.{needs}
 use Rattle.clock_bench.proofs.lay_events.Statement.{statement}
 use Rattle.clock_bench.proofs.lay_events.Tie as tie
-use Rattle.clock_bench.proofs.lay_events.Reads as reads
-use Rattle.clock_bench.proofs.lay_events.Lts as lts
-use Rattle.clock_bench.proofs.brings.Reads as brings-reads
-use Rattle.clock_bench.proofs.next_head.Reads as next-head-reads
-use Rattle.clock_bench.proofs.spot_past.Reads as spot-past-reads
 
 abbrev Inv-loop : tie.InvT-loop
 Inv-loop most tempo-beats tempo-values stop-beats stop-values delay-beats delay-values warp-beats warp-lengths rows₀ kinds₀ numbers₀ spot₀ i₀ rows kinds numbers spot i =
-    ?
+    Growing most (timing tempo-beats tempo-values stop-beats stop-values delay-beats delay-values warp-beats warp-lengths) rows₀ kinds₀ numbers₀ rows kinds numbers spot i
 
 abbrev μ-loop : tie.MeasureT-loop
-μ-loop most tempo-beats tempo-values stop-beats stop-values delay-beats delay-values warp-beats warp-lengths rows₀ kinds₀ numbers₀ spot₀ i₀ rows kinds numbers spot i =
-    ?
+μ-loop most tempo-beats tempo-values stop-beats stop-values delay-beats delay-values warp-beats warp-lengths rows₀ kinds₀ numbers₀ spot₀ i₀ rows kinds numbers spot i = most - i
 
--- src/lib.rt:213:5
 loop-holds : tie.Need-loop-holds Inv-loop μ-loop
-loop-holds c = search needs
+unfolding ofBits
+loop-holds c = let a = c .before .before .before .before .before .before .before .before .before .before .args in begun (a .most) (timing (a .tempo-beats .now) (a .tempo-values .now) (a .stop-beats .now) (a .stop-values .now) (a .delay-beats .now) (a .delay-values .now) (a .warp-beats .now) (a .warp-lengths .now)) (a .rows .now) (a .kinds .now) (a .numbers .now)
 
--- src/lib.rt:214:13
 next-head-requires : tie.Need-next-head-requires Inv-loop μ-loop
 next-head-requires c κs = search needs
 
--- src/lib.rt:218:13
 same-length : tie.Need-same-length Inv-loop μ-loop
-same-length c = search needs
+same-length c = c .before .before .before .before .loop .inv .ofRows .size
 
--- src/lib.rt:218:13
 same-length-2 : tie.Need-same-length-2 Inv-loop μ-loop
-same-length-2 c = search needs
+same-length-2 c = c .before .before .before .before .loop .inv .ofKinds .size
 
--- src/lib.rt:218:13
 same-length-3 : tie.Need-same-length-3 Inv-loop μ-loop
-same-length-3 c = search needs
+same-length-3 c = c .before .before .before .before .loop .inv .ofNumbers .size
 
--- src/lib.rt:218:13
 returns : tie.Need-returns Inv-loop μ-loop
-returns c = search needs
+returns c =
+    let s = c .before .before .before .before .before .before .before .before .before .before .before .before .before .before .before in
+    let a = s .args in
+    let l = c .before .before .before .before .loop in
+    spent (a .most) (timing (a .tempo-beats .now) (a .tempo-values .now) (a .stop-beats .now) (a .stop-values .now) (a .delay-beats .now) (a .delay-values .now) (a .warp-beats .now) (a .warp-lengths .now)) (a .rows .now) (a .kinds .now) (a .numbers .now) (l .rows) (l .kinds) (l .numbers) (l .spot) (l .i) (l .inv) (c .before .before .next-head .result) (c .before .before .next-head .ensures) (eq-eqb _ 5 (c .if1 .taken))
 
--- src/lib.rt:220:13
 brings-requires : tie.Need-brings-requires Inv-loop μ-loop
 brings-requires c κs = search needs
 
--- src/lib.rt:229:9
 mul-row : tie.Need-mul-row Inv-loop μ-loop
-mul-row c = search needs
+mul-row c =
+    let s = c .before .before .before .before .before .before .before .before .before .before .before .before .before .before .before .before in
+    let a = s .args in
+    let l = c .before .before .before .before .before .loop in
+    record { fits = omega (arith, c .before .before .before .before .loop-test .taken, s .pre .0, s .good .1 .1 .1 .1 .1 .1 .1 .1 .1 .0 .1) }
 
--- src/lib.rt:229:9
 slice-set-from-row : tie.Need-slice-set-from-row Inv-loop μ-loop
-slice-set-from-row c = search needs
+slice-set-from-row c =
+    let s = c .before .before .before .before .before .before .before .before .before .before .before .before .before .before .before .before in
+    let a = s .args in
+    let l = c .before .before .before .before .before .loop in
+    row-room (a .most) (timing (a .tempo-beats .now) (a .tempo-values .now) (a .stop-beats .now) (a .stop-values .now) (a .delay-beats .now) (a .delay-values .now) (a .warp-beats .now) (a .warp-lengths .now)) (a .rows .now) (a .kinds .now) (a .numbers .now) (l .rows) (l .kinds) (l .numbers) (l .spot) (l .i) (l .inv) (c .before .before .before .before .loop-test .taken) (s .pre .0)
 
--- src/lib.rt:230:9
 slice-write-kinds : tie.Need-slice-write-kinds Inv-loop μ-loop
-slice-write-kinds c = search needs
+slice-write-kinds c =
+    let s = c .before .before .before .before .before .before .before .before .before .before .before .before .before .before .before .before in
+    let a = s .args in
+    let l = c .before .before .before .before .before .loop in
+    kind-room (a .most) (timing (a .tempo-beats .now) (a .tempo-values .now) (a .stop-beats .now) (a .stop-values .now) (a .delay-beats .now) (a .delay-values .now) (a .warp-beats .now) (a .warp-lengths .now)) (a .rows .now) (a .kinds .now) (a .numbers .now) (l .rows) (l .kinds) (l .numbers) (l .spot) (l .i) (l .inv) (c .before .before .before .before .loop-test .taken) (s .pre .1)
 
--- src/lib.rt:231:9
 mul-numbers : tie.Need-mul-numbers Inv-loop μ-loop
-mul-numbers c = search needs
+mul-numbers c =
+    let s = c .before .before .before .before .before .before .before .before .before .before .before .before .before .before .before .before in
+    let a = s .args in
+    let l = c .before .before .before .before .before .loop in
+    record { fits = omega (arith, c .before .before .before .before .loop-test .taken, s .pre .2, s .good .1 .1 .1 .1 .1 .1 .1 .1 .1 .1 .1 .0 .1) }
 
--- src/lib.rt:231:9
 slice-write-numbers : tie.Need-slice-write-numbers Inv-loop μ-loop
-slice-write-numbers c = search needs
+slice-write-numbers c =
+    let s = c .before .before .before .before .before .before .before .before .before .before .before .before .before .before .before .before in
+    let a = s .args in
+    let l = c .before .before .before .before .before .loop in
+    number-room (a .most) (timing (a .tempo-beats .now) (a .tempo-values .now) (a .stop-beats .now) (a .stop-values .now) (a .delay-beats .now) (a .delay-values .now) (a .warp-beats .now) (a .warp-lengths .now)) (a .rows .now) (a .kinds .now) (a .numbers .now) (l .rows) (l .kinds) (l .numbers) (l .spot) (l .i) (l .inv) (c .before .before .before .before .loop-test .taken) (s .pre .2)
 
--- src/lib.rt:232:9
 spot-past-requires : tie.Need-spot-past-requires Inv-loop μ-loop
-spot-past-requires c κs = search needs
+spot-past-requires c κs =
+    let s = c .before .before .before .before .before .before .before .before .before .before .before .before .before .before .before .before in
+    let a = s .args in
+    let l = c .before .before .before .before .before .loop in
+    spot-fits (a .most) (timing (a .tempo-beats .now) (a .tempo-values .now) (a .stop-beats .now) (a .stop-values .now) (a .delay-beats .now) (a .delay-values .now) (a .warp-beats .now) (a .warp-lengths .now)) (a .rows .now) (a .kinds .now) (a .numbers .now) (l .rows) (l .kinds) (l .numbers) (l .spot) (l .i) (l .inv) (c .before .before .before .before .loop-test .taken) (s .pre .0) (omega (arith, s .good .1 .1 .1 .1 .1 .1 .1 .1 .1 .0 .1))
 
--- src/lib.rt:233:9
 add-i : tie.Need-add-i Inv-loop μ-loop
-add-i c = search needs
+add-i c =
+    let s = c .before .before .before .before .before .before .before .before .before .before .before .before .before .before .before .before .before in
+    let a = s .args in
+    let l = c .before .before .before .before .before .before .loop in
+    record { fits = omega (arith, c .before .before .before .before .before .loop-test .taken, s .pre .0, s .good .1 .1 .1 .1 .1 .1 .1 .1 .1 .0 .1) }
 
--- src/lib.rt:213:5
 loop-less : tie.Need-loop-less Inv-loop μ-loop
-loop-less c = search needs
+loop-less c = omega (arith, c .before .before .before .before .before .loop-test .taken)
 
--- src/lib.rt:213:5
 loop-again : tie.Need-loop-again Inv-loop μ-loop
-loop-again c = search needs
+loop-again c =
+    let s = c .before .before .before .before .before .before .before .before .before .before .before .before .before .before .before .before .before in
+    let a = s .args in
+    let l = c .before .before .before .before .before .before .loop in
+    let head = c .before .before .before .before .next-head .result in
+    rw (back (head .row) (record { sfits = c .before .before .before .struct-told .given .0 .1 }), c .spot-past .ensures)
+    (turned (a .most) (timing (a .tempo-beats .now) (a .tempo-values .now) (a .stop-beats .now) (a .stop-values .now) (a .delay-beats .now) (a .delay-values .now) (a .warp-beats .now) (a .warp-lengths .now)) (a .rows .now) (a .kinds .now) (a .numbers .now) (l .rows) (l .kinds) (l .numbers) (l .spot) (l .i) (l .inv) head (c .before .brings .result) (c .before .before .before .before .next-head .ensures) (c .before .brings .ensures) (ne-eqb _ 5 (c .before .before .if1 .left)) (c .before .before .before .before .before .loop-test .taken) (s .pre .0) (s .pre .1) (s .pre .2))
 
--- src/lib.rt:182:1
 same-length-4 : tie.Need-same-length-4 Inv-loop μ-loop
-same-length-4 c = search needs
+same-length-4 c = c .before .loop .inv .ofRows .size
 
--- src/lib.rt:182:1
 same-length-5 : tie.Need-same-length-5 Inv-loop μ-loop
-same-length-5 c = search needs
+same-length-5 c = c .before .loop .inv .ofKinds .size
 
--- src/lib.rt:182:1
 same-length-6 : tie.Need-same-length-6 Inv-loop μ-loop
-same-length-6 c = search needs
+same-length-6 c = c .before .loop .inv .ofNumbers .size
 
--- src/lib.rt:182:1
 returns-2 : tie.Need-returns-2 Inv-loop μ-loop
-returns-2 c = search needs
+returns-2 c =
+    let s = c .before .before .before .before .before .before .before .before .before .before .before .before in
+    let a = s .args in
+    let l = c .before .loop in
+    full (a .most) (timing (a .tempo-beats .now) (a .tempo-values .now) (a .stop-beats .now) (a .stop-values .now) (a .delay-beats .now) (a .delay-values .now) (a .warp-beats .now) (a .warp-lengths .now)) (a .rows .now) (a .kinds .now) (a .numbers .now) (l .rows) (l .kinds) (l .numbers) (l .spot) (l .i) (l .inv) (c .loop-test .left)
 
 pub lay-events-spec : {M : Type 1} → statement M
 lay-events-spec =

@@ -1,6 +1,7 @@
 -- `clock_bench::or_end` meets its contract. Assumes nothing.
-use Rattle.rows.proofs.BackFromBits.{back, tested}
-use Rattle.clock_bench.specs.EventList.{orEnd}
+use mathlib.Core.Path.{ap, _∙_}
+use Rattle.rows.proofs.BackFromBits.{back}
+use Rattle.clock_bench.specs.EventList.{warpEnds, lowerHead, orEnd}
 use borrow.Author.Needs.{needs}
 use Rattle.clock_bench.proofs.or_end.Statement.{statement}
 use Rattle.clock_bench.proofs.or_end.Tie as tie
@@ -13,7 +14,9 @@ lower-head-requires c κs = search needs
 
 returns : tie.Need-returns
 unfolding orEnd
-returns c = rw (c .before .before .if1 .taken, back (c .before .beat-to-note-row .result) (record { sfits = c .before .beat-to-note-row .ok }), c .before .beat-to-note-row .ensures) at (c .lower-head .ensures)
+returns c =
+    rw (c .before .before .if1 .taken)
+    (c .lower-head .ensures ∙ ap (λ at. lowerHead (c .before .before .before .args .best) at warpEnds) (back (c .before .beat-to-note-row .result) (record { sfits = c .before .beat-to-note-row .ok }) ∙ c .before .beat-to-note-row .ensures))
 
 returns-2 : tie.Need-returns-2
 unfolding orEnd

@@ -1,7 +1,10 @@
 -- `clock_bench::or_entry` meets its contract. Assumes nothing.
+use mathlib.Core.Path.{ap, _∙_}
+use lib.Ieee.{binary64}
 use borrow.Author.Tests.{lt-ltb, le-ltb}
-use Rattle.rows.proofs.BackFromBits.{back, tested}
-use Rattle.clock_bench.specs.EventList.{orEntry}
+use Rattle.rows.specs.Rows.{row}
+use Rattle.rows.proofs.BackFromBits.{back}
+use Rattle.clock_bench.specs.EventList.{lowerHead, orEntry}
 use borrow.Author.Needs.{needs}
 use Rattle.clock_bench.proofs.or_entry.Statement.{statement}
 use Rattle.clock_bench.proofs.or_entry.Tie as tie
@@ -22,10 +25,15 @@ lower-head-requires : tie.Need-lower-head-requires
 lower-head-requires c κs = search needs
 
 returns : tie.Need-returns
-returns c = search needs
+unfolding orEntry
+returns c =
+    let a = c .before .before .before .before .before .before .args in
+    rw (lt-ltb _ _ (c .before .before .before .before .if1 .taken))
+    (c .lower-head .ensures ∙ ap (λ at. lowerHead (a .best) at (a .kind)) (back (c .before .beat-to-note-row .result) (record { sfits = c .before .beat-to-note-row .ok }) ∙ c .before .beat-to-note-row .ensures ∙ ap (row binary64) (c .before .before .f32-to-f64-with-nan .ensures)))
 
 returns-2 : tie.Need-returns-2
-returns-2 c = search needs
+unfolding orEntry
+returns-2 c = rw (le-ltb _ _ (c .if1 .left))
 
 pub or-entry-spec : {M : Type 1} → statement M
 or-entry-spec =

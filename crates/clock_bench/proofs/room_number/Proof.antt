@@ -11,10 +11,10 @@ room-of-requires-2 : tie.Need-room-of-requires-2
 room-of-requires-2 c κs = search needs
 
 returns : tie.Need-returns
-returns c = search needs
+returns c = rw (← c .before .before .room-of .ensures, ← c .before .room-of2 .ensures, le-leb _ _ (c .if1 .taken))
 
 returns-2 : tie.Need-returns-2
-returns-2 c = search needs
+returns-2 c = rw (← c .before .before .room-of .ensures, ← c .before .room-of2 .ensures, lt-leb _ _ (c .if1 .left))
 
 pub room-number-spec : {M : Type 1} → statement M
 room-number-spec = tie.close (tie.spec room-of-requires room-of-requires-2 returns returns-2)

@@ -1,68 +1,77 @@
+-- `clock_bench::run_down` runs down the list, event by event. Assumes nothing.
+use Prim.Native.Nat.{_-_}
+use native.Mathlib.Omega.{arith}
+use mathlib.Core.Path.{ap, _∙_}
+use mathlib.Core.Bool.{true, false}
+use lib.IntN.{pos}
+use lib.ListN.{getD}
+use lib.Ieee.{nan}
+use borrow.Author.Tests.{not-true, not-false}
+use Rattle.clock_bench.specs.RunningDown.{runnerPast}
+use mir.Syntax.{w32}
+use mir.Val.{toZ, ofZ}
+use Rattle.rows.proofs.BackFromBits.{back}
+use Rattle.clock_bench.proofs.RunsOn.{RunTo, found, setting-off, stopped, through, turned}
 use borrow.Author.Needs.{needs}
 use Rattle.clock_bench.proofs.run_down.Statement.{statement}
 use Rattle.clock_bench.proofs.run_down.Tie as tie
-use Rattle.clock_bench.proofs.run_down.Reads as reads
-use Rattle.clock_bench.proofs.run_down.Lts as lts
-use Rattle.clock_bench.proofs.comes_before.Reads as comes-before-reads
-use Rattle.clock_bench.proofs.runner_past.Reads as runner-past-reads
 
 abbrev Inv-loop : tie.InvT-loop
-Inv-loop asked laid rows kinds numbers at₀ i₀ at i = ?
+Inv-loop asked laid rows kinds numbers at₀ i₀ at i = RunTo (toZ w32 asked) at₀ laid rows kinds numbers at i
 
 abbrev μ-loop : tie.MeasureT-loop
-μ-loop asked laid rows kinds numbers at₀ i₀ at i = ?
+μ-loop asked laid rows kinds numbers at₀ i₀ at i = laid - i
 
--- src/lib.rt:313:5
 loop-holds : tie.Need-loop-holds Inv-loop μ-loop
-loop-holds c = search needs
+loop-holds c = let s = c .before .before in let a = s .args in setting-off (toZ w32 (ofZ w32 (a .asked))) (a .start) (a .laid) (a .rows .now) (a .kinds .now) (a .numbers .now) (s .pre .3)
 
--- src/lib.rt:314:19
 mul-row : tie.Need-mul-row Inv-loop μ-loop
-mul-row c = search needs
+mul-row c = let s = c .before .before .before .before in record { fits = omega (arith, c .loop-test .taken, s .pre .0, s .good .1 .1 .1 .0 .1) }
 
--- src/lib.rt:314:19
 shared-slice-copy-out-row : tie.Need-shared-slice-copy-out-row Inv-loop μ-loop
-shared-slice-copy-out-row c = search needs
+shared-slice-copy-out-row c = let s = c .before .before .before .before in omega (arith, c .loop-test .taken, s .pre .0)
 
--- src/lib.rt:315:20
 shared-slice-read-kind : tie.Need-shared-slice-read-kind Inv-loop μ-loop
-shared-slice-read-kind c = search needs
+shared-slice-read-kind c = let s = c .before .before .before .before .before .before in omega (arith, c .before .before .loop-test .taken, s .pre .1)
 
--- src/lib.rt:316:13
 comes-before-requires : tie.Need-comes-before-requires Inv-loop μ-loop
 comes-before-requires c κs = search needs
 
--- src/lib.rt:317:13
 returns : tie.Need-returns Inv-loop μ-loop
-returns c = search needs
+returns c =
+    let s = c .before .before .before .before .before .before .before .before in
+    let a = s .args in
+    let l = c .before .before .before .before .before .loop in
+    rw (back (a .asked) (s .fits .asked)) at (stopped (toZ w32 (ofZ w32 (a .asked))) (a .start) (a .laid) (a .rows .now) (a .kinds .now) (a .numbers .now) (l .at) (l .i) (l .inv) (found _ (getD (a .rows .now) (l .i) (pos 0)) (getD (a .kinds .now) (l .i) 0) (c .before .comes-before .result) false (record { sfits = c .before .before .before .row .given }) (c .before .comes-before .ensures) (not-true _ (c .if1 .taken))) (c .before .before .before .before .loop-test .taken) (s .pre .0) (s .pre .1) (s .pre .2))
 
--- src/lib.rt:319:41
 mul-runner-past : tie.Need-mul-runner-past Inv-loop μ-loop
-mul-runner-past c = search needs
+mul-runner-past c = let s = c .before .before .before .before .before .before .before .before in record { fits = omega (arith, c .before .before .before .before .loop-test .taken, s .pre .2, s .good .1 .1 .1 .1 .1 .0 .1) }
 
--- src/lib.rt:319:41
 shared-slice-read-runner-past : tie.Need-shared-slice-read-runner-past Inv-loop μ-loop
-shared-slice-read-runner-past c = search needs
+shared-slice-read-runner-past c = let s = c .before .before .before .before .before .before .before .before .before in omega (arith, c .before .before .before .before .before .loop-test .taken, s .pre .2)
 
--- src/lib.rt:319:9
 runner-past-requires : tie.Need-runner-past-requires Inv-loop μ-loop
-runner-past-requires c κs = search needs
+runner-past-requires c κs = let s = c .before .before .before .before .before .before .before .before .before in omega (arith, c .before .before .before .before .before .loop-test .taken, c .before .before .before .before .before .before .loop .inv .passed, s .pre .0, s .good .1 .1 .1 .0 .1)
 
--- src/lib.rt:320:9
 add-i : tie.Need-add-i Inv-loop μ-loop
-add-i c = search needs
+add-i c = let s = c .before .before .before .before .before .before .before .before .before .before in record { fits = omega (arith, c .before .before .before .before .before .before .loop-test .taken, s .pre .0, s .good .1 .1 .1 .0 .1) }
 
--- src/lib.rt:313:5
 loop-less : tie.Need-loop-less Inv-loop μ-loop
-loop-less c = search needs
+loop-less c = omega (arith, c .before .before .before .before .before .before .loop-test .taken)
 
--- src/lib.rt:313:5
 loop-again : tie.Need-loop-again Inv-loop μ-loop
-loop-again c = search needs
+loop-again c =
+    let s = c .before .before .before .before .before .before .before .before .before .before in
+    let a = s .args in
+    let l = c .before .before .before .before .before .before .before .loop in
+    turned (toZ w32 (ofZ w32 (a .asked))) (a .start) (a .laid) (a .rows .now) (a .kinds .now) (a .numbers .now) (l .at) (l .i) (l .inv) (c .runner-past .result) (c .runner-past .ensures ∙ ap (λ at. runnerPast (l .at) at (getD (a .kinds .now) (l .i) 0) (getD (a .numbers .now) (l .i) nan)) (back (getD (a .rows .now) (l .i) (pos 0)) (record { sfits = c .before .before .before .before .before .row .given }))) (found _ (getD (a .rows .now) (l .i) (pos 0)) (getD (a .kinds .now) (l .i) 0) (c .before .before .before .comes-before .result) true (record { sfits = c .before .before .before .before .before .row .given }) (c .before .before .before .comes-before .ensures) (not-false _ (c .before .before .if1 .left))) (c .before .before .before .before .before .before .loop-test .taken) (s .pre .0) (s .pre .1) (s .pre .2)
 
--- src/lib.rt:300:1
 returns-2 : tie.Need-returns-2 Inv-loop μ-loop
-returns-2 c = search needs
+returns-2 c =
+    let s = c .before .before .before .before in
+    let a = s .args in
+    let l = c .before .loop in
+    rw (back (a .asked) (s .fits .asked)) at (through (toZ w32 (ofZ w32 (a .asked))) (a .start) (a .laid) (a .rows .now) (a .kinds .now) (a .numbers .now) (l .at) (l .i) (l .inv) (c .loop-test .left))
 
 pub run-down-spec : {M : Type 1} → statement M
 run-down-spec =
