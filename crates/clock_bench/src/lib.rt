@@ -31,19 +31,19 @@ const NONE_LEFT: u8 = 5;
 // ---- laying out
 
 // The next event: its row and its kind.
-struct Head {
-    row: i32,
-    kind: u8,
+pub struct Head {
+    pub row: i32,
+    pub kind: u8,
 }
 
 // How far the laying has come: a place in each list, the furthest end of a warp so far, and whether a warp is open.
-struct Spot {
-    tempos: usize,
-    stops: usize,
-    delays: usize,
-    warps: usize,
-    end: f64,
-    warping: bool,
+pub struct Spot {
+    pub tempos: usize,
+    pub stops: usize,
+    pub delays: usize,
+    pub warps: usize,
+    pub end: f64,
+    pub warping: bool,
 }
 
 // An event of the list, with what it brings: a tempo, the seconds of a pause, the beat where a warp ends.
@@ -238,12 +238,12 @@ fn lay_events(
 // ---- running down
 
 // How far a run down the list has come: the row, the time and the tempo there, whether a warp is open, and how many events were passed.
-struct Runner {
-    row: i32,
-    time: f64,
-    tempo: f64,
-    warping: bool,
-    passed: usize,
+pub struct Runner {
+    pub row: i32,
+    pub time: f64,
+    pub tempo: f64,
+    pub warping: bool,
+    pub passed: usize,
 }
 
 // Whether an event comes before the asked beat.
