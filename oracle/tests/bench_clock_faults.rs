@@ -1,12 +1,13 @@
 //! The comparison of the bench clock finds faults: calls that are the port's but for one thing each.
 #![cfg(feature = "port")]
 
+use std::sync::atomic::{AtomicU64, Ordering::Relaxed};
+
 use oracle::bench_clock::{
     BenchAnswer, Calls, Columns, DELAY_BEGINS, PORT, Rooms, STOP_BEGINS, WARP_BEGINS, WARP_ENDS, bench_time_for_beat,
-    compare, events, lay_out_events, most_events,
+    compare, lay_out_events, most_events,
 };
 use oracle::cases::Work;
-use oracle::random::Random;
 use oracle::tidying::Outcome;
 use oracle::timing::probe;
 use oracle::timings::{Chart, WARPS};
@@ -25,23 +26,26 @@ fn the_port_lays_and_answers_as_expected() {
     assert_eq!([laid.different, questions.different], [0, 0]);
 }
 
-/// Rows that fall, warps that never end, and an end that is reached again are among the lists.
+/// Among the lists that are laid are rows that fall, warps that never end, and ends that are reached again.
 #[test]
 fn what_is_rare_is_tried() {
-    let mut random = Random::new(1, "bench clock");
-    let [mut falling, mut never, mut again] = [0; 3];
-    for turn in 0..1_000 {
-        let list = events(&Chart::sound(turn, &mut random));
-        let of = |kind: u8| list.iter().filter(move |event| event.kind == kind);
-        falling += u32::from(list.windows(2).any(|two| two[1].row < two[0].row));
-        never += u32::from(
-            list.iter()
-                .rfind(|event| matches!(event.kind, WARP_ENDS | WARP_BEGINS))
-                .is_some_and(|event| event.kind == WARP_BEGINS),
-        );
-        again += u32::from(of(WARP_ENDS).zip(of(WARP_ENDS).skip(1)).any(|(one, two)| one.row == two.row));
+    static FALLING: AtomicU64 = AtomicU64::new(0);
+    static NEVER: AtomicU64 = AtomicU64::new(0);
+    static AGAIN: AtomicU64 = AtomicU64::new(0);
+    fn lay_out(chart: &Chart, columns: &mut Columns, rooms: Rooms) -> Outcome {
+        let outcome = lay_out_events(chart, columns, rooms);
+        let list: Vec<_> = columns.rows.iter().zip(&columns.kinds).take(outcome.count).collect();
+        let ends: Vec<_> = list.iter().filter(|(_, kind)| **kind == WARP_ENDS).map(|(row, _)| *row).collect();
+        let last = list.iter().rfind(|(_, kind)| [WARP_ENDS, WARP_BEGINS].contains(*kind));
+        FALLING.fetch_add(list.windows(2).any(|two| two[1].0 < two[0].0).into(), Relaxed);
+        NEVER.fetch_add(last.is_some_and(|(_, kind)| **kind == WARP_BEGINS).into(), Relaxed);
+        AGAIN.fetch_add(ends.windows(2).any(|two| two[0] == two[1]).into(), Relaxed);
+        outcome
     }
-    assert!(falling >= 50 && never >= 50 && again >= 50, "{falling} {never} {again}");
+    assert_eq!(different(Calls { lay_out, ..PORT }), [0, 0]);
+    for count in [&FALLING, &NEVER, &AGAIN] {
+        assert!(count.load(Relaxed) >= 20, "{FALLING:?} {NEVER:?} {AGAIN:?}");
+    }
 }
 
 #[test]
