@@ -460,9 +460,9 @@ marrighentu_made marrighentu_run(
  * clock above, which needs no room and keeps its place. */
 
 /* All events of a timing in the order in which they fall, an entry of each column for each: its row, its kind (MARRIGHENTU_WARP_ENDS and so on), and what
- * it brings: a tempo its beats a minute, a stop or a delay its seconds, a warp and a warp's end the beat where the warp ends. Warps that overlap have one
- * end, the furthest. Rows may fall: a warp of negative length ends on a lower row than it begins. A timing without a tempo has the one of 60 on row 0.
- * The answer's count is the number of events.
+ * it brings: a tempo its beats a minute, a stop or a delay its seconds, a warp and a warp's end the beat where it ends, which is the furthest end of all
+ * warps so far. Warps that overlap end once. Rows may fall: a warp of negative length ends on a lower row than it begins. A timing without a tempo has
+ * the one of 60 on row 0. The answer's count is the number of events.
  *
  * Each column needs an entry for each tempo (for one at least), stop and delay, and two for each warp, though some may stay as they were:
  * MARRIGHENTU_MOST_EVENTS are always enough. Refused with 1 to 5 as marrighentu_check_timing refuses, and last with 7 where the shortest column has fewer.

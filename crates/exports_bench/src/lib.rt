@@ -21,7 +21,8 @@ pub extern "C" fn marrighentu_lay_out_events(
     numbers: &mut [f64],
 ) -> Outcome
     ensures { λ r.
-        let t = timing «tempo_beats».entry.now «tempo_values».entry.now «stop_beats».entry.now «stop_values».entry.now «delay_beats».entry.now «delay_values».entry.now «warp_beats».entry.now «warp_lengths».entry.now in
+        let t = timing «tempo_beats».entry.now «tempo_values».entry.now «stop_beats».entry.now «stop_values».entry.now
+        «delay_beats».entry.now «delay_values».entry.now «warp_beats».entry.now «warp_lengths».entry.now in
         let old = eventRoom rows.entry.now kinds.entry.now numbers.entry.now in
         let new = eventRoom rows.exit.now kinds.exit.now numbers.exit.now in
         ⌜ EventsLaid t r old new ⌝ }
@@ -60,7 +61,8 @@ pub extern "C" fn marrighentu_bench_time_for_beat(
     numbers: &mut [f64],
 ) -> BenchAnswer
     ensures { λ r.
-        let t = timing «tempo_beats».entry.now «tempo_values».entry.now «stop_beats».entry.now «stop_values».entry.now «delay_beats».entry.now «delay_values».entry.now «warp_beats».entry.now «warp_lengths».entry.now in
+        let t = timing «tempo_beats».entry.now «tempo_values».entry.now «stop_beats».entry.now «stop_values».entry.now
+        «delay_beats».entry.now «delay_values».entry.now «warp_beats».entry.now «warp_lengths».entry.now in
         let old = eventRoom rows.entry.now kinds.entry.now numbers.entry.now in
         let new = eventRoom rows.exit.now kinds.exit.now numbers.exit.now in
         ⌜ BenchAnswered t offset global beat r old new ⌝ }
