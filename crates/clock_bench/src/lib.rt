@@ -195,7 +195,8 @@ fn lay_events(
 ) -> usize
     requires { ⌜ (most ≤ length rows.now) × (most ≤ length kinds.now) × (most ≤ length numbers.now) ⌝ }
     ensures { λ r.
-        let t = timing «tempo_beats».entry.now «tempo_values».entry.now «stop_beats».entry.now «stop_values».entry.now «delay_beats».entry.now «delay_values».entry.now «warp_beats».entry.now «warp_lengths».entry.now in
+        let t = timing «tempo_beats».entry.now «tempo_values».entry.now «stop_beats».entry.now «stop_values».entry.now
+        «delay_beats».entry.now «delay_values».entry.now «warp_beats».entry.now «warp_lengths».entry.now in
         let list = listedWithin most t firstSpot in
         let old = eventRoom rows.entry.now kinds.entry.now numbers.entry.now in
         let new = eventRoom rows.exit.now kinds.exit.now numbers.exit.now in
@@ -372,7 +373,8 @@ fn lay_filled(
 ) -> usize
     requires { ⌜ (most ≤ length rows.now) × (most ≤ length kinds.now) × (most ≤ length numbers.now) ⌝ }
     ensures { λ r.
-        let t = timing «tempo_beats».entry.now «tempo_values».entry.now «stop_beats».entry.now «stop_values».entry.now «delay_beats».entry.now «delay_values».entry.now «warp_beats».entry.now «warp_lengths».entry.now in
+        let t = timing «tempo_beats».entry.now «tempo_values».entry.now «stop_beats».entry.now «stop_values».entry.now
+        «delay_beats».entry.now «delay_values».entry.now «warp_beats».entry.now «warp_lengths».entry.now in
         let list = listedWithin most (withATempo t) firstSpot in
         let old = eventRoom rows.entry.now kinds.entry.now numbers.entry.now in
         let new = eventRoom rows.exit.now kinds.exit.now numbers.exit.now in
@@ -415,7 +417,8 @@ pub fn lay_out_events(
     numbers: &mut [f64],
 ) -> Outcome
     ensures { λ r.
-        let t = timing «tempo_beats».entry.now «tempo_values».entry.now «stop_beats».entry.now «stop_values».entry.now «delay_beats».entry.now «delay_values».entry.now «warp_beats».entry.now «warp_lengths».entry.now in
+        let t = timing «tempo_beats».entry.now «tempo_values».entry.now «stop_beats».entry.now «stop_values».entry.now
+        «delay_beats».entry.now «delay_values».entry.now «warp_beats».entry.now «warp_lengths».entry.now in
         let old = eventRoom rows.entry.now kinds.entry.now numbers.entry.now in
         let new = eventRoom rows.exit.now kinds.exit.now numbers.exit.now in
         ⌜ EventsLaid t r old new ⌝ }
@@ -501,7 +504,8 @@ pub fn bench_time_for_beat(
     numbers: &mut [f64],
 ) -> BenchAnswer
     ensures { λ r.
-        let t = timing «tempo_beats».entry.now «tempo_values».entry.now «stop_beats».entry.now «stop_values».entry.now «delay_beats».entry.now «delay_values».entry.now «warp_beats».entry.now «warp_lengths».entry.now in
+        let t = timing «tempo_beats».entry.now «tempo_values».entry.now «stop_beats».entry.now «stop_values».entry.now
+        «delay_beats».entry.now «delay_values».entry.now «warp_beats».entry.now «warp_lengths».entry.now in
         let old = eventRoom rows.entry.now kinds.entry.now numbers.entry.now in
         let new = eventRoom rows.exit.now kinds.exit.now numbers.exit.now in
         ⌜ BenchAnswered t offset global beat r old new ⌝ }
