@@ -1,7 +1,8 @@
 #!/usr/bin/env python3
 """structure.py [--check]: writes docs/STRUCTURE.md and docs/structure.svg from crates.txt and the sources: the families of crates and what they stand on, and
 for each crate its public calls with those who call them, its definitions and its laws. With --check it only says whether both are as they should be, whether
-crates.txt lists for each crate just the crates that its files name, and whether a definition's name stands in two crates.
+crates.txt lists for each crate just the crates that its files name, whether a definition's name stands in two crates, and whether crates that are held against each
+other stand apart.
 
 crates.txt has the families in the order in which data flows; a comment '# NAME: words' begins one."""
 import html
@@ -11,6 +12,9 @@ import sys
 
 root = pathlib.Path(__file__).resolve().parent.parent
 KIT = {"io", "libc", "check", "bytes", "os", "std"}
+
+# crates that are held against each other by a theorem, so that the first must not stand on the second, directly or through others
+APART = [("clock_bench", "clock_walk")]
 
 
 # ---- what crates.txt lists
@@ -62,8 +66,8 @@ def twice(listed):
             yield f"{word} is defined in {' and in '.join(sorted(names))}"
 
 
-def implied(listed):
-    """Of what a crate stands on, what none of the others stands on already."""
+def reached(listed):
+    """All that a crate stands on, directly or through others."""
     below = {}
 
     def reach(name):
@@ -74,6 +78,21 @@ def implied(listed):
 
     for name in listed:
         reach(name)
+    return below
+
+
+def not_apart(listed):
+    below = reached(listed)
+    for one, other in APART:
+        if one not in listed or other not in listed:
+            yield f"{one} and {other} are to stand apart, and crates.txt does not list both"
+        elif other in below[one]:
+            yield f"{one} stands on {other}, which it is held against"
+
+
+def implied(listed):
+    """Of what a crate stands on, what none of the others stands on already."""
+    below = reached(listed)
     return {name: [one for one in needs if one in listed and not any(one in below[other] for other in needs if other in listed and other != one)] for name, needs in listed.items()}
 
 
@@ -216,7 +235,7 @@ def written(listed, families, edges):
 
 def main():
     listed, families = crates()
-    wrong = list(wrong_lists(listed)) + list(twice(listed))
+    wrong = list(wrong_lists(listed)) + list(twice(listed)) + list(not_apart(listed))
     if wrong:
         sys.exit("structure: " + "; ".join(wrong))
     edges = implied(listed)

@@ -1,4 +1,4 @@
-/* A chart through the C functions: assembly, the clock, the lookups, and stops for SM. Prints what it found, and ends with 1 where an answer is not the expected one. */
+/* A chart through the C functions: assembly, the clock and the second one, the lookups, and stops for SM. Prints what it found, and ends with 1 where an answer is not the expected one. */
 #include <stdio.h>
 #include <string.h>
 
@@ -36,13 +36,13 @@ static bool same_cursor(const marrighentu_cursor *a, const marrighentu_cursor *b
         && s->warping == t->warping && s->time == t->time && s->end == t->end && a->asked == b->asked;
 }
 
-/* The columns that every question of the clock takes. */
-#define CLOCK_COLUMNS(t)                                                                             \
+/* The columns of a timing, and what every question of the clock takes. */
+#define TIMING_COLUMNS(t)                                                                            \
     (t)->tempo_beats, (t)->made.tempos, (t)->tempo_values, (t)->made.tempos,                         \
     (t)->stop_beats, (t)->made.stops, (t)->stop_values, (t)->made.stops,                             \
     (t)->delay_beats, (t)->made.delays, (t)->delay_values, (t)->made.delays,                         \
-    (t)->warp_beats, (t)->made.warps, (t)->warp_lengths, (t)->made.warps,                            \
-    (t)->offset, (t)->global_offset
+    (t)->warp_beats, (t)->made.warps, (t)->warp_lengths, (t)->made.warps
+#define CLOCK_COLUMNS(t) TIMING_COLUMNS(t), (t)->offset, (t)->global_offset
 
 /* The columns that a lookup takes. */
 #define WARP_COLUMNS(t)                                                                              \
@@ -104,10 +104,33 @@ int main(void) {
     expect( numbers[0] == 0 && numbers[1] == MARRIGHENTU_BAD_BEAT && numbers[2] == 0, "a run's numbers");
     expect(times[0] == 0.0 && times[2] == 5.5 && counts[1] == 0, "a run's seconds");
 
+    /* the events one by one, as the second clock has them: a tempo, a warp, its end, a stop */
+    int32_t event_rows[5];
+    uint8_t event_kinds[5];
+    double event_numbers[5];
+    const int32_t fall_on[] = {0, 4 * 48, 12 * 48, 16 * 48};
+    const uint8_t of_kind[] = {MARRIGHENTU_TEMPO, MARRIGHENTU_WARP, MARRIGHENTU_WARP_ENDS, MARRIGHENTU_STOP};
+    const double bring[] = {120, 12, 12, 1};
+    marrighentu_outcome outcome = marrighentu_lay_out_events(TIMING_COLUMNS(t), event_rows, 3, event_kinds, 5, event_numbers, 5);
+    expect(outcome.number == MARRIGHENTU_NO_ROOM && outcome.count == 0, "a tempo, a stop and a warp need four places");
+    outcome = marrighentu_lay_out_events(TIMING_COLUMNS(t), event_rows, 4, event_kinds, 5, event_numbers, 5);
+    expect(outcome.number == MARRIGHENTU_TAKEN && outcome.count == 4, "four events");
+    for (size_t i = 0; i < 4; i++) {
+        printf("event on row %d: kind %u, %g\n", (int)event_rows[i], (unsigned)event_kinds[i], event_numbers[i]);
+        expect(event_rows[i] == fall_on[i] && event_kinds[i] == of_kind[i] && event_numbers[i] == bring[i], "an event");
+    }
+    for (size_t i = 0; i < sizeof beats / sizeof *beats; i++) {
+        marrighentu_bench_answer bench = marrighentu_bench_time_for_beat(
+            CLOCK_COLUMNS(t), beats[i], event_rows, 5, event_kinds, 5, event_numbers, 5);
+        marrighentu_answer fresh = marrighentu_get_time_for_beat(CLOCK_COLUMNS(t), beats[i]);
+        expect(bench.number == MARRIGHENTU_TAKEN && bench.time == expected[i] && bench.laid == 4, "the second clock");
+        expect(bench.time == fresh.time && bench.count == fresh.count, "the second clock and the first");
+    }
+
     /* which notes of a sheet are judged: one in the warp and one in the fake are not */
     const int32_t rows[] = {0, 6 * 48, 12 * 48, 20 * 48 + 24};
     uint8_t judged[4];
-    marrighentu_outcome outcome = marrighentu_judgable_rows(LOOKUP_COLUMNS(t), rows, 4, judged, 4);
+    outcome = marrighentu_judgable_rows(LOOKUP_COLUMNS(t), rows, 4, judged, 4);
     expect(outcome.number == MARRIGHENTU_TAKEN && outcome.count == 4, "a sheet is taken");
     for (size_t i = 0; i < 4; i++) printf("row %d is %s\n", (int)rows[i], judged[i] ? "judged" : "not judged");
     expect(judged[0] == 1 && judged[1] == 0 && judged[2] == 1 && judged[3] == 0, "the judged rows");

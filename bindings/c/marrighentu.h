@@ -55,6 +55,9 @@ enum marrighentu_refusal {
 
 enum { MARRIGHENTU_MOST_ENTRIES = 1024, MARRIGHENTU_ROWS_PER_BEAT = 48 };
 
+/* Columns of this length hold the events of every timing. */
+enum { MARRIGHENTU_MOST_EVENTS = 5 * MARRIGHENTU_MOST_ENTRIES };
+
 /* So many bytes for each entry always hold a tempo list's text. */
 enum { MARRIGHENTU_TEMPO_TEXT_BYTES = 33 };
 
@@ -63,6 +66,15 @@ enum marrighentu_format { MARRIGHENTU_SM = 0, MARRIGHENTU_SSC = 1 };
 
 /* What a speed's delay is counted in. */
 enum marrighentu_unit { MARRIGHENTU_BEATS = 0, MARRIGHENTU_SECONDS = 1 };
+
+/* The kinds of event, in the order in which they come on one row. A note on that row comes after a delay and before a stop. */
+enum marrighentu_kind {
+    MARRIGHENTU_WARP_ENDS = 0,
+    MARRIGHENTU_TEMPO = 1,
+    MARRIGHENTU_DELAY = 2,
+    MARRIGHENTU_STOP = 3,
+    MARRIGHENTU_WARP = 4
+};
 
 /* How far a walk through a timing has come: a place in each list, the row and the second of the last event passed, the beat where the
  * warp ends, and whether it is warping. */
@@ -103,6 +115,14 @@ typedef struct {
     uint32_t number;
     marrighentu_cursor cursor;
 } marrighentu_made;
+
+/* A question's number to the second clock, its second, the events it passed and one, and how many events were laid out. */
+typedef struct {
+    uint32_t number;
+    double time;
+    size_t count;
+    size_t laid;
+} marrighentu_bench_answer;
 
 /* A lookup's number and answer; no after a refusal. */
 typedef struct {
@@ -434,6 +454,51 @@ marrighentu_made marrighentu_run(
     double *times, size_t times_length,
     size_t *counts, size_t counts_length);
 
+/* ---- the second clock, for tests and for people who want to see what happens when
+ *
+ * It lays out all events of a timing as one list, in three columns that are lent for it, and answers by running down that list. For a game there is the
+ * clock above, which needs no room and keeps its place. */
+
+/* All events of a timing in the order in which they fall, an entry of each column for each: its row, its kind (MARRIGHENTU_WARP_ENDS and so on), and what
+ * it brings: a tempo its beats a minute, a stop or a delay its seconds, a warp and a warp's end the beat where it ends, which is the furthest end of all
+ * warps so far. Warps that overlap end once. Rows may fall: a warp of negative length ends on a lower row than it begins. A timing without a tempo has
+ * the one of 60 on row 0. The answer's count is the number of events.
+ *
+ * Each column needs an entry for each tempo (for one at least), stop and delay, and two for each warp, though some may stay as they were:
+ * MARRIGHENTU_MOST_EVENTS are always enough. Refused with 1 to 5 as marrighentu_check_timing refuses, and last with 7 where the shortest column has fewer.
+ */
+marrighentu_outcome marrighentu_lay_out_events(
+    const float *tempo_beats, size_t tempo_beats_length,
+    const float *tempo_values, size_t tempo_values_length,
+    const float *stop_beats, size_t stop_beats_length,
+    const float *stop_values, size_t stop_values_length,
+    const float *delay_beats, size_t delay_beats_length,
+    const float *delay_values, size_t delay_values_length,
+    const float *warp_beats, size_t warp_beats_length,
+    const float *warp_lengths, size_t warp_lengths_length,
+    int32_t *rows, size_t rows_length,
+    uint8_t *kinds, size_t kinds_length,
+    double *numbers, size_t numbers_length);
+
+/* At what second is this beat? Lays out the events as marrighentu_lay_out_events does, then runs down them from the start as far as they come before the
+ * beat: on a lower row, or on its row up to a delay. The first that does not ends the run, even where rows fall behind it. Refused as
+ * marrighentu_get_time_for_beat refuses, and last with 7 for the room.
+ */
+marrighentu_bench_answer marrighentu_bench_time_for_beat(
+    const float *tempo_beats, size_t tempo_beats_length,
+    const float *tempo_values, size_t tempo_values_length,
+    const float *stop_beats, size_t stop_beats_length,
+    const float *stop_values, size_t stop_values_length,
+    const float *delay_beats, size_t delay_beats_length,
+    const float *delay_values, size_t delay_values_length,
+    const float *warp_beats, size_t warp_beats_length,
+    const float *warp_lengths, size_t warp_lengths_length,
+    double offset, double global_offset,
+    double beat,
+    int32_t *rows, size_t rows_length,
+    uint8_t *kinds, size_t kinds_length,
+    double *numbers, size_t numbers_length);
+
 /* ---- lookups: which notes are judged */
 
 /* Whether a row is warped: the last warp at or before it reaches beyond it, and no positive stop or delay is on it. */
@@ -678,6 +743,8 @@ MARRIGHENTU_LAYOUT(sizeof(marrighentu_answer) == 88 && offsetof(marrighentu_answ
 MARRIGHENTU_LAYOUT(offsetof(marrighentu_answer, count) == 16 && offsetof(marrighentu_answer, cursor) == 24);
 MARRIGHENTU_LAYOUT(sizeof(marrighentu_reply) == 24 && offsetof(marrighentu_reply, time) == 8 && offsetof(marrighentu_reply, count) == 16);
 MARRIGHENTU_LAYOUT(sizeof(marrighentu_made) == 72 && offsetof(marrighentu_made, cursor) == 8);
+MARRIGHENTU_LAYOUT(sizeof(marrighentu_bench_answer) == 32 && offsetof(marrighentu_bench_answer, time) == 8);
+MARRIGHENTU_LAYOUT(offsetof(marrighentu_bench_answer, count) == 16 && offsetof(marrighentu_bench_answer, laid) == 24);
 MARRIGHENTU_LAYOUT(sizeof(marrighentu_looked) == 8 && offsetof(marrighentu_looked, yes) == 4);
 MARRIGHENTU_LAYOUT(sizeof(marrighentu_outcome) == 16 && offsetof(marrighentu_outcome, count) == 8);
 MARRIGHENTU_LAYOUT(sizeof(marrighentu_displayed) == 16 && offsetof(marrighentu_displayed, beat) == 8);

@@ -321,7 +321,7 @@ fn expected(chart: &Chart, timing: &TimingData, cursor: Cursor, beat: f64) -> An
     Answer { number: 0, time, count: counted.passed + 1, cursor: Cursor { state: counted.state, asked: row } }
 }
 
-fn lowest(numbers: impl IntoIterator<Item = u32>) -> u32 {
+pub(crate) fn lowest(numbers: impl IntoIterator<Item = u32>) -> u32 {
     numbers.into_iter().filter(|number| *number != 0).min().unwrap_or(0)
 }
 
@@ -370,14 +370,14 @@ impl Found {
 }
 
 /// A chart, the number by which it is refused, and the original's timing where it is not.
-struct Asked {
-    chart: Chart,
-    number: u32,
+pub(crate) struct Asked {
+    pub(crate) chart: Chart,
+    pub(crate) number: u32,
     timing: Option<TimingData>,
 }
 
 impl Asked {
-    fn new(chart: Chart) -> Self {
+    pub(crate) fn new(chart: Chart) -> Self {
         let number = chart.number();
         let timing = (number == 0).then(|| chart.original());
         Self { chart, number, timing }
@@ -451,7 +451,7 @@ impl Asked {
     }
 
     /// What is expected of a question to a fresh cursor.
-    fn fresh_answer(&self, beat: f64) -> Answer {
+    pub(crate) fn fresh_answer(&self, beat: f64) -> Answer {
         let chart = &self.chart;
         match (lowest([self.number, if beat_allowed(beat) { 0 } else { 3 }]), &self.timing) {
             (0, Some(timing)) => {

@@ -17,6 +17,8 @@ mod missing;
 use missing::{nps, parse, resolve_difficulty_label, stats, supported_stepstype_lanes_bytes};
 
 pub mod assembly;
+#[cfg(feature = "port")]
+pub mod bench_clock;
 pub mod calls;
 pub mod cases;
 pub mod charts;

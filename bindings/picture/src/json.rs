@@ -1,7 +1,7 @@
 //! What is seen, as JSON.
 
 use crate::seen::Seen;
-use marrighentu::{Columns, Format, SpeedUnit};
+use marrighentu::{Columns, Event, EventKind, Format, SpeedUnit, note_row_to_beat};
 use marrighentu_charts::{ChartFile, Fault};
 use std::fmt::{Display, Write};
 
@@ -153,6 +153,22 @@ pub fn file(name: &str, file: &ChartFile, seen: Option<&Seen>) -> Json {
     Json::Fields(fields)
 }
 
+fn event(event: &Event) -> Json {
+    let (kind, number) = match event.kind {
+        EventKind::WarpEnds => ("warp ends", Json::number(event.number)),
+        EventKind::Tempo => ("tempo", Json::number(event.number as f32)),
+        EventKind::Delay => ("delay", Json::number(event.number as f32)),
+        EventKind::Stop => ("stop", Json::number(event.number as f32)),
+        EventKind::Warp => ("warp", Json::number(event.number)),
+    };
+    Json::Fields(vec![
+        ("row", Json::number(event.row)),
+        ("beat", Json::number(note_row_to_beat(event.row))),
+        ("kind", Json::text(kind)),
+        ("number", number),
+    ])
+}
+
 fn timing(seen: &Seen) -> Vec<(&'static str, Json)> {
     let timing = &seen.timing;
     let speeds = timing.speeds().iter().map(|speed| {
@@ -190,6 +206,9 @@ fn timing(seen: &Seen) -> Vec<(&'static str, Json)> {
         ("fakes", columns(timing.fakes(), "beats")),
         ("beats", Json::List(asked.collect())),
     ];
+    if let Some(events) = &seen.events {
+        fields.push(("events", Json::List(events.iter().map(event).collect())));
+    }
     if let Some(rows) = &seen.notes {
         let rows = rows.iter().map(|row| {
             let notes = row.notes.iter().map(|note| {

@@ -68,6 +68,7 @@ fn run(wanted: &Wanted) -> Result<String, String> {
     let question = Question {
         chart,
         beats: &wanted.beats,
+        events: wanted.events,
         notes: wanted.notes,
         global: wanted.global,
         pass_over: wanted.pass_over,

@@ -1,6 +1,6 @@
 //! What a machine sees of one chart: worked out once, and told as words, JSON or a picture.
 
-use marrighentu::{Refusal, Timing, beat_to_note_row, note_row_to_beat};
+use marrighentu::{Event, Refusal, Timing, beat_to_note_row, note_row_to_beat};
 use marrighentu_charts::{ChartFile, ChartText, Fault, Note};
 
 /// A beat that was asked.
@@ -38,6 +38,8 @@ pub struct Seen {
     pub own: bool,
     pub timing: Timing,
     pub asked: Vec<Asked>,
+    /// Where events were asked for.
+    pub events: Option<Vec<Event>>,
     /// Where notes were asked for.
     pub notes: Option<Vec<NoteRow>>,
     /// The last row of a note that can be read, by which a picture ends.
@@ -86,6 +88,7 @@ fn note_rows(timing: &Timing, notes: &[Note]) -> Result<Vec<NoteRow>, String> {
 pub struct Question<'a> {
     pub chart: Option<ChartText<'a>>,
     pub beats: &'a [f64],
+    pub events: bool,
     pub notes: bool,
     pub global: f64,
     pub pass_over: bool,
@@ -113,11 +116,13 @@ pub fn see(file: &ChartFile, question: &Question<'_>) -> Result<Seen, String> {
             Some(note_rows(&timing, &notes).map_err(|why| format!(" {why}"))?)
         }
     };
+    let events = question.events.then(|| timing.events()).transpose().map_err(|refusal| format!(" {refusal}"))?;
     Ok(Seen {
         chart: question.chart.map(|chart| chart.number()),
         own: read.is_own(),
         asked: asked(&timing, question.beats).map_err(|why| format!(" {why}"))?,
         timing,
+        events,
         notes,
         last_row,
         passed_over,

@@ -1,7 +1,7 @@
 //! What is seen, in lines of words.
 
 use crate::seen::{NoteRow, Seen};
-use marrighentu::{Columns, SpeedUnit, Timing};
+use marrighentu::{Columns, Event, EventKind, SpeedUnit, Timing, note_row_to_beat};
 use marrighentu_charts::{ChartFile, ChartText};
 use std::fmt::Write;
 
@@ -28,6 +28,18 @@ fn lists(out: &mut String, timing: &Timing) {
     list(out, "fake", timing.fakes(), "beats");
 }
 
+/// What happens at an event. Tempos and seconds are f32, as their lists have them.
+fn happens(event: &Event) -> String {
+    let of_list = event.number as f32;
+    match event.kind {
+        EventKind::WarpEnds => format!("warp ends, at beat {}", event.number),
+        EventKind::Tempo => format!("tempo of {of_list} beats a minute"),
+        EventKind::Delay => format!("delay of {of_list} s"),
+        EventKind::Stop => format!("stop of {of_list} s"),
+        EventKind::Warp => format!("warp begins, to beat {}", event.number),
+    }
+}
+
 fn lanes(row: &NoteRow, count: usize) -> String {
     let mut lanes = vec!['0'; count];
     for note in &row.notes {
@@ -44,10 +56,13 @@ fn drawn(timing: &Timing, displayed: Option<f64>) -> String {
     }
 }
 
-/// The lists, the asked beats and the notes.
+/// The lists, the events, the asked beats and the notes.
 pub fn seen(seen: &Seen) -> String {
     let mut out = String::new();
     lists(&mut out, &seen.timing);
+    for event in seen.events.as_deref().unwrap_or(&[]) {
+        let _ = writeln!(out, "event   beat {} row {} {}", note_row_to_beat(event.row), event.row, happens(event));
+    }
     for asked in &seen.asked {
         let judged = match (asked.warped, asked.fake) {
             (false, false) => "judged",

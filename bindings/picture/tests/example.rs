@@ -194,6 +194,57 @@ fn notes_have_their_times() {
 }
 
 #[test]
+fn events_are_told_in_the_order_in_which_they_fall() {
+    let lists = "#VERSION:0.83;#BPMS:0=120,6=174.3;#STOPS:5=1;#DELAYS:6=0.1;#WARPS:4=2,8=-1;";
+    let file = written("events.ssc", lists);
+    let told = said(&[&file, "--header", "--events", "--beats", "9"]);
+    let events: Vec<&str> = told.lines().filter(|line| line.starts_with("event")).collect();
+    assert_eq!(
+        events,
+        [
+            "event   beat 0 row 0 tempo of 120 beats a minute",
+            "event   beat 4 row 192 warp begins, to beat 6",
+            "event   beat 5 row 240 stop of 1 s",
+            "event   beat 6 row 288 warp ends, at beat 6",
+            "event   beat 6 row 288 tempo of 174.3 beats a minute",
+            "event   beat 6 row 288 delay of 0.1 s",
+            "event   beat 8 row 384 warp begins, to beat 7",
+            "event   beat 7 row 336 warp ends, at beat 7",
+        ]
+    );
+    // behind the lists and before the beats
+    assert!(told.starts_with("offset") && told.lines().last().unwrap().starts_with("at      beat 9 "));
+    let json = Json::read(&said(&[&file, "--header", "--events", "--json"]));
+    let told: Vec<(f64, f64, &str, f64)> = json
+        .field("events")
+        .list()
+        .iter()
+        .map(|event| {
+            let number = |name| event.field(name).number();
+            (number("row"), number("beat"), event.field("kind").text(), number("number"))
+        })
+        .collect();
+    assert_eq!(
+        told,
+        [
+            (0.0, 0.0, "tempo", 120.0),
+            (192.0, 4.0, "warp", 6.0),
+            (240.0, 5.0, "stop", 1.0),
+            (288.0, 6.0, "warp ends", 6.0),
+            (288.0, 6.0, "tempo", 174.3),
+            (288.0, 6.0, "delay", 0.1),
+            (384.0, 8.0, "warp", 7.0),
+            (336.0, 7.0, "warp ends", 7.0),
+        ]
+    );
+    // nothing is said of events where they are not asked for
+    assert!(
+        !said(&[&file, "--header"]).contains("event") && !said(&[&file, "--header", "--json"]).contains("\"events\":")
+    );
+    assert!(said(&["--help"]).contains("--events"));
+}
+
+#[test]
 fn json_says_all_of_it() {
     let json = Json::read(&said(&["dozens.ssc", "--chart", "2", "--notes", "--beats", "121,0.1", "--json"]));
     assert_eq!((json.field("format").text(), json.field("title").text()), ("ssc", "Some dozens"));

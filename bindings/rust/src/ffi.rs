@@ -32,6 +32,16 @@ pub struct Reply {
     pub count: usize,
 }
 
+/// What a question to the second clock answers.
+#[derive(Clone, Copy, Debug)]
+#[repr(C)]
+pub struct BenchAnswer {
+    pub number: u32,
+    pub time: f64,
+    pub count: usize,
+    pub laid: usize,
+}
+
 /// A number and a cursor: what a new cursor answers.
 #[derive(Clone, Copy, Debug)]
 #[repr(C)]
@@ -199,6 +209,27 @@ calls! {
         room times: f64,
         room counts: usize,
     ) -> u32 = "marrighentu_lent_run";
+    fn lay_out_events(
+        list tempos: f32,
+        list stops: f32,
+        list delays: f32,
+        list warps: f32,
+        room rows: i32,
+        room kinds: u8,
+        room numbers: f64,
+    ) -> Outcome = "marrighentu_lay_out_events";
+    fn bench_time_for_beat(
+        list tempos: f32,
+        list stops: f32,
+        list delays: f32,
+        list warps: f32,
+        value offset: f64,
+        value global: f64,
+        value beat: f64,
+        room rows: i32,
+        room kinds: u8,
+        room numbers: f64,
+    ) -> BenchAnswer = "marrighentu_bench_time_for_beat";
     fn build_segment_row_storage(
         list stops: f32,
         list delays: f32,
@@ -277,6 +308,8 @@ const _: () = {
     assert!(offset_of!(State, time) == 40 && offset_of!(State, end) == 48);
     assert!(size_of::<Cursor>() == 64 && offset_of!(Cursor, asked) == 56);
     assert!(size_of::<Reply>() == 24 && offset_of!(Reply, time) == 8 && offset_of!(Reply, count) == 16);
+    assert!(size_of::<BenchAnswer>() == 32 && offset_of!(BenchAnswer, time) == 8);
+    assert!(offset_of!(BenchAnswer, count) == 16 && offset_of!(BenchAnswer, laid) == 24);
     assert!(size_of::<Numbered>() == 72 && offset_of!(Numbered, cursor) == 8);
     assert!(size_of::<Looked>() == 8 && offset_of!(Looked, yes) == 4);
     assert!(size_of::<Outcome>() == 16 && offset_of!(Outcome, count) == 8);

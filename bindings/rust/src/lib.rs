@@ -22,12 +22,14 @@
 #![deny(missing_docs)]
 
 mod cursor;
+mod events;
 mod ffi;
 mod lists;
 mod refusal;
 mod timing;
 
 pub use cursor::{Answer, Cursor, CursorState};
+pub use events::{BenchAnswer, Event, EventKind};
 pub use lists::{Chart, Columns, Entries, Format, Lists, Speed, SpeedUnit};
 pub use refusal::{NoRefusal, Refusal};
 pub use timing::{RowStore, Timing};

@@ -14,7 +14,7 @@ use Rattle.picks.specs.Pick.{pick}
 use Rattle.limits.specs.Numbers.{rowIn}
 use Rattle.clock_walk.specs.Quiet.{onlyTempos}
 use Rattle.clock_walk.proofs.PlacesWithin.{each-test, places-within}
-use Rattle.clock_walk.proofs.RowOrder.{no}
+use Rattle.rows.proofs.RowOrder.{no}
 use Rattle.clock_tests.specs.CursorNumbers.{timeAndEndIn, cursorNumber}
 use Rattle.clock_tests.proofs.CursorTaken.{cursor-taken}
 use Rattle.clock.specs.declared.Cursor.{Cursor}

@@ -11,7 +11,7 @@ use Rattle.limits.specs.Numbers.{rangeOf, inRange}
 use Rattle.limits.specs.Refusals.{lower}
 use Rattle.limits.specs.declared.Kind.the-variants.{Beat}
 use Rattle.chart.specs.Timing.{Timing}
-use Rattle.clock_walk.proofs.RowOrder.{no}
+use Rattle.rows.proofs.RowOrder.{no}
 use Rattle.clock_tests.specs.TimingNumbers.{beatNumber}
 use Rattle.clock_tests.specs.CursorNumbers.{placesIn, rowsIn, endIn, cursorNumber}
 use Rattle.clock.specs.Question.{temposOf, cursorRefusal, playerNumber, playerQuestion, refusedWith, reply}

@@ -11,7 +11,7 @@ use lib.Ieee.{Float, binary64}
 use Rattle.picks.specs.Pick.{pick}
 use Rattle.rows.specs.Rows.{row}
 use Rattle.chart.specs.Timing.{Timing, timing}
-use Rattle.clock_walk.proofs.RowOrder.{no, lt-le, le-trans, lt-not}
+use Rattle.rows.proofs.RowOrder.{no, lt-le, le-trans, lt-not}
 use Rattle.clock_tests.specs.TimingNumbers.{risesFrom, rises}
 use Rattle.clock_edits_laws.specs.AgreeingTimings.{entriesOn, upToRow, belowRow, AgreeFor}
 use Rattle.clock_edits_laws.proofs.Fronts.{frontBy, is-above, cut}

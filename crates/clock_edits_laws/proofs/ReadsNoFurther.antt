@@ -22,7 +22,7 @@ use Rattle.clock_walk.specs.declared.Event.{Event}
 use Rattle.clock_walk.specs.declared.Event.the-variants.{WarpEnd, Tempo, Delay, Stop, Warp}
 use Rattle.clock_walk.specs.declared.Due.{Due}
 use Rattle.clock_walk.specs.declared.Due.the-variants.{Passes, Asked}
-use Rattle.clock_walk.proofs.RowOrder.{no}
+use Rattle.rows.proofs.RowOrder.{no}
 use Rattle.clock_walk.proofs.EachCandidate.{Placed, placed}
 use Rattle.clock_walk.proofs.EventByEvent.{left-falls}
 use Rattle.clock_walk.proofs.ClockTest.{due-found, says-due, walk-on, walk-end, due-passed}

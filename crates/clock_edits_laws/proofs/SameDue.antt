@@ -23,7 +23,7 @@ use Rattle.clock_walk.specs.declared.Ahead.{Ahead}
 use Rattle.clock_walk.specs.declared.Ahead.the-variants.{Found, NotFound}
 use Rattle.clock_walk.specs.declared.Due.{Due}
 use Rattle.clock_walk.specs.declared.Due.the-variants.{Passes, Asked}
-use Rattle.clock_walk.proofs.RowOrder.{no, lt-le, le-lt, le-trans, lt-not}
+use Rattle.rows.proofs.RowOrder.{no, lt-le, le-lt, le-trans, lt-not}
 use Rattle.clock_walk.proofs.ClockTest.{behind}
 use Rattle.clock_walk.proofs.StaysWithin.{PlacesWithin}
 use Rattle.clock_edits_laws.specs.AgreeingTimings.{upToRow, belowRow}

@@ -18,7 +18,7 @@ use Rattle.rows.proofs.BeatsRise.{beat-allowed}
 use Rattle.limits.specs.Numbers.{rangeOf, inRange, allIn, every, mostRow}
 use Rattle.limits.specs.declared.Kind.the-variants.{Beat}
 use Rattle.clock_walk.specs.Passing.{firstOr, lastUpTo, tempoAt}
-use Rattle.clock_walk.proofs.RowOrder.{no, lt-le}
+use Rattle.rows.proofs.RowOrder.{no, lt-le}
 use Rattle.clock_walk.proofs.BeforeAnyTempo.{Low}
 use Rattle.clock_tests.specs.TimingNumbers.{risesFrom, rises, startsAtZero}
 use Rattle.rows.proofs.Allowed.{taken-allowed}

@@ -19,7 +19,7 @@ use Rattle.rows.proofs.RowValue.{beat-rounded}
 use Rattle.limits.proofs.TempoSizes.{tempo-at-most, tempo-at-least}
 use Rattle.clock_walk.specs.Passing.{inForce, timeTo}
 use Rattle.chart.specs.declared.State.{State}
-use Rattle.clock_walk.proofs.RowsApart.{apart}
+use Rattle.rows.proofs.RowsApart.{apart}
 use Rattle.clock_histories.proofs.TempoInForce.{IsTempo}
 
 -- ---- the beats between two rows

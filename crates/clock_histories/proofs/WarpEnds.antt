@@ -15,7 +15,7 @@ use Rattle.ieee.proofs.FloatOrder.{sizes-le}
 use Rattle.ieee.proofs.Magnitude.{AtMost, Sized}
 use Rattle.ieee.proofs.SizesAddUp.{OfFormat, whole-of-format, add-at-most, at-most-wider}
 use Rattle.clock_walk.specs.Passing.{larger}
-use Rattle.clock_walk.proofs.RowOrder.{no}
+use Rattle.rows.proofs.RowOrder.{no}
 use Rattle.clock_tests.specs.CursorNumbers.{endIn}
 
 abbrev pub mostEnd : ℕ

@@ -29,7 +29,7 @@ use Rattle.clock.specs.declared.Cursor.{Cursor}
 use Rattle.clock.specs.declared.Answer.{Answer}
 use Rattle.clock_run.specs.inside.Outlook.{lesserRow, restUntil, blind, lookOn, lookAhead, isBefore, quietTime, soonBefore}
 use Rattle.clock_run.specs.declared.Outlook.{Outlook}
-use Rattle.clock_walk.proofs.RowOrder.{no, lt-le, lt-not}
+use Rattle.rows.proofs.RowOrder.{no, lt-le, lt-not}
 
 module _ (r : ℤ) where
   below-left : (a b : ℤ) → ltZ r (lesserRow a b) ≡ true → ltZ r a ≡ true

@@ -142,7 +142,7 @@ fn quiet_time(state: State, rate: f64, row: i32) -> f64
     if warping {
         return state.time + 0.0;
     }
-    let beats = clock_walk::beats_between(state.row, row);
+    let beats = rows::beats_between(state.row, row);
     state.time + beats / rate
 }
 

@@ -21,7 +21,7 @@ use Rattle.clock_walk.specs.declared.Ahead.{Ahead}
 use Rattle.clock_walk.specs.declared.Ahead.the-variants.{Found, NotFound}
 use Rattle.clock_walk.specs.declared.Due.{Due}
 use Rattle.clock_walk.specs.declared.Due.the-variants.{Passes, Asked}
-use Rattle.clock_walk.proofs.RowOrder.{no, lt-le, le-trans, lt-not}
+use Rattle.rows.proofs.RowOrder.{no, lt-le, le-trans, lt-not}
 use Rattle.clock_walk.proofs.ClockTest.{before-le, not-before-le, behind, first-up-to}
 
 -- ---- up to the asked beat the rule finds what is ahead

@@ -22,7 +22,7 @@ use Rattle.clock_walk.specs.declared.Event.{Event}
 use Rattle.clock_walk.specs.declared.Event.the-variants.{WarpEnd, Tempo, Delay, Stop, Warp}
 use Rattle.clock_walk.specs.declared.Ahead.{Ahead}
 use Rattle.clock_walk.specs.declared.Ahead.the-variants.{Found, NotFound}
-use Rattle.clock_walk.proofs.RowOrder.{no, le-trans, lt-not, lt-not-self}
+use Rattle.rows.proofs.RowOrder.{no, le-trans, lt-not, lt-not-self}
 use Rattle.clock_walk.proofs.EarlyTempoApart.{onward-grows}
 use Rattle.clock_walk.proofs.ClockTest.{says-due}
 use Rattle.clock_walk.proofs.StaysWithin.{walk-keeps}

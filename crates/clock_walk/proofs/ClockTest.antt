@@ -18,7 +18,7 @@ use Rattle.clock_walk.specs.declared.Ahead.{Ahead}
 use Rattle.clock_walk.specs.declared.Ahead.the-variants.{Found, NotFound}
 use Rattle.clock_walk.specs.declared.Due.{Due}
 use Rattle.clock_walk.specs.declared.Due.the-variants.{Passes, Asked}
-use Rattle.clock_walk.proofs.RowOrder.{no, lt-le, le-trans, lt-not}
+use Rattle.rows.proofs.RowOrder.{no, lt-le, le-trans, lt-not}
 use Rattle.clock_walk.proofs.AllWalks.{SaysAhead, pass-on, pass-end}
 
 -- ---- before an asked beat, by rows

@@ -17,7 +17,7 @@ use Rattle.clock_walk.specs.declared.Event.{Event}
 use Rattle.clock_walk.specs.declared.Event.the-variants.{WarpEnd, Tempo, Delay, Stop, Warp}
 use Rattle.clock_walk.specs.declared.Ahead.{Ahead}
 use Rattle.clock_walk.specs.declared.Ahead.the-variants.{Found, NotFound}
-use Rattle.clock_walk.proofs.RowOrder.{no}
+use Rattle.rows.proofs.RowOrder.{no}
 use Rattle.clock_walk.proofs.EachCandidate.{Placed, PlacedFound, placed-ahead, placed}
 
 -- ---- what is left to pass

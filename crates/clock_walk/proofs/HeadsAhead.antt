@@ -29,7 +29,7 @@ use Rattle.clock_walk.specs.declared.Ahead.{Ahead}
 use Rattle.clock_walk.specs.declared.Ahead.the-variants.{Found, NotFound}
 use Rattle.clock_walk.specs.declared.Due.{Due}
 use Rattle.clock_walk.specs.declared.Due.the-variants.{Passes, Asked}
-use Rattle.clock_walk.proofs.RowOrder.{lt-le, le-trans, lt-not, lt-not-self}
+use Rattle.rows.proofs.RowOrder.{lt-le, le-trans, lt-not, lt-not-self}
 use Rattle.clock_walk.proofs.ClockTest.{first-up-to}
 
 -- ---- one head more, beside one candidate more

@@ -29,8 +29,8 @@ use Rattle.rows.proofs.BeatsRise.{beat-allowed}
 use Rattle.rows.proofs.Allowed.{within-allowed}
 use Rattle.clock_walk.specs.Events.{farthest}
 use Rattle.clock_walk.specs.Quiet.{rowAt, notBefore, isLater}
-use Rattle.clock_walk.proofs.RowOrder.{no}
-use Rattle.clock_walk.proofs.BackFromBits.{back}
+use Rattle.rows.proofs.RowOrder.{no}
+use Rattle.rows.proofs.BackFromBits.{back}
 
 held : (b : Bool) → b ≡ true → T b
 held b e = subst T (sym e) tt

@@ -1,6 +1,3 @@
-pub mod RowsApart
-pub mod BackFromBits
-pub mod RowOrder
 pub mod EachCandidate
 pub mod EventByEvent
 pub mod AllWalks

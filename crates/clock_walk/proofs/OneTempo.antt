@@ -30,7 +30,7 @@ use Rattle.clock_walk.proofs.HeadsAhead.{ahead-by-heads, tempo-found}
 use Rattle.clock_walk.proofs.QuietRows.{none-before, quiet-end}
 use Rattle.clock_walk.proofs.LaterBeats.{later-entry, later-row}
 use Rattle.clock_walk.proofs.PlacesWithin.{each-test}
-use Rattle.clock_walk.proofs.RowOrder.{no, le-lt, lt-not-self}
+use Rattle.rows.proofs.RowOrder.{no, le-lt, lt-not-self}
 
 -- a row that is not the greatest i32 is that of an entry
 listed : (beats : List Float) (place : ℕ) → ltZ (rowAt beats place) farthest ≡ true → ltb place (length beats) ≡ true

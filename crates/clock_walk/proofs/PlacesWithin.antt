@@ -14,7 +14,7 @@ use Rattle.picks.specs.Pick.{pick}
 use Rattle.rows.specs.Rows.{beatOf}
 use Rattle.clock_walk.specs.Quiet.{endRow, notBefore, onlyTempos}
 use Rattle.chart.specs.declared.State.{State}
-use Rattle.clock_walk.proofs.RowOrder.{no}
+use Rattle.rows.proofs.RowOrder.{no}
 
 pub place-within : (beats : List Float) (place : ℕ) (beat : Float) → notBefore beats place beat ≡ true → place ≤ length beats
 unfolding notBefore

@@ -16,7 +16,7 @@ use Rattle.chart.specs.declared.State.{State}
 use Rattle.clock_walk.specs.declared.Ahead.{Ahead}
 use Rattle.clock_walk.specs.declared.Ahead.the-variants.{Found, NotFound}
 use Rattle.clock_walk.specs.declared.Due.the-variants.{Passes, Asked}
-use Rattle.clock_walk.proofs.RowOrder.{no}
+use Rattle.rows.proofs.RowOrder.{no}
 use Rattle.clock_walk.proofs.EventByEvent.{left-falls}
 use Rattle.clock_walk.proofs.AllWalks.{pass-on, pass-end}
 use Rattle.clock_walk.proofs.ClockTest.{says-due}

@@ -3,11 +3,9 @@ use chart::State;
 ghost use mathlib.Core.Path.{_≡_};
 ghost use mathlib.Core.Bool.{true};
 ghost use Prim.Native.Nat.{_<_, _^_};
-ghost use lib.IntN.{_-ℤ_};
 ghost use lib.ListN.{length, getD};
-ghost use lib.Ieee.{nan, binary64};
+ghost use lib.Ieee.{nan};
 ghost use Rattle.ieee.specs.Constants.{sixty};
-ghost use Rattle.rows.specs.Rows.{beatOf};
 ghost use Rattle.chart.specs.Timing.{timing};
 ghost use Rattle.clock_walk.specs.Events.{goesFirst, goesBefore, dueOf};
 ghost use Rattle.clock_walk.specs.Heads.{headsOf, headsAfter, soonerHead, leastHead, aheadOf};
@@ -279,14 +277,6 @@ fn read_at(values: &[f32], place: usize) -> f64
     0.0 / 0.0
 }
 
-// The beats from one row to another. Two i32 may be further apart than an i32.
-pub fn beats_between(from: i32, to: i32) -> f64
-    ensures { λ r. ⌜ r ≡ beatOf binary64 (to -ℤ from) ⌝ }
-{
-    let rows = (to as i64) - (from as i64);
-    rows::forty_eighth(rows as f64)
-}
-
 // The first tempo, 60 where there is none.
 fn first_tempo(tempo_values: &[f32]) -> f64
     ensures { λ r. ⌜ r ≡ firstOr sixty (now («tempo_values» .entry)) ⌝ }
@@ -354,7 +344,7 @@ fn time_to(state: State, early: f64, tempo_values: &[f32], row: i32) -> f64
     if warping {
         return 0.0;
     }
-    let beats = beats_between(state.row, row);
+    let beats = rows::beats_between(state.row, row);
     let tempo = tempo_in_force(early, tempo_values, state.tempos);
     beats / (tempo / 60.0)
 }

@@ -4,6 +4,7 @@
 use chart::State;
 use clock::Answer;
 use clock::Cursor;
+use clock_bench::BenchAnswer;
 use columns::Outcome;
 use libc::STDIN_FILENO;
 use libc::STDOUT_FILENO;
@@ -839,7 +840,52 @@ fn same_answer(words: &[u64], at: usize, answer: Answer) -> bool {
     both(same, same_cursor(words, further(at, 3), answer.cursor))
 }
 
-// What the timing answers, a question to a lent cursor in both forms, and the same of a fresh one.
+// What the second clock answers of a timing whose columns begin at a place; the room holds the events of every stored one.
+fn bench_answer(
+    words: &[u64],
+    floats: &[f32],
+    tempo_beats_at: usize,
+    offset: f64,
+    global: f64,
+    beat: f64,
+) -> BenchAnswer {
+    let tempo_values_at = behind(words, tempo_beats_at);
+    let stop_beats_at = behind(words, tempo_values_at);
+    let stop_values_at = behind(words, stop_beats_at);
+    let delay_beats_at = behind(words, stop_values_at);
+    let delay_values_at = behind(words, delay_beats_at);
+    let warp_beats_at = behind(words, delay_values_at);
+    let warp_lengths_at = behind(words, warp_beats_at);
+    let mut rows = [0i32; MOST];
+    let mut kinds = [0u8; MOST];
+    let mut numbers = [0.0f64; MOST];
+    clock_bench::bench_time_for_beat(
+        f32_column(floats, words, tempo_beats_at),
+        f32_column(floats, words, tempo_values_at),
+        f32_column(floats, words, stop_beats_at),
+        f32_column(floats, words, stop_values_at),
+        f32_column(floats, words, delay_beats_at),
+        f32_column(floats, words, delay_values_at),
+        f32_column(floats, words, warp_beats_at),
+        f32_column(floats, words, warp_lengths_at),
+        offset,
+        global,
+        beat,
+        &mut rows,
+        &mut kinds,
+        &mut numbers,
+    )
+}
+
+fn same_bench(words: &[u64], at: usize, answer: BenchAnswer) -> bool {
+    let same = both(
+        is_u32(answer.number, word_at(words, at)),
+        is_f64(answer.time, word_at(words, further(at, 1))),
+    );
+    both(same, answer.count as u64 == word_at(words, further(at, 2)))
+}
+
+// What the timing answers, a question to a lent cursor in both forms, and the same of a fresh one, by both clocks.
 fn replay_question(words: &[u64], floats: &[f32], at: usize) -> Replayed {
     let tempo_beats_at = further(at, 1);
     let tempo_values_at = behind(words, tempo_beats_at);
@@ -895,6 +941,8 @@ fn replay_question(words: &[u64], floats: &[f32], at: usize) -> Replayed {
     let same = is_u32(number, word_at(words, further(answer_at, 12)));
     let same = both(same, same_answer(words, further(answer_at, 13), answer));
     let same = both(same, same_answer(words, further(answer_at, 25), fresh));
+    let bench = bench_answer(words, floats, tempo_beats_at, offset, global, beat);
+    let same = both(same, same_bench(words, further(answer_at, 25), bench));
     let player = cursor.time_for_beat_checked(
         f32_column(floats, words, tempo_beats_at),
         f32_column(floats, words, tempo_values_at),

@@ -18,3 +18,6 @@ pub mod RowKeys
 pub mod EntriesOnRows
 pub mod RowBits
 pub mod PackedOrder
+pub mod RowsApart
+pub mod BackFromBits
+pub mod RowOrder

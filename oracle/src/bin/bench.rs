@@ -1,6 +1,7 @@
 //! bench: the port's times beside the original's, in one run on the same columns. Nanoseconds an entry for the loops, a call for tidying.
 
 use oracle::assembly;
+use oracle::bench_clock;
 use oracle::calls::{self, Call, Visit};
 use oracle::cases::Cases;
 use oracle::charts;
@@ -66,6 +67,17 @@ fn main() {
     for (name, chart) in [("a typical chart", chart([50, 30, 10, 10])), ("1,000 tempos", chart([1_000, 0, 0, 0]))] {
         ASKED.iter().for_each(|order| bench.clock(name, &chart, *order));
     }
+    println!(
+        "nanoseconds a call of the port's two clocks; each call tests the timing, and a question to the bench clock lays all events out first"
+    );
+    for (name, entries) in [
+        ("a typical chart", [50, 30, 10, 10]),
+        ("10 tempos", [10, 0, 0, 0]),
+        ("100 tempos", [100, 0, 0, 0]),
+        ("1,000 tempos", [1_000, 0, 0, 0]),
+    ] {
+        bench.bench_clock(name, &chart(entries));
+    }
     println!("nanoseconds a beat of 2,000 in no order, and a multiply-add; the original has the processor's own");
     for entries in [16, 256, 1_024] {
         bench.displayed(entries, "usual ratios", &[1.0, 0.5, 2.0, 1.37]);
@@ -98,17 +110,19 @@ impl Bench {
         if !name.contains(&self.only) {
             return;
         }
-        let rounds = rounds(&mut original).max(rounds(&mut port));
-        let (mut port_best, mut original_best) = (Duration::MAX, Duration::MAX);
-        for _ in 0..TIMES {
-            port_best = port_best.min(time(rounds, &mut port));
-            original_best = original_best.min(time(rounds, &mut original));
-        }
-        let each = |time: Duration| time.as_nanos() as f64 / f64::from(rounds) / entries as f64;
-        let ratio = each(port_best) / each(original_best);
-        println!("{name}: port {:.3} ns, original {:.3} ns, ratio {ratio:.2}", each(port_best), each(original_best));
+        let [port, original] = in_turns(&mut port, &mut original).map(|time| time / entries as f64);
+        let ratio = port / original;
+        println!("{name}: port {port:.3} ns, original {original:.3} ns, ratio {ratio:.2}");
         if ratio > self.worst.0 {
             self.worst = (ratio, name.to_owned());
+        }
+    }
+
+    /// Times two calls of the port, the first beside the second. They do not do the same work, so there is no ratio.
+    fn beside(&mut self, name: &str, mut one: impl FnMut(), other_name: &str, mut other: impl FnMut()) {
+        if name.contains(&self.only) {
+            let [one, other] = in_turns(&mut one, &mut other);
+            println!("{name}: {one:.0} ns, {other_name} {other:.0} ns");
         }
     }
 
@@ -504,6 +518,40 @@ impl Bench {
     }
 }
 
+impl Bench {
+    /// Laying out beside the tests of the timing, which it has too; a question at the first beat, half way and behind all events, beside the clock's to a fresh cursor.
+    fn bench_clock(&mut self, name: &str, chart: &Chart) {
+        let most = bench_clock::most_events(chart);
+        let (mut columns, rooms) = (bench_clock::Columns::new(most), [most; 3]);
+        let laid = bench_clock::lay_out_events(chart, &mut columns, rooms);
+        assert_eq!(laid.number, 0);
+        self.beside(
+            &format!("lay_out_events of {name}, {} events laid", laid.count),
+            || {
+                black_box(bench_clock::lay_out_events(black_box(chart), &mut columns, rooms));
+            },
+            "check_timing",
+            || {
+                black_box(clock::check_timing(black_box(chart)));
+            },
+        );
+        for beat in [-1.0, 250.0, 600.0] {
+            let answer = bench_clock::bench_time_for_beat(chart, beat, &mut columns, rooms);
+            assert_eq!((answer.number, answer.count), (0, clock::fresh_time_for_beat(chart, beat).count));
+            self.beside(
+                &format!("bench_time_for_beat of {name}, {} events laid and {} passed", answer.laid, answer.count - 1),
+                || {
+                    black_box(bench_clock::bench_time_for_beat(black_box(chart), black_box(beat), &mut columns, rooms));
+                },
+                "get_time_for_beat",
+                || {
+                    black_box(clock::fresh_time_for_beat(black_box(chart), black_box(beat)));
+                },
+            );
+        }
+    }
+}
+
 type Order = (&'static str, fn(&mut [f64], &mut Random));
 
 const ORDERS: [Order; 3] = [("ordered", |_, _| ()), ("shuffled", shuffle), ("reversed", |beats, _| beats.reverse())];
@@ -544,6 +592,17 @@ fn time(rounds: u32, work: &mut impl FnMut()) -> Duration {
     let start = Instant::now();
     (0..rounds).for_each(|_| work());
     start.elapsed()
+}
+
+/// The best time of each, in nanoseconds.
+fn in_turns(one: &mut impl FnMut(), other: &mut impl FnMut()) -> [f64; 2] {
+    let rounds = rounds(other).max(rounds(one));
+    let mut best = [Duration::MAX; 2];
+    for _ in 0..TIMES {
+        best[0] = best[0].min(time(rounds, one));
+        best[1] = best[1].min(time(rounds, other));
+    }
+    best.map(|time| time.as_nanos() as f64 / f64::from(rounds))
 }
 
 /// How often the work is done in one time.

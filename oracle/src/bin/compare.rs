@@ -1,5 +1,6 @@
 //! compare SEED SECONDS: the port against the original, bit for bit; a NaN equals any NaN.
 
+use oracle::bench_clock;
 use oracle::calls::{self, Call, Visit, called};
 use oracle::cases::{Cases, LAST_ROW, Work};
 use oracle::clock;
@@ -27,6 +28,7 @@ fn main() -> ExitCode {
     processing::compare_all(work, &mut total);
     sm_stops::compare_all(work, &mut total);
     clock::compare_all(work, &mut total);
+    bench_clock::compare_all(work, &mut total);
     edits::compare_all(work, &mut total);
     speeds::compare_all(work, &mut total);
     assembly::compare_all(work, &mut total);

@@ -3,7 +3,7 @@ use mathlib.Core.Path.{_≡_}
 use lib.Ieee.{ofBits}
 use Rattle.chart.specs.Timing.{Timing, timing}
 use Rattle.clock_walk.specs.Walk.{walk}
-use Rattle.clock_walk.proofs.BackFromBits.{back}
+use Rattle.rows.proofs.BackFromBits.{back}
 use Rattle.clock.specs.Question.{filled}
 use Rattle.clock.proofs.FilledTempos.{filled-by, filled-fits}
 use borrow.Author.Needs.{needs}

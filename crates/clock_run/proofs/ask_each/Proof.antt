@@ -10,8 +10,8 @@ use mir.Syntax.{w32}
 use mir.Val.{SFits, toZ, ofZ}
 use Rattle.rows.specs.Rows.{row}
 use Rattle.chart.specs.Timing.{timing}
-use Rattle.clock_walk.proofs.BackFromBits.{back}
-use Rattle.clock_walk.proofs.RowOrder.{no}
+use Rattle.rows.proofs.BackFromBits.{back}
+use Rattle.rows.proofs.RowOrder.{no}
 use Rattle.clock_walk.specs.declared.Soon.{Soon}
 use Rattle.clock_run.specs.inside.Outlook.{lookOn, isBefore, quietTime, soonBefore}
 use Rattle.clock_run.specs.declared.Outlook.{Outlook}

@@ -1,7 +1,7 @@
 -- `clock_run::is_before` is `isBefore`. Assumes nothing.
 use mathlib.Core.Bool.{true, false}
 use borrow.Author.Tests.{eq-eqb, ne-eqb}
-use Rattle.clock_walk.proofs.BackFromBits.{back, tested}
+use Rattle.rows.proofs.BackFromBits.{back, tested}
 use Rattle.clock_run.specs.inside.Outlook.{isBefore}
 use borrow.Author.Needs.{needs}
 use Rattle.clock_run.proofs.is_before.Statement.{statement}

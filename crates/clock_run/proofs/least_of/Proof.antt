@@ -1,6 +1,6 @@
 -- `clock_run::least_of` is `lesserRow`. Assumes nothing.
 use mathlib.Core.Bool.{true, false}
-use Rattle.clock_walk.proofs.BackFromBits.{back, tested}
+use Rattle.rows.proofs.BackFromBits.{back, tested}
 use Rattle.clock_run.specs.inside.Outlook.{lesserRow}
 use borrow.Author.Needs.{needs}
 use Rattle.clock_run.proofs.least_of.Statement.{statement}

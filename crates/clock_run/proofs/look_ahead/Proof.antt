@@ -1,7 +1,7 @@
 -- `clock_run::look_ahead` is `lookAhead`. Assumes nothing.
 use lib.Ieee.{ofBits}
 use borrow.Author.Tests.{eq-eqb, ne-eqb}
-use Rattle.clock_walk.proofs.BackFromBits.{back}
+use Rattle.rows.proofs.BackFromBits.{back}
 use Rattle.clock_run.specs.inside.Outlook.{lookAhead}
 use borrow.Author.Needs.{needs}
 use Rattle.clock_run.proofs.look_ahead.Statement.{statement}

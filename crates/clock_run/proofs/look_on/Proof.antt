@@ -1,7 +1,7 @@
 -- `clock_run::look_on` is `lookOn`. Assumes nothing.
 use lib.Ieee.{ofBits}
 use borrow.Author.Tests.{lt-ltb, le-ltb, eq-eqb, ne-eqb}
-use Rattle.clock_walk.proofs.BackFromBits.{back}
+use Rattle.rows.proofs.BackFromBits.{back}
 use Rattle.clock_run.specs.inside.Outlook.{lookOn}
 use borrow.Author.Needs.{needs}
 use Rattle.clock_run.proofs.look_on.Statement.{statement}

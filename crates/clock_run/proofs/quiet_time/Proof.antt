@@ -1,6 +1,6 @@
 -- `clock_run::quiet_time` is `quietTime`. Assumes nothing.
 use lib.Ieee.{ofBits}
-use Rattle.clock_walk.proofs.BackFromBits.{back}
+use Rattle.rows.proofs.BackFromBits.{back}
 use Rattle.clock_run.specs.inside.Outlook.{quietTime}
 use borrow.Author.Needs.{needs}
 use Rattle.clock_run.proofs.quiet_time.Statement.{statement}

@@ -1,6 +1,6 @@
 -- `clock_run::rest_until` is `restUntil`. Assumes nothing.
 use mathlib.Core.Path.{_∙_}
-use Rattle.clock_walk.proofs.BackFromBits.{back}
+use Rattle.rows.proofs.BackFromBits.{back}
 use Rattle.clock_run.specs.inside.Outlook.{restUntil}
 use borrow.Author.Needs.{needs}
 use Rattle.clock_run.proofs.rest_until.Statement.{statement}

@@ -3,7 +3,7 @@ use mathlib.Core.Bool.{true, false}
 use mathlib.Core.Path.{_≡_, sym, _∙_}
 use borrow.Author.Tests.{lt-ltb, le-ltb}
 use Rattle.clock_walk.specs.Soon.{rowAfter}
-use Rattle.clock_walk.proofs.BackFromBits.{back}
+use Rattle.rows.proofs.BackFromBits.{back}
 use Rattle.clock_run.specs.inside.Outlook.{lesserRow, isBefore, soonBefore}
 use borrow.Author.Needs.{needs}
 use Rattle.clock_run.proofs.soon.Statement.{statement}

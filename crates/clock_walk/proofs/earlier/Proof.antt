@@ -2,7 +2,7 @@
 use mathlib.Core.Bool.{true, false}
 use Rattle.clock_walk.specs.Events.{sooner}
 use Rattle.clock_walk.specs.Heads.{soonerHead}
-use Rattle.clock_walk.proofs.BackFromBits.{back, tested}
+use Rattle.rows.proofs.BackFromBits.{back, tested}
 use borrow.Author.Needs.{needs}
 use Rattle.clock_walk.proofs.earlier.Statement.{statement}
 use Rattle.clock_walk.proofs.earlier.Tie as tie

@@ -1,5 +1,5 @@
 -- `clock_walk::early_tempo` meets its contract. Assumes nothing.
-use Rattle.clock_walk.proofs.BackFromBits.{back}
+use Rattle.rows.proofs.BackFromBits.{back}
 use borrow.Author.Tests.{eq-eqb, ne-eqb}
 use lib.Ieee.{ofBits}
 use Rattle.clock_walk.specs.Passing.{earlyTempo}

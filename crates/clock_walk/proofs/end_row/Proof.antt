@@ -1,6 +1,6 @@
 -- `clock_walk::end_row` is `endRow`. Assumes nothing.
 use mathlib.Core.Path.{_∙_}
-use Rattle.clock_walk.proofs.BackFromBits.{back}
+use Rattle.rows.proofs.BackFromBits.{back}
 use Rattle.clock_walk.specs.Quiet.{endRow}
 use borrow.Author.Needs.{needs}
 use Rattle.clock_walk.proofs.end_row.Statement.{statement}

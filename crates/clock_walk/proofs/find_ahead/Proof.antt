@@ -4,7 +4,7 @@ use mathlib.Core.Path.{_≡_}
 use lib.Signed.{ltZ}
 use Rattle.clock_walk.specs.Events.{farthest}
 use Rattle.clock_walk.specs.Heads.{aheadOf}
-use Rattle.clock_walk.proofs.BackFromBits.{back}
+use Rattle.rows.proofs.BackFromBits.{back}
 use borrow.Author.Needs.{needs}
 use Rattle.clock_walk.proofs.find_ahead.Statement.{statement}
 use Rattle.clock_walk.proofs.find_ahead.Tie as tie

@@ -3,7 +3,7 @@ use mathlib.Core.Bool.{true, false}
 use mathlib.Core.Path.{_≡_, sym, _∙_}
 use Rattle.clock_walk.specs.Events.{goesBefore}
 use Rattle.clock_walk.specs.Heads.{leastHead}
-use Rattle.clock_walk.proofs.BackFromBits.{back}
+use Rattle.rows.proofs.BackFromBits.{back}
 use Rattle.clock_walk.proofs.HeadsAhead.{not-behind, due-by-least}
 use borrow.Author.Needs.{needs}
 use Rattle.clock_walk.proofs.find_due.Statement.{statement}

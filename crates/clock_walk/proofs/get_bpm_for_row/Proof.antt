@@ -1,5 +1,5 @@
 -- `clock_walk::get_bpm_for_row` meets its contract. Assumes nothing.
-use Rattle.clock_walk.proofs.BackFromBits.{back}
+use Rattle.rows.proofs.BackFromBits.{back}
 use mathlib.Core.Path.{_∙_}
 use Rattle.clock_walk.specs.Passing.{tempoAt}
 use borrow.Author.Needs.{needs}

@@ -3,7 +3,7 @@ use mathlib.Core.Bool.{true, false}
 use mir.Syntax.{w32}
 use mir.Val.{SFits}
 use Rattle.clock_walk.specs.Events.{goesBefore}
-use Rattle.clock_walk.proofs.BackFromBits.{tested}
+use Rattle.rows.proofs.BackFromBits.{tested}
 use borrow.Author.Needs.{needs}
 use Rattle.clock_walk.proofs.goes_before.Statement.{statement}
 use Rattle.clock_walk.proofs.goes_before.Tie as tie

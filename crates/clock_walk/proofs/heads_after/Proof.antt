@@ -1,5 +1,5 @@
 -- `clock_walk::heads_after` is `headsAfter`, kind by kind. Assumes nothing.
-use Rattle.clock_walk.proofs.BackFromBits.{back}
+use Rattle.rows.proofs.BackFromBits.{back}
 use borrow.Author.Needs.{needs}
 use Rattle.clock_walk.proofs.heads_after.Statement.{statement}
 use Rattle.clock_walk.proofs.heads_after.Tie as tie

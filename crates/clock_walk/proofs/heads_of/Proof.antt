@@ -1,6 +1,6 @@
 -- `clock_walk::heads_of` is `headsOf`. Assumes nothing.
 use Rattle.clock_walk.specs.Heads.{headsOf}
-use Rattle.clock_walk.proofs.BackFromBits.{back}
+use Rattle.rows.proofs.BackFromBits.{back}
 use borrow.Author.Needs.{needs}
 use Rattle.clock_walk.proofs.heads_of.Statement.{statement}
 use Rattle.clock_walk.proofs.heads_of.Tie as tie

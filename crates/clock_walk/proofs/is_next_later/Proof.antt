@@ -1,6 +1,6 @@
 -- `clock_walk::is_next_later` is `isNextLater`. Assumes nothing.
 use borrow.Author.Tests.{lt-ltb, le-ltb}
-use Rattle.clock_walk.proofs.BackFromBits.{back}
+use Rattle.rows.proofs.BackFromBits.{back}
 use Rattle.clock_walk.specs.Quiet.{isNextLater}
 use borrow.Author.Needs.{needs}
 use Rattle.clock_walk.proofs.is_next_later.Statement.{statement}

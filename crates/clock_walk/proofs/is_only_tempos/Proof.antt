@@ -4,7 +4,7 @@ use mathlib.Core.Path.{_∙_}
 use mir.Syntax.{w32}
 use mir.Val.{toZ, ofZ}
 use Rattle.clock_walk.specs.Quiet.{onlyTempos}
-use Rattle.clock_walk.proofs.BackFromBits.{test-is}
+use Rattle.rows.proofs.BackFromBits.{test-is}
 use Rattle.clock_walk.proofs.LaterBeats.{next-fits, not-below, not-above, beat-after}
 use borrow.Author.Needs.{needs}
 use Rattle.clock_walk.proofs.is_only_tempos.Statement.{statement}

@@ -4,9 +4,9 @@ use mathlib.Core.Path.{_≡_}
 use lib.Signed.{ltZ}
 use mir.Syntax.{w32}
 use mir.Val.{SFits}
-use Rattle.clock_walk.proofs.BackFromBits.{tested}
+use Rattle.rows.proofs.BackFromBits.{tested}
 use Rattle.clock_walk.specs.Events.{farthest}
-use Rattle.clock_walk.proofs.RowOrder.{no, lt-le}
+use Rattle.rows.proofs.RowOrder.{no, lt-le}
 use Rattle.clock_walk.proofs.HeadsAhead.{not-behind, tempo-due}
 use Rattle.clock_walk.proofs.is_tempo_due.Statement.{statement}
 use Rattle.clock_walk.proofs.is_tempo_due.Tie as tie

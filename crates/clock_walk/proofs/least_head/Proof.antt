@@ -1,6 +1,6 @@
 -- `clock_walk::least_head` is `leastHead`. Assumes nothing.
 use Rattle.clock_walk.specs.Heads.{leastHead}
-use Rattle.clock_walk.proofs.BackFromBits.{back}
+use Rattle.rows.proofs.BackFromBits.{back}
 use borrow.Author.Needs.{needs}
 use Rattle.clock_walk.proofs.least_head.Statement.{statement}
 use Rattle.clock_walk.proofs.least_head.Tie as tie

@@ -8,7 +8,7 @@ use Rattle.clock_walk.specs.declared.Event.{Event}
 use Rattle.clock_walk.specs.declared.Event.the-variants.{WarpEnd, Tempo, Delay, Stop, Warp}
 use Rattle.clock_walk.specs.inside.CanMove.{CanMove}
 use Rattle.clock_walk.specs.Passing.{arrived, eventPassed}
-use Rattle.clock_walk.proofs.BackFromBits.{back}
+use Rattle.rows.proofs.BackFromBits.{back}
 use borrow.Author.Needs.{needs}
 use Rattle.clock_walk.proofs.pass_event.Statement.{statement}
 use Rattle.clock_walk.proofs.pass_event.Tie as tie

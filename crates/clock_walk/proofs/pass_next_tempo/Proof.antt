@@ -3,7 +3,7 @@ use lib.Ieee.{ofBits}
 use borrow.Author.Tests.{lt-ltb, le-ltb}
 use Rattle.clock_walk.specs.Passing.{eventPassed}
 use Rattle.clock_walk.specs.Soon.{tempoPassed}
-use Rattle.clock_walk.proofs.BackFromBits.{back}
+use Rattle.rows.proofs.BackFromBits.{back}
 use borrow.Author.Needs.{needs}
 use Rattle.clock_walk.proofs.pass_next_tempo.Statement.{statement}
 use Rattle.clock_walk.proofs.pass_next_tempo.Tie as tie

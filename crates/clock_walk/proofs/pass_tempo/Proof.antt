@@ -1,6 +1,6 @@
 -- `clock_walk::pass_tempo` meets its contract. Assumes nothing.
 use Rattle.clock_walk.specs.Passing.{afterTempo}
-use Rattle.clock_walk.proofs.BackFromBits.{back}
+use Rattle.rows.proofs.BackFromBits.{back}
 use borrow.Author.Needs.{needs}
 use Rattle.clock_walk.proofs.pass_tempo.Statement.{statement}
 use Rattle.clock_walk.proofs.pass_tempo.Tie as tie

@@ -1,6 +1,6 @@
 -- `clock_walk::quiet_time` is the time at a row up to which nothing is passed. Assumes nothing.
 use lib.Ieee.{ofBits}
-use Rattle.clock_walk.proofs.BackFromBits.{back}
+use Rattle.rows.proofs.BackFromBits.{back}
 use borrow.Author.Needs.{needs}
 use Rattle.clock_walk.proofs.quiet_time.Statement.{statement}
 use Rattle.clock_walk.proofs.quiet_time.Tie as tie

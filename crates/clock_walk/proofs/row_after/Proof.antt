@@ -1,7 +1,7 @@
 -- `clock_walk::row_after` is `rowAfter`. Assumes nothing.
 use mathlib.Core.Path.{_∙_}
 use borrow.Author.Tests.{lt-ltb, le-ltb}
-use Rattle.clock_walk.proofs.BackFromBits.{back}
+use Rattle.rows.proofs.BackFromBits.{back}
 use Rattle.clock_walk.specs.Soon.{rowAfter}
 use borrow.Author.Needs.{needs}
 use Rattle.clock_walk.proofs.row_after.Statement.{statement}

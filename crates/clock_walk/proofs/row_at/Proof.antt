@@ -3,7 +3,7 @@ use mathlib.Core.Path.{ap, _∙_}
 use lib.Ieee.{binary64}
 use borrow.Author.Tests.{lt-ltb, le-ltb}
 use Rattle.rows.specs.Rows.{row}
-use Rattle.clock_walk.proofs.BackFromBits.{back}
+use Rattle.rows.proofs.BackFromBits.{back}
 use Rattle.clock_walk.specs.Quiet.{rowAt}
 use borrow.Author.Needs.{needs}
 use Rattle.clock_walk.proofs.row_at.Statement.{statement}

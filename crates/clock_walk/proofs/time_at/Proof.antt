@@ -1,6 +1,6 @@
 -- `clock_walk::time_at` is `timeAt`. Assumes nothing.
 use Rattle.clock_walk.specs.Passing.{timeAt}
-use Rattle.clock_walk.proofs.BackFromBits.{back}
+use Rattle.rows.proofs.BackFromBits.{back}
 use borrow.Author.Needs.{needs}
 use Rattle.clock_walk.proofs.time_at.Statement.{statement}
 use Rattle.clock_walk.proofs.time_at.Tie as tie

@@ -1,6 +1,6 @@
 -- `clock_walk::time_to` meets its contract. Assumes nothing.
 use lib.Ieee.{ofBits}
-use Rattle.clock_walk.proofs.BackFromBits.{back}
+use Rattle.rows.proofs.BackFromBits.{back}
 use Rattle.clock_walk.specs.Passing.{timeTo}
 use borrow.Author.Needs.{needs}
 use Rattle.clock_walk.proofs.time_to.Statement.{statement}

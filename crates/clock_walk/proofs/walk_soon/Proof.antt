@@ -1,7 +1,7 @@
 -- `clock_walk::walk_soon` is `soonOf`. Assumes nothing.
 use mathlib.Core.Bool.{true, false}
 use Rattle.clock_walk.specs.Soon.{soonOf}
-use Rattle.clock_walk.proofs.BackFromBits.{back, test-is}
+use Rattle.rows.proofs.BackFromBits.{back, test-is}
 use borrow.Author.Needs.{needs}
 use Rattle.clock_walk.proofs.walk_soon.Statement.{statement}
 use Rattle.clock_walk.proofs.walk_soon.Tie as tie

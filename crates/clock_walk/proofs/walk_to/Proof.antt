@@ -14,7 +14,7 @@ use Rattle.clock_walk.specs.Course.{eventsLeft}
 use Rattle.clock_walk.specs.Walk.{isPasses, isDue, ended, walkOn, walk}
 use Rattle.clock_walk.specs.Heads.{headsOf, aheadOf}
 use Rattle.clock_walk.specs.declared.Heads.{Heads}
-use Rattle.clock_walk.proofs.BackFromBits.{back}
+use Rattle.rows.proofs.BackFromBits.{back}
 use Rattle.clock_walk.proofs.EventByEvent.{moves, count-fits}
 use Rattle.clock_walk.proofs.AllWalks.{Going, turn, pass-end}
 use Rattle.clock_walk.proofs.ClockTest.{says-due, due-found, due-passed}

@@ -1,6 +1,6 @@
 -- `clock::Cursor::begin` begins the walk. Assumes nothing.
 use mathlib.Core.Bool.{true, false}
-use Rattle.clock_walk.proofs.BackFromBits.{back, tested}
+use Rattle.rows.proofs.BackFromBits.{back, tested}
 use Rattle.clock.specs.Question.{beginning}
 use borrow.Author.Needs.{needs}
 use Rattle.clock.proofs.Cursor.begin.Statement.{statement}

@@ -1,8 +1,8 @@
 -- `clock::Cursor::is_near` says yes only where the cursor is not refused, the walk goes on from here and nothing but tempos is due. Assumes nothing.
 use mathlib.Core.Bool.{false}
 use mathlib.Core.Path.{sym, _∙_}
-use Rattle.clock_walk.proofs.BackFromBits.{back, tested}
-use Rattle.clock_walk.proofs.RowOrder.{no}
+use Rattle.rows.proofs.BackFromBits.{back, tested}
+use Rattle.rows.proofs.RowOrder.{no}
 use Rattle.clock.proofs.NearTaken.{some-tempos, near-taken}
 use borrow.Author.Needs.{needs}
 use Rattle.clock.proofs.Cursor.is_near.Statement.{statement}

@@ -4,9 +4,9 @@ use mathlib.Core.Path.{sym, _∙_}
 use borrow.Author.Tests.{ne-eqb}
 use mir.Syntax.{w32}
 use mir.Val.{SFits}
-use Rattle.clock_walk.proofs.BackFromBits.{back}
+use Rattle.rows.proofs.BackFromBits.{back}
 use Rattle.clock_walk.proofs.LaterBeats.{not-below}
-use Rattle.clock_walk.proofs.RowOrder.{no}
+use Rattle.rows.proofs.RowOrder.{no}
 use borrow.Author.Needs.{needs}
 use Rattle.clock.proofs.Cursor.is_past_tempo.Statement.{statement}
 use Rattle.clock.proofs.Cursor.is_past_tempo.Tie as tie

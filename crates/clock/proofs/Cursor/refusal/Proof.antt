@@ -1,5 +1,5 @@
 -- `clock::Cursor::refusal` tests the cursor. Assumes nothing.
-use Rattle.clock_walk.proofs.BackFromBits.{back}
+use Rattle.rows.proofs.BackFromBits.{back}
 use mathlib.Core.Path.{_≡_, sym, ap, _∙_}
 use borrow.Author.Needs.{needs}
 use Rattle.clock.proofs.Cursor.refusal.Statement.{statement}

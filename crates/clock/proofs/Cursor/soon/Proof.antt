@@ -1,6 +1,6 @@
 -- `clock::Cursor::soon` is a walk that is soon over, of a cursor that is not refused, where it says that it is whole. Assumes nothing.
-use Rattle.clock_walk.proofs.BackFromBits.{back}
-use Rattle.clock_walk.proofs.RowOrder.{no}
+use Rattle.rows.proofs.BackFromBits.{back}
+use Rattle.rows.proofs.RowOrder.{no}
 use borrow.Author.Needs.{needs}
 use Rattle.clock.proofs.Cursor.soon.Statement.{statement}
 use Rattle.clock.proofs.Cursor.soon.Tie as tie

@@ -8,7 +8,7 @@ use mir.Syntax.{w32}
 use mir.Val.{toZ, ofZ}
 use Rattle.rows.specs.Rows.{row}
 use Rattle.chart.specs.Timing.{Timing, timing}
-use Rattle.clock_walk.proofs.BackFromBits.{back}
+use Rattle.rows.proofs.BackFromBits.{back}
 use Rattle.clock_walk.proofs.OneTempo.{soon-few}
 use Rattle.clock.proofs.ReplyByTheWalk.{soon-walked, soon-reply, walked-reply}
 use Rattle.clock.proofs.PlayerNumber.{beat-refused, cursor-refused, both-taken}

@@ -1,5 +1,5 @@
 -- `clock::Cursor::walked` is the walk from where it begins. Assumes nothing.
-use Rattle.clock_walk.proofs.BackFromBits.{back}
+use Rattle.rows.proofs.BackFromBits.{back}
 use borrow.Author.Needs.{needs}
 use Rattle.clock.proofs.Cursor.walked.Statement.{statement}
 use Rattle.clock.proofs.Cursor.walked.Tie as tie

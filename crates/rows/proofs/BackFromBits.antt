@@ -10,7 +10,7 @@ use lib.Ieee.{binary64, inFloat}
 use mir.Syntax.{w32, w64}
 use mir.Val.{SFits, toZ, ofZ}
 use mir.ValLaws.{toZ-ofZ}
-use Rattle.clock_walk.proofs.RowsApart.{apart}
+use Rattle.rows.proofs.RowsApart.{apart}
 
 pub back : (z : ℤ) → SFits w32 z → toZ w32 (ofZ w32 z) ≡ z
 back z f = toZ-ofZ w32 z f

@@ -1,0 +1,5 @@
+pub mod EventList
+pub mod EventRoom
+pub mod RunningDown
+pub mod BenchQuestion
+pub mod inside

@@ -1,0 +1,2 @@
+pub mod AsTheWalk
+pub mod FreshAgrees

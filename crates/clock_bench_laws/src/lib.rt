@@ -1,0 +1,1 @@
+// The second clock comes to the times and counts of the clock. It has no code.
