@@ -228,7 +228,7 @@ fn goes_before(next: Next, asked: i32) -> bool
     goes_first(kind)
 }
 
-// True only where a tempo is due, which most events of many charts are: no other head is looked at twice.
+// True only where a tempo is due: no other head is looked at twice.
 fn is_tempo_due(heads: Heads, asked: i32) -> bool
     ensures { λ r. ⌜ (r ≡ true → dueOf asked (aheadOf heads) ≡ Passes (record { row = heads .tempo; kind = Tempo })) ⌝ }
 {
@@ -251,13 +251,6 @@ fn is_tempo_due(heads: Heads, asked: i32) -> bool
 fn find_due(heads: Heads, asked: i32) -> Due
     ensures { λ r. ⌜ r ≡ dueOf asked (aheadOf heads) ⌝ }
 {
-    if is_tempo_due(heads, asked) {
-        let tempo = Next {
-            row: heads.tempo,
-            kind: Event::Tempo,
-        };
-        return Due::Passes(tempo);
-    }
     let next = least_head(heads);
     if goes_before(next, asked) {
         return Due::Passes(next);
@@ -612,7 +605,8 @@ pub fn quiet_time(state: State, asked: i32, tempo_values: &[f32]) -> f64
 
 // ---- the whole walk
 
-// From a state on, every event before the asked beat.
+// From a state on, every event before the asked beat. A tempo, which most events of many charts are, is passed by a branch of its own: it brings no number and
+// moves one head.
 pub fn walk_to(
     start: State,
     asked: i32,
@@ -632,6 +626,17 @@ pub fn walk_to(
     let mut heads = heads_of(start, tempo_beats, stop_beats, delay_beats, warp_beats);
     let mut passed: usize = 0;
     loop {
+        if is_tempo_due(heads, asked) {
+            let tempo = Next {
+                row: heads.tempo,
+                kind: Event::Tempo,
+            };
+            let time = time_at(state, heads.tempo, early, tempo_values);
+            state = pass_event(state, tempo, time, 0.0);
+            heads.tempo = row_at(tempo_beats, state.tempos);
+            passed = passed + 1;
+            continue;
+        }
         let found = find_due(heads, asked);
         let Due::Passes(next) = found else {
             let time = time_at(state, asked, early, tempo_values);

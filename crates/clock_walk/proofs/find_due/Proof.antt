@@ -9,37 +9,28 @@ use borrow.Author.Needs.{needs}
 use Rattle.clock_walk.proofs.find_due.Statement.{statement}
 use Rattle.clock_walk.proofs.find_due.Tie as tie
 
-is-tempo-due-requires : tie.Need-is-tempo-due-requires
-is-tempo-due-requires c κs = search needs
-
-returns : tie.Need-returns
-returns c =
-    let s = c .before .before .before in
-    rw (back (s .args .heads .tempo) (record { sfits = c .struct-told .given .1 .0 .1 }))
-    (sym (rw (back (s .args .asked) (s .fits .asked)) at (c .before .before .is-tempo-due .ensures (c .before .if1 .taken))))
-
 least-head-requires : tie.Need-least-head-requires
 least-head-requires c κs = search needs
 
 goes-before-requires : tie.Need-goes-before-requires
 goes-before-requires c κs = search needs
 
-returns-2 : tie.Need-returns-2
-returns-2 c =
-    let s = c .before .before .before .before .before in
+returns : tie.Need-returns
+returns c =
+    let s = c .before .before .before in
     let a = s .args in
     let least = c .before .before .least-head in
-    let goes : goesBefore (a .asked) (leastHead (a .heads)) ≡ true = rw (back (a .asked) (s .fits .asked), least .ensures) at (sym (c .before .goes-before .ensures) ∙ c .if2 .taken) in
+    let goes : goesBefore (a .asked) (leastHead (a .heads)) ≡ true = rw (back (a .asked) (s .fits .asked), least .ensures) at (sym (c .before .goes-before .ensures) ∙ c .if1 .taken) in
     rw (least .ensures) (sym (due-by-least (a .heads) (a .asked) (not-behind (a .asked) (s .fits .asked)) true goes))
 
-returns-3 : tie.Need-returns-3
-returns-3 c =
-    let s = c .before .before .before .before .before in
+returns-2 : tie.Need-returns-2
+returns-2 c =
+    let s = c .before .before .before in
     let a = s .args in
     let least = c .before .before .least-head in
-    let stays : goesBefore (a .asked) (leastHead (a .heads)) ≡ false = rw (back (a .asked) (s .fits .asked), least .ensures) at (sym (c .before .goes-before .ensures) ∙ c .if2 .left) in
+    let stays : goesBefore (a .asked) (leastHead (a .heads)) ≡ false = rw (back (a .asked) (s .fits .asked), least .ensures) at (sym (c .before .goes-before .ensures) ∙ c .if1 .left) in
     sym (due-by-least (a .heads) (a .asked) (not-behind (a .asked) (s .fits .asked)) false stays)
 
 pub find-due-spec : {M : Type 1} → statement M
 find-due-spec =
-    tie.close (tie.spec is-tempo-due-requires returns least-head-requires goes-before-requires returns-2 returns-3)
+    tie.close (tie.spec least-head-requires goes-before-requires returns returns-2)

@@ -1,5 +1,5 @@
 -- `clock_walk::walk_to` walks event by event. Assumes nothing.
-use Prim.Native.Nat.{_+_, _<_}
+use Prim.Native.Nat.{_+_, _^_, _<_}
 use mathlib.Core.Path.{_≡_, refl, sym, ap, _∙_}
 use mathlib.Core.Bool.{true, false}
 use lib.IntN.{ℤ}
@@ -7,13 +7,20 @@ use lib.Ieee.{Float}
 use mir.Syntax.{w32}
 use mir.Val.{toZ, ofZ}
 use native.Mathlib.Omega.{arith}
+use Rattle.ieee.specs.Constants.{plusZero}
 use Rattle.chart.specs.Timing.{Timing, timing}
 use Rattle.clock_walk.specs.Events.{ahead, dueOf, due}
-use Rattle.clock_walk.specs.Passing.{passing}
+use Rattle.clock_walk.specs.Passing.{eventPassed, passing}
+use Rattle.clock_walk.specs.inside.CanMove.{CanMove}
 use Rattle.clock_walk.specs.Course.{eventsLeft}
 use Rattle.clock_walk.specs.Walk.{isPasses, isDue, ended, walkOn, walk}
-use Rattle.clock_walk.specs.Heads.{headsOf, aheadOf}
+use Rattle.clock_walk.specs.Heads.{headsOf, headsAfter, aheadOf}
+use Rattle.chart.specs.declared.State.{State}
+use Rattle.clock_walk.specs.declared.Next.{Next}
 use Rattle.clock_walk.specs.declared.Heads.{Heads}
+use Rattle.clock_walk.specs.declared.Event.the-variants.{Tempo}
+use Rattle.clock_walk.specs.declared.Due.{Due}
+use Rattle.clock_walk.specs.declared.Due.the-variants.{Passes, Asked}
 use Rattle.rows.proofs.BackFromBits.{back}
 use Rattle.clock_walk.proofs.EventByEvent.{moves, count-fits}
 use Rattle.clock_walk.proofs.AllWalks.{Going, turn, pass-end}
@@ -32,6 +39,54 @@ abbrev μ-loop : tie.MeasureT-loop
 μ-loop asked tempo-beats tempo-values stop-beats stop-values delay-beats delay-values warp-beats warp-lengths early start heads₀ none state heads passed =
     eventsLeft (timing tempo-beats tempo-values stop-beats stop-values delay-beats delay-values warp-beats warp-lengths) state
 
+-- ---- at the head of the loop: what is due by the heads that are kept, and the loop after an event that is
+abbrev timingAt : tie.At-loop Inv-loop μ-loop → Timing
+timingAt c =
+    let a = c .before .before .before .before .before .before .before .before .before .before .before .args in
+    timing (a .tempo-beats .now) (a .tempo-values .now) (a .stop-beats .now) (a .stop-values .now) (a .delay-beats .now) (a .delay-values .now) (a .warp-beats .now) (a .warp-lengths .now)
+
+abbrev askedAt : tie.At-loop Inv-loop μ-loop → ℤ
+askedAt c = toZ w32 (ofZ w32 (c .before .before .before .before .before .before .before .before .before .before .before .args .asked))
+
+abbrev earlyAt : tie.At-loop Inv-loop μ-loop → Float
+earlyAt c = c .before .before .early-tempo .result
+
+abbrev startAt : tie.At-loop Inv-loop μ-loop → State
+startAt c = c .before .before .before .before .before .before .before .before .before .before .before .args .start
+
+abbrev headsAt : tie.At-loop Inv-loop μ-loop → State → Heads
+headsAt c s = let t = timingAt c in headsOf (t .tempoBeats) (t .stopBeats) (t .delayBeats) (t .warpBeats) s
+
+due-here : (c : tie.At-loop Inv-loop μ-loop) (d : Due) → dueOf (askedAt c) (aheadOf (c .loop .heads)) ≡ d → due (timingAt c) (askedAt c) (c .loop .state) ≡ d
+due-here c d e =
+    let r = askedAt c in
+    sym (ap (λ (h : Heads). dueOf r (aheadOf h)) (c .loop .inv .1) ∙ ap (dueOf r) (ahead-by-heads (timingAt c) (c .loop .state))) ∙ e
+
+module _ (c : tie.At-loop Inv-loop μ-loop) (n : Next) (is : due (timingAt c) (askedAt c) (c .loop .state) ≡ Passes n) where
+  can-pass : CanMove (c .loop .state) (n .kind)
+  can-pass =
+      let t = timingAt c in
+      let g = c .before .before .before .before .before .before .before .before .before .before .before .good in
+      moves t (c .loop .state) n (due-found (askedAt c) (ahead t (c .loop .state)) n is)
+      (g .1 .1 .0 .1) (g .1 .1 .1 .1 .0 .1) (g .1 .1 .1 .1 .1 .1 .0 .1) (g .1 .1 .1 .1 .1 .1 .1 .1 .0 .1)
+
+  module _ (s : State) (passed : s ≡ passing (earlyAt c) (timingAt c) (c .loop .state) n) where
+    moved : Going (earlyAt c) (timingAt c) (isDue (timingAt c) (askedAt c)) (says-due (timingAt c) (askedAt c)) (startAt c) s (c .loop .passed + 1) × (eventsLeft (timingAt c) s < eventsLeft (timingAt c) (c .loop .state))
+    moved =
+        let t = timingAt c in
+        let r = askedAt c in
+        turn (earlyAt c) t (isDue t r) (says-due t r) (startAt c) (c .loop .state) (c .loop .passed) s (ap isPasses is) (passed ∙ sym (due-passed (earlyAt c) t r (c .loop .state) n is)) (c .loop .inv .0)
+
+    heads-moved : let t = timingAt c in headsAfter (t .tempoBeats) (t .stopBeats) (t .delayBeats) (t .warpBeats) (c .loop .heads) s (n .kind) ≡ headsAt c s
+    heads-moved = rw (c .loop .inv .1, passed) (passed-heads (earlyAt c) (timingAt c) (c .loop .state) n)
+
+counted : (c : tie.At-loop Inv-loop μ-loop) → c .loop .passed + 1 < 2 ^ 64
+counted c =
+    let g = c .before .before .before .before .before .before .before .before .before .before .before .good in
+    let t = timingAt c in
+    count-fits t (startAt c) (c .loop .passed) (eventsLeft t (c .loop .state)) (c .loop .inv .0 .few) (g .1 .1 .0 .1) (g .1 .1 .1 .1 .0 .1) (g .1 .1 .1 .1 .1 .1 .0 .1) (g .1 .1 .1 .1 .1 .1 .1 .1 .0 .1)
+
+-- ---- before the loop
 early-tempo-requires : tie.Need-early-tempo-requires Inv-loop μ-loop
 early-tempo-requires c κs = search needs
 
@@ -41,6 +96,49 @@ heads-of-requires c κs = search needs
 loop-holds : tie.Need-loop-holds Inv-loop μ-loop
 loop-holds c = (record { same = refl; few = omega arith }, c .heads-of .ensures)
 
+-- ---- a tempo that is due
+is-tempo-due-requires : tie.Need-is-tempo-due-requires Inv-loop μ-loop
+is-tempo-due-requires c κs = search needs
+
+time-at-requires : tie.Need-time-at-requires Inv-loop μ-loop
+time-at-requires c κs = search needs
+
+abbrev tempoAt : tie.At-loop Inv-loop μ-loop → Next
+tempoAt c = record { row = c .loop .heads .tempo; kind = Tempo }
+
+tempo-due : (c : tie.After-struct-told Inv-loop μ-loop) → let l = c .before .before .before in due (timingAt l) (askedAt l) (l .loop .state) ≡ Passes (tempoAt l)
+tempo-due c = due-here (c .before .before .before) _ (c .before .before .is-tempo-due .ensures (c .before .if1 .taken))
+
+pass-event-requires : tie.Need-pass-event-requires Inv-loop μ-loop
+pass-event-requires c κs = can-pass (c .before .before .before .before .before) (tempoAt (c .before .before .before .before .before)) (tempo-due (c .before .before))
+
+tempo-passed : (c : tie.After-pass-event Inv-loop μ-loop) → let l = c .before .before .before .before .before .before in c .pass-event .result ≡ passing (earlyAt l) (timingAt l) (l .loop .state) (tempoAt l)
+unfolding eventPassed
+tempo-passed c =
+    let l = c .before .before .before .before .before .before in
+    let there : ℤ → Next = λ z. record { row = z; kind = Tempo } in
+    let row = back (l .loop .heads .tempo) (record { sfits = c .before .before .before .struct-told .given .1 .0 .1 }) in
+    let is : c .pass-event .result ≡ eventPassed (l .loop .state) (there (toZ w32 (ofZ w32 (l .loop .heads .tempo)))) (c .before .time-at .result) plusZero = c .pass-event .ensures in
+    rw (is, row, rw row at (c .before .time-at .ensures))
+
+row-at-requires : tie.Need-row-at-requires Inv-loop μ-loop
+row-at-requires c κs = search needs
+
+add-passed : tie.Need-add-passed Inv-loop μ-loop
+add-passed c = record { fits = counted (c .before .before .before .before .before .before .before) }
+
+loop-less : tie.Need-loop-less Inv-loop μ-loop
+loop-less c = let p = c .before in moved (c .before .before .before .before .before .before .before) (tempoAt (c .before .before .before .before .before .before .before)) (tempo-due (c .before .before .before .before)) (p .pass-event .result) (tempo-passed p) .1
+
+loop-again : tie.Need-loop-again Inv-loop μ-loop
+loop-again c =
+    let p = c .before in
+    let l = c .before .before .before .before .before .before .before in (
+      moved l (tempoAt l) (tempo-due (c .before .before .before .before)) (p .pass-event .result) (tempo-passed p) .0,
+      rw (c .row-at .ensures) (heads-moved l (tempoAt l) (tempo-due (c .before .before .before .before)) (p .pass-event .result) (tempo-passed p)),
+    )
+
+-- ---- what is due, where it is no such tempo
 find-due-requires : tie.Need-find-due-requires Inv-loop μ-loop
 find-due-requires c κs = search needs
 
@@ -50,101 +148,58 @@ enum-known-found c = search needs
 enum-told : tie.Need-enum-told Inv-loop μ-loop
 enum-told c = search needs
 
--- what is found by the heads is what is due
-is-due : (c : tie.After-find-due Inv-loop μ-loop) →
-    let a = c .before .before .before .before .before .before .before .before .before .before .before .before .args in
-    let t : Timing = timing (a .tempo-beats .now) (a .tempo-values .now) (a .stop-beats .now) (a .stop-values .now) (a .delay-beats .now) (a .delay-values .now) (a .warp-beats .now) (a .warp-lengths .now) in
-    c .find-due .result ≡ due t (toZ w32 (ofZ w32 (a .asked))) (c .before .loop .state)
-is-due c =
-    let a = c .before .before .before .before .before .before .before .before .before .before .before .before .args in
-    let t : Timing = timing (a .tempo-beats .now) (a .tempo-values .now) (a .stop-beats .now) (a .stop-values .now) (a .delay-beats .now) (a .delay-values .now) (a .warp-beats .now) (a .warp-lengths .now) in
-    let l = c .before .loop in
-    let r = toZ w32 (ofZ w32 (a .asked)) in
-    c .find-due .ensures ∙ ap (λ (h : Heads). dueOf r (aheadOf h)) (l .inv .1) ∙ ap (dueOf r) (ahead-by-heads t (l .state))
-
-time-at-requires : tie.Need-time-at-requires Inv-loop μ-loop
-time-at-requires c κs = search needs
+time-at-requires-2 : tie.Need-time-at-requires-2 Inv-loop μ-loop
+time-at-requires-2 c κs = search needs
 
 returns : tie.Need-returns Inv-loop μ-loop
 unfolding walk walkOn
 returns c =
-    let s = c .before .before .before .before .before .before .before .before .before .before .before .before .before .before .before in
-    let a = s .args in
-    let t : Timing = timing (a .tempo-beats .now) (a .tempo-values .now) (a .stop-beats .now) (a .stop-values .now) (a .delay-beats .now) (a .delay-values .now) (a .warp-beats .now) (a .warp-lengths .now) in
-    let r = toZ w32 (ofZ w32 (a .asked)) in
-    let early = c .before .before .before .before .before .before .early-tempo in
-    let l = c .before .before .before .before .loop in
-    let none : isDue t r (l .state) ≡ false = ap isPasses (sym (is-due (c .before .before .before)) ∙ c .before .enum-told .given .1) in
-    rw (c .time-at .ensures)
-    (ap (ended (early .result) t r) (sym (pass-end (early .result) t (isDue t r) (says-due t r) (l .state) (l .passed) none) ∙ l .inv .0 .same)
-    ∙ ap (λ (z : ℤ). walkOn (early .result) t z (a .start) 0) (back (a .asked) (s .fits .asked))
-    ∙ ap (λ (x : Float). walkOn x t (a .asked) (a .start) 0) (early .ensures))
+    let found = c .before .before .before in
+    let l = c .before .before .before .before .before .before in
+    let s = l .before .before .before .before .before .before .before .before .before .before .before in
+    let t = timingAt l in
+    let r = askedAt l in
+    let early = l .before .before .early-tempo in
+    let none : isDue t r (l .loop .state) ≡ false = ap isPasses (due-here l Asked (sym (found .find-due .ensures) ∙ c .before .enum-told .given .1)) in
+    rw (c .time-at2 .ensures)
+    (ap (ended (early .result) t r) (sym (pass-end (early .result) t (isDue t r) (says-due t r) (l .loop .state) (l .loop .passed) none) ∙ l .loop .inv .0 .same)
+    ∙ ap (λ (z : ℤ). walkOn (early .result) t z (startAt l) 0) (back (s .args .asked) (s .fits .asked))
+    ∙ ap (λ (x : Float). walkOn x t (s .args .asked) (startAt l) 0) (early .ensures))
 
 number-of-requires : tie.Need-number-of-requires Inv-loop μ-loop
 number-of-requires c κs = search needs
 
-time-at-requires-2 : tie.Need-time-at-requires-2 Inv-loop μ-loop
-time-at-requires-2 c κs = search needs
+time-at-requires-3 : tie.Need-time-at-requires-3 Inv-loop μ-loop
+time-at-requires-3 c κs = search needs
 
-pass-event-requires : tie.Need-pass-event-requires Inv-loop μ-loop
-pass-event-requires c κs =
-    let s = c .before .before .before .before .before .before .before .before .before .before .before .before .before .before .before .before .before .before in
-    let a = s .args in
-    let t : Timing = timing (a .tempo-beats .now) (a .tempo-values .now) (a .stop-beats .now) (a .stop-values .now) (a .delay-beats .now) (a .delay-values .now) (a .warp-beats .now) (a .warp-lengths .now) in
-    let r = toZ w32 (ofZ w32 (a .asked)) in
-    let g = s .good in
-    let l = c .before .before .before .before .before .before .before .loop in
-    let found = c .before .before .before .before .found .given in
-    moves t (l .state) (found .0 .0) (due-found r (ahead t (l .state)) (found .0 .0) (sym (is-due (c .before .before .before .before .before .before)) ∙ found .1)) (g .1 .1 .0 .1) (g .1 .1 .1 .1 .0 .1) (g .1 .1 .1 .1 .1 .1 .0 .1) (g .1 .1 .1 .1 .1 .1 .1 .1 .0 .1)
+found-due : (c : tie.After-found Inv-loop μ-loop) → let l = c .before .before .before .before .before in due (timingAt l) (askedAt l) (l .loop .state) ≡ Passes (c .found .given .0 .0)
+found-due c = due-here (c .before .before .before .before .before) _ (sym (c .before .before .find-due .ensures) ∙ c .found .given .1)
+
+pass-event-requires-2 : tie.Need-pass-event-requires-2 Inv-loop μ-loop
+pass-event-requires-2 c κs = let f = c .before .before .before .before in can-pass (f .before .before .before .before .before) (f .found .given .0 .0) (found-due f)
+
+found-passed : (c : tie.After-pass-event2 Inv-loop μ-loop) → let f = c .before .before .before .before .before in let l = f .before .before .before .before .before in c .pass-event2 .result ≡ passing (earlyAt l) (timingAt l) (l .loop .state) (f .found .given .0 .0)
+found-passed c =
+    let n = c .before .before .before .before .before .found .given .0 .0 in
+    rw (c .pass-event2 .ensures, c .before .before .before .number-of .ensures, rw (back (n .row) (record { sfits = c .before .before .struct-told3 .given .0 .1 })) at (c .before .time-at3 .ensures))
 
 heads-after-requires : tie.Need-heads-after-requires Inv-loop μ-loop
 heads-after-requires c κs = search needs
 
--- the event that is due is passed
-is-passed : (c : tie.After-pass-event Inv-loop μ-loop) →
-    let a = c .before .before .before .before .before .before .before .before .before .before .before .before .before .before .before .before .before .before .before .args in
-    let t : Timing = timing (a .tempo-beats .now) (a .tempo-values .now) (a .stop-beats .now) (a .stop-values .now) (a .delay-beats .now) (a .delay-values .now) (a .warp-beats .now) (a .warp-lengths .now) in
-    c .pass-event .result ≡ passing (c .before .before .before .before .before .before .before .before .before .before .early-tempo .result) t (c .before .before .before .before .before .before .before .before .loop .state) (c .before .before .before .before .before .found .given .0 .0)
-is-passed c =
-    let n = c .before .before .before .before .before .found .given .0 .0 in
-    let time = c .before .time-at2 in
-    rw (c .pass-event .ensures, c .before .before .before .number-of .ensures, rw (back (n .row) (record { sfits = c .before .before .struct-told .given .0 .1 })) at (time .ensures))
+add-passed-2 : tie.Need-add-passed-2 Inv-loop μ-loop
+add-passed-2 c = record { fits = counted (c .before .before .before .before .before .before .before .before .before .before .before) }
 
-moved : (c : tie.After-pass-event Inv-loop μ-loop) →
-    let a = c .before .before .before .before .before .before .before .before .before .before .before .before .before .before .before .before .before .before .before .args in
-    let t : Timing = timing (a .tempo-beats .now) (a .tempo-values .now) (a .stop-beats .now) (a .stop-values .now) (a .delay-beats .now) (a .delay-values .now) (a .warp-beats .now) (a .warp-lengths .now) in
-    let r = toZ w32 (ofZ w32 (a .asked)) in
-    let l = c .before .before .before .before .before .before .before .before .loop in
-    Going (c .before .before .before .before .before .before .before .before .before .before .early-tempo .result) t (isDue t r) (says-due t r) (a .start) (c .pass-event .result) (l .passed + 1) × (eventsLeft t (c .pass-event .result) < eventsLeft t (l .state))
-moved c =
-    let a = c .before .before .before .before .before .before .before .before .before .before .before .before .before .before .before .before .before .before .before .args in
-    let t : Timing = timing (a .tempo-beats .now) (a .tempo-values .now) (a .stop-beats .now) (a .stop-values .now) (a .delay-beats .now) (a .delay-values .now) (a .warp-beats .now) (a .warp-lengths .now) in
-    let r = toZ w32 (ofZ w32 (a .asked)) in
-    let l = c .before .before .before .before .before .before .before .before .loop in
-    let found = c .before .before .before .before .before .found .given in
-    let early = c .before .before .before .before .before .before .before .before .before .before .early-tempo .result in
-    let is : due t r (l .state) ≡ _ = sym (is-due (c .before .before .before .before .before .before .before)) ∙ found .1 in
-    turn early t (isDue t r) (says-due t r) (a .start) (l .state) (l .passed) (c .pass-event .result) (ap isPasses is) (is-passed c ∙ sym (due-passed early t r (l .state) (found .0 .0) is)) (l .inv .0)
+loop-less-2 : tie.Need-loop-less-2 Inv-loop μ-loop
+loop-less-2 c = let p = c .before in let f = c .before .before .before .before .before .before in moved (f .before .before .before .before .before) (f .found .given .0 .0) (found-due f) (p .pass-event2 .result) (found-passed p) .1
 
-add-passed : tie.Need-add-passed Inv-loop μ-loop
-add-passed c =
-    let s = c .before .before .before .before .before .before .before .before .before .before .before .before .before .before .before .before .before .before .before .before in
-    let a = s .args in
-    let t : Timing = timing (a .tempo-beats .now) (a .tempo-values .now) (a .stop-beats .now) (a .stop-values .now) (a .delay-beats .now) (a .delay-values .now) (a .warp-beats .now) (a .warp-lengths .now) in
-    let g = s .good in
-    let l = c .before .before .before .before .before .before .before .before .before .loop in
-    record { fits = count-fits t (a .start) (l .passed) (eventsLeft t (l .state)) (l .inv .0 .few) (g .1 .1 .0 .1) (g .1 .1 .1 .1 .0 .1) (g .1 .1 .1 .1 .1 .1 .0 .1) (g .1 .1 .1 .1 .1 .1 .1 .1 .0 .1) }
-
-loop-less : tie.Need-loop-less Inv-loop μ-loop
-loop-less c = moved (c .before) .1
-
-loop-again : tie.Need-loop-again Inv-loop μ-loop
-loop-again c =
-    let a = c .before .before .before .before .before .before .before .before .before .before .before .before .before .before .before .before .before .before .before .before .args in
-    let t : Timing = timing (a .tempo-beats .now) (a .tempo-values .now) (a .stop-beats .now) (a .stop-values .now) (a .delay-beats .now) (a .delay-values .now) (a .warp-beats .now) (a .warp-lengths .now) in
-    let l = c .before .before .before .before .before .before .before .before .before .loop in
-    let n = c .before .before .before .before .before .before .found .given .0 .0 in
-    (moved (c .before) .0, rw (c .heads-after .ensures, l .inv .1, is-passed (c .before)) (passed-heads (c .before .before .before .before .before .before .before .before .before .before .before .early-tempo .result) t (l .state) n))
+loop-again-2 : tie.Need-loop-again-2 Inv-loop μ-loop
+loop-again-2 c =
+    let p = c .before in
+    let f = c .before .before .before .before .before .before in
+    let l = f .before .before .before .before .before in (
+      moved l (f .found .given .0 .0) (found-due f) (p .pass-event2 .result) (found-passed p) .0,
+      rw (c .heads-after .ensures) (heads-moved l (f .found .given .0 .0) (found-due f) (p .pass-event2 .result) (found-passed p)),
+    )
 
 pub walk-to-spec : {M : Type 1} → statement M
 walk-to-spec =
@@ -155,15 +210,22 @@ walk-to-spec =
     early-tempo-requires
     heads-of-requires
     loop-holds
+    is-tempo-due-requires
+    time-at-requires
+    pass-event-requires
+    row-at-requires
+    add-passed
+    loop-less
+    loop-again
     find-due-requires
     enum-known-found
     enum-told
-    time-at-requires
+    time-at-requires-2
     returns
     number-of-requires
-    time-at-requires-2
-    pass-event-requires
+    time-at-requires-3
+    pass-event-requires-2
     heads-after-requires
-    add-passed
-    loop-less
-    loop-again)
+    add-passed-2
+    loop-less-2
+    loop-again-2)
