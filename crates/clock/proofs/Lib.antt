@@ -7,3 +7,4 @@ pub mod NewIsFresh
 pub mod NothingToAnswer
 pub mod MarkedReply
 pub mod MarkTested
+pub mod OwnMark

@@ -6,6 +6,7 @@ pub mod AskedOrAhead
 pub mod PrefixLaw
 pub mod WholeCourse
 pub mod BeyondTheCourse
+pub mod NumbersFit
 pub mod LastUpTo
 pub mod EventsSpent
 pub mod WalkedOn
