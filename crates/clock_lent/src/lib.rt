@@ -250,8 +250,8 @@ pub extern "C" fn marrighentu_lent_run_marked(
     ensures { λ r.
         let t = timing «tempo_beats».entry.now «tempo_values».entry.now «stop_beats».entry.now «stop_values».entry.now
         «delay_beats».entry.now «delay_values».entry.now «warp_beats».entry.now «warp_lengths».entry.now in
-        let ran = record { cursor = cursor.exit.now; number = r } in
-        ⌜ MarkedRunLaid mark t offset global cursor.entry.now beats.entry.now ran numbers.entry.now numbers.exit.now times.entry.now times.exit.now counts.entry.now counts.exit.now ⌝ }
+        ⌜ MarkedRunLaid mark t offset global cursor.entry.now beats.entry.now (record { cursor = cursor.exit.now; number = r })
+        numbers.entry.now numbers.exit.now times.entry.now times.exit.now counts.entry.now counts.exit.now ⌝ }
 {
     let ran = clock_run::run_marked(
         *cursor,
