@@ -1,4 +1,4 @@
--- `clock_lent::marrighentu_lent_run_marked` meets its contract: a walk of its MIR, by hand. The borrow is opened, the cursor copied out, the method called, its cursor stored, and the borrow closed. The three columns are handed on for good, and what the run left in them is what is said of them.
+-- `clock_lent_marked::marrighentu_lent_run_marked` meets its contract: a walk of its MIR, by hand. The borrow is opened, the cursor copied out, the method called, its cursor stored, and the borrow closed. The three columns are handed on for good, and what the run left in them is what is said of them.
 use mathlib.Core.Path.{_≡_, refl, ap}
 use mathlib.Core.Bool.{true}
 use Prim.Native.Nat.{ℕ, _<_, _^_}
@@ -58,10 +58,10 @@ use Rattle.clock_run.proofs.run_marked as g
 use Rattle.clock_run.proofs.run_marked.Symbol as g-def
 use Rattle.clock_run.proofs.run_marked.Symbol.{name as #g}
 use Rattle.clock_run.proofs.run_marked.Met as g-thm
-use Rattle.clock_lent.proofs.marrighentu_lent_run_marked.Key.{name as #f}
-use Rattle.clock_lent.proofs.marrighentu_lent_run_marked as f
-use Rattle.clock_lent.proofs.marrighentu_lent_run_marked.Statement as stated
-use Rattle.clock_lent.proofs.marrighentu_lent_run_marked.Code as code
+use Rattle.clock_lent_marked.proofs.marrighentu_lent_run_marked.Key.{name as #f}
+use Rattle.clock_lent_marked.proofs.marrighentu_lent_run_marked as f
+use Rattle.clock_lent_marked.proofs.marrighentu_lent_run_marked.Statement as stated
+use Rattle.clock_lent_marked.proofs.marrighentu_lent_run_marked.Code as code
 
 abbrev stayed : Stays (f.ended .signature .params) (f.ended .kept)
 stayed = (stay-ref (0 ∷ []) tt (plain (λ _. T.the-row)), (stay-none (λ _. K.the-row) yes, (stay-none-slice (1 ∷ []) tt (plain (λ _. f32)) yes, (stay-none-slice (2 ∷ []) tt (plain (λ _. f32)) yes, (stay-none-slice (3 ∷ []) tt (plain (λ _. f32)) yes, (stay-none-slice (4 ∷ []) tt (plain (λ _. f32)) yes, (stay-none-slice (5 ∷ []) tt (plain (λ _. f32)) yes, (stay-none-slice (6 ∷ []) tt (plain (λ _. f32)) yes, (stay-none-slice (7 ∷ []) tt (plain (λ _. f32)) yes, (stay-none-slice (8 ∷ []) tt (plain (λ _. f32)) yes, (stay-none (λ _. f64) yes, (stay-none (λ _. f64) yes, (stay-none-slice (9 ∷ []) tt (plain (λ _. f64)) yes, (gave-slice (10 ∷ []) tt (plain (λ _. u32)), (gave-slice (11 ∷ []) tt (plain (λ _. f64)), (gave-slice (12 ∷ []) tt (plain (λ _. usize)), tt))))))))))))))))
