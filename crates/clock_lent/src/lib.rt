@@ -253,7 +253,7 @@ pub extern "C" fn marrighentu_lent_run_marked(
         ⌜ MarkedRunLaid mark t offset global cursor.entry.now beats.entry.now (record { cursor = cursor.exit.now; number = r })
         numbers.entry.now numbers.exit.now times.entry.now times.exit.now counts.entry.now counts.exit.now ⌝ }
 {
-    let ran = clock_run::run_marked(
+    let marked = clock_run::run_marked(
         *cursor,
         mark,
         tempo_beats,
@@ -271,6 +271,6 @@ pub extern "C" fn marrighentu_lent_run_marked(
         times,
         counts,
     );
-    *cursor = ran.cursor;
-    ran.number
+    *cursor = marked.cursor;
+    marked.number
 }
