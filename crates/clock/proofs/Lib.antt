@@ -8,3 +8,4 @@ pub mod NothingToAnswer
 pub mod MarkedReply
 pub mod MarkTested
 pub mod OwnMark
+pub mod SmallestMarks
