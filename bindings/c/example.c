@@ -1,4 +1,4 @@
-/* A chart through the C functions: assembly, the clock and the second one, the lookups, and stops for SM. Prints what it found, and ends with 1 where an answer is not the expected one. */
+/* A chart through the C functions: assembly, the clock, with an end mark too, and the second one, the lookups, and stops for SM. Prints what it found, and ends with 1 where an answer is not the expected one. */
 #include <stdio.h>
 #include <string.h>
 
@@ -103,6 +103,36 @@ int main(void) {
     expect(ran == MARRIGHENTU_TAKEN && cursor.asked == 17 * 48, "a run");
     expect( numbers[0] == 0 && numbers[1] == MARRIGHENTU_BAD_BEAT && numbers[2] == 0, "a run's numbers");
     expect(times[0] == 0.0 && times[2] == 5.5 && counts[1] == 0, "a run's seconds");
+
+    /* the end of the timing: the stop on beat 16 is its last event, and a beat behind it is one step from any cursor */
+    marrighentu_mark_made ended = marrighentu_make_mark(CLOCK_COLUMNS(t));
+    const marrighentu_mark mark = ended.mark;
+    expect(ended.number == MARRIGHENTU_TAKEN && mark.row == 16 * 48 && mark.state.row == 16 * 48 && mark.state.time == 5.0, "the end mark");
+    expect(marrighentu_check_marked_timing(mark, CLOCK_COLUMNS(t)) == MARRIGHENTU_TAKEN, "a timing with its mark");
+    for (size_t i = 0; i < sizeof beats / sizeof *beats; i++) {
+        marrighentu_cursor lent = made.cursor;
+        marrighentu_answer plain = marrighentu_time_for_beat_checked(made.cursor, CLOCK_COLUMNS(t), beats[i]);
+        marrighentu_answer player = marrighentu_time_for_beat_checked_marked(made.cursor, mark, CLOCK_COLUMNS(t), beats[i]);
+        marrighentu_answer tested = marrighentu_time_for_beat_marked(made.cursor, mark, CLOCK_COLUMNS(t), beats[i]);
+        marrighentu_reply reply = marrighentu_lent_time_for_beat_checked_marked(&lent, mark, CLOCK_COLUMNS(t), beats[i]);
+        expect(player.time == expected[i] && tested.time == expected[i] && reply.time == expected[i], "the second of a beat, with a mark");
+        expect(player.count == (beats[i] > 16 ? 1 : plain.count), "one step behind the mark, and on its row and before it as many as without");
+        expect(tested.count == player.count && reply.count == player.count, "the steps of each form");
+        expect(same_cursor(&lent, &player.cursor) && same_cursor(&lent, &tested.cursor), "the cursor after a marked question");
+    }
+    printf("beat 1000 at %g s, 1 step\n", marrighentu_lent_time_for_beat_checked_marked(&cursor, mark, CLOCK_COLUMNS(t), 1000).time);
+    expect(cursor.state.row == mark.state.row && cursor.asked == 48000, "the cursor is in the mark's state");
+    ran = marrighentu_lent_run_marked(&cursor, mark, CLOCK_COLUMNS(t), asked, 3, numbers, 3, times, 3, counts, 3);
+    expect(ran == MARRIGHENTU_TAKEN && times[2] == 5.5 && counts[2] == 1 && numbers[1] == MARRIGHENTU_BAD_BEAT, "a marked run");
+    marrighentu_made by_value = marrighentu_run_marked(made.cursor, mark, CLOCK_COLUMNS(t), asked, 3, numbers, 3, times, 3, counts, 3);
+    expect(by_value.number == MARRIGHENTU_TAKEN && same_cursor(&by_value.cursor, &cursor) && counts[2] == 1, "a marked run by value");
+
+    /* a mark of another timing, here of other offsets, is refused where everything is tested */
+    t->offset += 0.5;
+    expect(marrighentu_check_marked_timing(mark, CLOCK_COLUMNS(t)) == MARRIGHENTU_NOT_RISING, "a mark of other offsets");
+    refused = marrighentu_lent_time_for_beat_marked(&cursor, mark, CLOCK_COLUMNS(t), 17);
+    expect(refused.number == MARRIGHENTU_NOT_RISING && refused.count == 0, "a question with a mark of other offsets");
+    t->offset -= 0.5;
 
     /* the events one by one, as the second clock has them: a tempo, a warp, its end, a stop */
     int32_t event_rows[5];

@@ -30,6 +30,8 @@ pub mod lists;
 #[cfg(feature = "port")]
 pub mod lookups;
 #[cfg(feature = "port")]
+pub mod marked;
+#[cfg(feature = "port")]
 pub mod notes;
 pub mod numbers;
 #[cfg(feature = "port")]

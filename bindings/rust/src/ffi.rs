@@ -23,6 +23,22 @@ pub struct Cursor {
     pub asked: i32,
 }
 
+/// The end of a timing: the state after all its events, and the greatest row among them.
+#[derive(Clone, Copy, Debug, PartialEq)]
+#[repr(C)]
+pub struct Mark {
+    pub state: State,
+    pub row: i32,
+}
+
+/// A number and a mark: what making a mark answers.
+#[derive(Clone, Copy, Debug)]
+#[repr(C)]
+pub struct MarkMade {
+    pub number: u32,
+    pub mark: Mark,
+}
+
 /// What a question answers; the cursor after it stands in the place that was lent.
 #[derive(Clone, Copy, Debug)]
 #[repr(C)]
@@ -177,17 +193,18 @@ calls! {
         rooms out_scrolls: f32,
         rooms out_fakes: f32,
     ) -> Assembled = "marrighentu_compute_timing_segments";
-    fn check_timing(
+    fn make_mark(
         list tempos: f32,
         list stops: f32,
         list delays: f32,
         list warps: f32,
         value offset: f64,
         value global: f64,
-    ) -> u32 = "marrighentu_check_timing";
+    ) -> MarkMade = "marrighentu_make_mark";
     fn cursor_new(value offset: f64, value global: f64) -> Numbered = "marrighentu_cursor_new";
-    fn time_for_beat_checked(
+    fn time_for_beat_checked_marked(
         lent cursor: Cursor,
+        value mark: Mark,
         list tempos: f32,
         list stops: f32,
         list delays: f32,
@@ -195,9 +212,10 @@ calls! {
         value offset: f64,
         value global: f64,
         value beat: f64,
-    ) -> Reply = "marrighentu_lent_time_for_beat_checked";
-    fn run(
+    ) -> Reply = "marrighentu_lent_time_for_beat_checked_marked";
+    fn run_marked(
         lent cursor: Cursor,
+        value mark: Mark,
         list tempos: f32,
         list stops: f32,
         list delays: f32,
@@ -208,7 +226,7 @@ calls! {
         room numbers: u32,
         room times: f64,
         room counts: usize,
-    ) -> u32 = "marrighentu_lent_run";
+    ) -> u32 = "marrighentu_lent_run_marked";
     fn lay_out_events(
         list tempos: f32,
         list stops: f32,
@@ -307,6 +325,8 @@ const _: () = {
     assert!(offset_of!(State, warps) == 24 && offset_of!(State, row) == 32 && offset_of!(State, warping) == 36);
     assert!(offset_of!(State, time) == 40 && offset_of!(State, end) == 48);
     assert!(size_of::<Cursor>() == 64 && offset_of!(Cursor, asked) == 56);
+    assert!(size_of::<Mark>() == 64 && offset_of!(Mark, row) == 56);
+    assert!(size_of::<MarkMade>() == 72 && offset_of!(MarkMade, mark) == 8);
     assert!(size_of::<Reply>() == 24 && offset_of!(Reply, time) == 8 && offset_of!(Reply, count) == 16);
     assert!(size_of::<BenchAnswer>() == 32 && offset_of!(BenchAnswer, time) == 8);
     assert!(offset_of!(BenchAnswer, count) == 16 && offset_of!(BenchAnswer, laid) == 24);

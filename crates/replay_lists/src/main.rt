@@ -5,6 +5,7 @@ use chart::State;
 use clock::Answer;
 use clock::Cursor;
 use clock_bench::BenchAnswer;
+use clock_walk::Mark;
 use columns::Outcome;
 use libc::STDIN_FILENO;
 use libc::STDOUT_FILENO;
@@ -885,7 +886,65 @@ fn same_bench(words: &[u64], at: usize, answer: BenchAnswer) -> bool {
     both(same, answer.count as u64 == word_at(words, further(at, 2)))
 }
 
-// What the timing answers, a question to a lent cursor in both forms, and the same of a fresh one, by both clocks.
+// What a fresh cursor answers with the end mark of a timing whose columns begin at a place.
+fn marked_answer(
+    words: &[u64],
+    floats: &[f32],
+    tempo_beats_at: usize,
+    offset: f64,
+    global: f64,
+    beat: f64,
+) -> Answer {
+    let tempo_values_at = behind(words, tempo_beats_at);
+    let stop_beats_at = behind(words, tempo_values_at);
+    let stop_values_at = behind(words, stop_beats_at);
+    let delay_beats_at = behind(words, stop_values_at);
+    let delay_values_at = behind(words, delay_beats_at);
+    let warp_beats_at = behind(words, delay_values_at);
+    let warp_lengths_at = behind(words, warp_beats_at);
+    let made = clock::make_mark(
+        f32_column(floats, words, tempo_beats_at),
+        f32_column(floats, words, tempo_values_at),
+        f32_column(floats, words, stop_beats_at),
+        f32_column(floats, words, stop_values_at),
+        f32_column(floats, words, delay_beats_at),
+        f32_column(floats, words, delay_values_at),
+        f32_column(floats, words, warp_beats_at),
+        f32_column(floats, words, warp_lengths_at),
+        offset,
+        global,
+    );
+    let mark: Mark = made.mark;
+    let fresh = Cursor::new(offset, global);
+    fresh.cursor.time_for_beat_marked(
+        mark,
+        f32_column(floats, words, tempo_beats_at),
+        f32_column(floats, words, tempo_values_at),
+        f32_column(floats, words, stop_beats_at),
+        f32_column(floats, words, stop_values_at),
+        f32_column(floats, words, delay_beats_at),
+        f32_column(floats, words, delay_values_at),
+        f32_column(floats, words, warp_beats_at),
+        f32_column(floats, words, warp_lengths_at),
+        offset,
+        global,
+        beat,
+    )
+}
+
+// Number and time are those of the question without a mark, and the count is that or, behind the mark, 1.
+fn same_marked(words: &[u64], at: usize, answer: Answer) -> bool {
+    let same = both(
+        is_u32(answer.number, word_at(words, at)),
+        is_f64(answer.time, word_at(words, further(at, 1))),
+    );
+    if answer.count == 1 {
+        return same;
+    }
+    both(same, answer.count as u64 == word_at(words, further(at, 2)))
+}
+
+// What the timing answers, a question to a lent cursor in both forms, and the same of a fresh one, with the end mark too, by both clocks.
 fn replay_question(words: &[u64], floats: &[f32], at: usize) -> Replayed {
     let tempo_beats_at = further(at, 1);
     let tempo_values_at = behind(words, tempo_beats_at);
@@ -943,6 +1002,8 @@ fn replay_question(words: &[u64], floats: &[f32], at: usize) -> Replayed {
     let same = both(same, same_answer(words, further(answer_at, 25), fresh));
     let bench = bench_answer(words, floats, tempo_beats_at, offset, global, beat);
     let same = both(same, same_bench(words, further(answer_at, 25), bench));
+    let marked = marked_answer(words, floats, tempo_beats_at, offset, global, beat);
+    let same = both(same, same_marked(words, further(answer_at, 25), marked));
     let player = cursor.time_for_beat_checked(
         f32_column(floats, words, tempo_beats_at),
         f32_column(floats, words, tempo_values_at),

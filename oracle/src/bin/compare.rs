@@ -6,6 +6,7 @@ use oracle::cases::{Cases, LAST_ROW, Work};
 use oracle::clock;
 use oracle::edits;
 use oracle::lookups;
+use oracle::marked;
 use oracle::numbers::Number;
 use oracle::processing;
 use oracle::random::Random;
@@ -28,6 +29,7 @@ fn main() -> ExitCode {
     processing::compare_all(work, &mut total);
     sm_stops::compare_all(work, &mut total);
     clock::compare_all(work, &mut total);
+    marked::compare_all(work, &mut total);
     bench_clock::compare_all(work, &mut total);
     edits::compare_all(work, &mut total);
     speeds::compare_all(work, &mut total);
