@@ -6,3 +6,4 @@ pub mod EachOverFront
 pub mod LastsLaid
 pub mod KeptLaid
 pub mod AllKept
+pub mod TurnedLaid
