@@ -1,5 +1,5 @@
--- A loop that lays a list turned round over the front of a room: its entries in the order they come, from the last place to the first. And one that
--- lays the last entry of each key so, over two rooms: it writes every entry, and goes back a place where the next key is another. Assumes nothing.
+-- A loop that lays the last entry of each key over the fronts of two rooms, turned round: from the last place to the first. It writes every entry, and goes
+-- back a place where the next key is another, so that nothing which is thrown away is left behind the list. Assumes nothing.
 use Prim.Native.Nat.{ℕ, suc, _+_, _-_, _≤_, _<_, min}
 use mathlib.Core.Path.{_≡_, refl, sym, ap, _∙_}
 use mathlib.Core.List.{List, [], _∷_, _++_, map, reverse, reverseAux, reverseAux-eq}
@@ -8,7 +8,7 @@ use native.Mathlib.Omega.{arith}
 use native.Mathlib.Numerals.{add-one}
 use borrow.Author.Tests.{eq-eqb, ne-eqb}
 use lib.Dec.{eqb}
-use lib.ListN.{length, getD, drop, set, length-set, length-map, length-drop, length-reverse, drop-of-length-le}
+use lib.ListN.{length, getD, drop, set, length-set, length-map, length-drop, length-reverse}
 use lib.Seq.{drop-cons, drop-set-lt, getD-set-same}
 use Rattle.picks.specs.Pick.{pick}
 use Rattle.order.specs.Order.{lasts, laid}
@@ -63,24 +63,6 @@ module _ {A : Type 0} where
     turning-all e =
         let none : places ≡ 0 = omega (arith, p .many, ap length e) in
         ap (λ (n : ℕ). drop n out) (sym none) ∙ ap (λ (l : List A). reverseAux l (drop places out)) (sym e) ∙ p .done
-
--- ---- what f answers for each number of a column
-pub record EachTurning {A B : Type 0} (f : A → B) (from : List A) (old out : List B) (i : ℕ) : Type 0 where
-  pub so : Turning (map f from) old out (map f (drop i from)) (length from - i)
-
-module _ {A B : Type 0} (f : A → B) {from : List A} {old out : List B} {i : ℕ} where
-  pub each-turned : (none : A) {y : B} (place : ℕ) → EachTurning f from old out i → i < length from → y ≡ f (getD from i none) → place ≡ length from - 1 - i → EachTurning f from old (set out place y) (i + 1)
-  each-turned none {y} place p h e at =
-      let next : length from - (i + 1) ≡ place = omega arith in
-      let head : map f (drop i from) ≡ y ∷ map f (drop (i + 1) from) =
-      ap (map f) (drop-cons from i none h ∙ ap (λ (n : ℕ). getD from i none ∷ drop n from) (sym (add-one i))) ∙ ap (λ (x : B). x ∷ map f (drop (i + 1) from)) (sym e) in
-      record { so = rw next (turning-kept (p .so) y (map f (drop (i + 1) from)) place head (omega arith)) }
-
-  pub each-turned-all : EachTurning f from old out i → length from ≤ i → out ≡ laid (reverse (map f from)) old
-  each-turned-all p h = turning-all (p .so) (ap (map f) (drop-of-length-le from h))
-
-pub each-turned-none : {A B : Type 0} (f : A → B) (from : List A) (old : List B) → length from ≤ length old → EachTurning f from old old 0
-each-turned-none f from old h = record { so = turning-none (map f from) old (length from - 0) (simp length-map (omega arith)) (simp length-map h) }
 
 -- the list xs, whose entries are laid as `put` says: after i of them, the next goes to `place`
 pub record LastsTurning {X A B : Type 0} (key : X → ℕ) (put : X → A × B) (xs : List X) (firstOld firstNew : List A) (secondOld secondNew : List B) (i place : ℕ) : Type 0 where
