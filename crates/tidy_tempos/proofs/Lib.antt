@@ -3,3 +3,4 @@ pub mod FromZero
 pub mod InOrder
 pub mod ByKey
 pub mod AllChange
+pub mod Falling

@@ -28,6 +28,10 @@ keeps beats tempos i value =
 unfoldable pub apart : Float → Float → Bool
 apart beat next = pick (lt next beat) false (not (eq beat next))
 
+-- the next beat is below
+abbrev pub falling : Float → Float → Bool
+falling beat next = lt next beat
+
 -- the next tempo is another
 abbrev pub changesTo : Float → Float → Bool
 changesTo tempo next = ne next tempo
