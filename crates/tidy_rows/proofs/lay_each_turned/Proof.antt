@@ -75,7 +75,7 @@ loop-again c =
     let same = at .before .before .before .before .before .pre .0 .1 in
     let more = c .before .before .before .loop-test .taken in
     let here : getD (given .values .now) (length (given .beats .now) - 1 - at .loop .i) nan ≡ getD (given .values .now) (length (given .values .now) - 1 - at .loop .i) nan =
-        ap (λ (n : ℕ). getD (given .values .now) (n - 1 - at .loop .i) nan) same in
+    ap (λ (n : ℕ). getD (given .values .now) (n - 1 - at .loop .i) nan) same in
     (next-turned (given .beats .now) (at .loop .inv .0) nan more (c .before .allowed-on-row .ensures), next-turned (given .values .now) (at .loop .inv .1) nan more here)
 
 same-length : tie.Need-same-length Inv-loop μ-loop
