@@ -4,3 +4,4 @@ pub mod InOrder
 pub mod ByKey
 pub mod AllChange
 pub mod Falling
+pub mod KeptBack
