@@ -35,12 +35,12 @@ unfoldable pub apart : Float → Float → Bool
 apart beat next = pick (lt next beat) false (not (eq beat next))
 
 -- the next beat is not above
-abbrev pub notRising : Float → Float → Bool
-notRising beat next = not (lt beat next)
+abbrev pub noRiseTo : Float → Float → Bool
+noRiseTo beat next = not (lt beat next)
 
 -- the next beat is below
-abbrev pub falling : Float → Float → Bool
-falling beat next = lt next beat
+abbrev pub fallsTo : Float → Float → Bool
+fallsTo beat next = lt next beat
 
 -- the next tempo is another
 abbrev pub changesTo : Float → Float → Bool
