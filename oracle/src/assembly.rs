@@ -429,6 +429,14 @@ mod port {
             }
             raw
         }
+
+        /// The newest entry first in every list but speeds and scrolls.
+        pub fn turn_round(&mut self) {
+            for list in [TEMPOS, STOPS, DELAYS, WARPS, FAKES] {
+                self.numbers[list].reverse();
+                self.numbers[list + 1].reverse();
+            }
+        }
     }
 
     /// Beats on a few rows, mostly in order.

@@ -6,3 +6,5 @@ pub mod EachOverFront
 pub mod LastsLaid
 pub mod KeptLaid
 pub mod AllKept
+pub mod EachTurned
+pub mod TurnedLaid

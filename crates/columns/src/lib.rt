@@ -1,5 +1,6 @@
 // What a call answers that lays a result over the front of lent columns.
 ghost use mathlib.Core.Path.{_≡_};
+ghost use mathlib.Core.List.{reverse};
 ghost use Prim.Native.Nat.{min};
 ghost use lib.Ieee.{Float};
 ghost use Rattle.columns.specs.Each.{laidEach};
@@ -37,6 +38,18 @@ pub fn copy(from: &[f64], to: &mut [f64])
     let mut i = 0;
     while i < n {
         to[i] = from[i];
+        i += 1;
+    }
+}
+
+// The same, turned round: the last number first.
+pub fn copy_turned(from: &[f64], to: &mut [f64])
+    ensures { λ _. ⌜ to.exit.now ≡ laidEach (λ (x : Float). x) (reverse from.entry.now) to.entry.now ⌝ }
+{
+    let n = room_of(from.len(), to.len());
+    let mut i = 0;
+    while i < n {
+        to[i] = from[from.len() - 1 - i];
         i += 1;
     }
 }

@@ -14,3 +14,5 @@ pub mod LastEntries
 pub mod FallsCounted
 pub mod EachEntry
 pub mod PackedOrder
+pub mod TurnedRound
+pub mod RisesCounted

@@ -5,3 +5,4 @@ pub mod Outcomes
 pub mod EachStays
 pub mod OrderSoFar
 pub mod OneOutcome
+pub mod TurnedInPlace

@@ -1,4 +1,4 @@
--- Whether beats never fall, from one beat on: by the test of it and the next; and beats that are numbers never fall where their keys do not. Assumes nothing.
+-- Whether each two beats pass a test, from one beat on: by that of it and the next; and beats that are numbers never fall where their keys do not. Assumes nothing.
 use Prim.Native.Nat.{ℕ, suc, _+_, _≤_, _<_}
 use mathlib.Core.Path.{_≡_, refl, sym, ap, _∙_}
 use mathlib.Core.Bool.{Bool, true, false, not}
@@ -20,6 +20,7 @@ use Rattle.picks.specs.Pick.{pick}
 use Rattle.limits.specs.Numbers.{every}
 use Rattle.limits.specs.Neighbours.{neighbours, everyTwo, notFalling}
 
+-- ---- a test of each two, from one beat on
 module _ (beats : List Float) (i : ℕ) where
   one : i < length beats → drop i beats ≡ getD beats i nan ∷ drop (i + 1) beats
   one h = rw (add-one i, drop-cons beats i nan h)
@@ -27,21 +28,34 @@ module _ (beats : List Float) (i : ℕ) where
   two : i + 1 < length beats → drop i beats ≡ getD beats i nan ∷ getD beats (i + 1) nan ∷ drop (suc (i + 1)) beats
   two h = one (omega arith) ∙ ap (_∷_ (getD beats i nan)) (drop-cons beats (i + 1) nan h)
 
+  module _ (test : Float → Float → Bool) where
+    pub two-pass : i + 1 < length beats → test (getD beats i nan) (getD beats (i + 1) nan) ≡ true → everyTwo test (drop i beats) ≡ everyTwo test (drop (i + 1) beats)
+    unfolding neighbours every
+    two-pass h t = rw (two h, drop-cons beats (i + 1) nan h, t)
+
+    pub two-fail : i + 1 < length beats → test (getD beats i nan) (getD beats (i + 1) nan) ≡ false → everyTwo test (drop i beats) ≡ false
+    unfolding neighbours every
+    two-fail h t = rw (two h, t)
+
+    pub two-last : i < length beats → length beats ≤ i + 1 → everyTwo test (drop i beats) ≡ true
+    unfolding neighbours every
+    two-last h l = rw (one h, drop-of-length-le beats l)
+
+    pub two-none : length beats ≤ i → everyTwo test (drop i beats) ≡ true
+    unfolding neighbours every
+    two-none l = rw (drop-of-length-le beats l)
+
   pub order-turn : i + 1 < length beats → lt (getD beats (i + 1) nan) (getD beats i nan) ≡ false → everyTwo notFalling (drop i beats) ≡ everyTwo notFalling (drop (i + 1) beats)
-  unfolding neighbours every
-  order-turn h t = rw (two h, drop-cons beats (i + 1) nan h, t)
+  order-turn h t = two-pass notFalling h (ap not t)
 
   pub order-fall : i + 1 < length beats → lt (getD beats (i + 1) nan) (getD beats i nan) ≡ true → everyTwo notFalling (drop i beats) ≡ false
-  unfolding neighbours every
-  order-fall h t = rw (two h, t)
+  order-fall h t = two-fail notFalling h (ap not t)
 
   pub order-last : i < length beats → length beats ≤ i + 1 → everyTwo notFalling (drop i beats) ≡ true
-  unfolding neighbours every
-  order-last h l = rw (one h, drop-of-length-le beats l)
+  order-last h l = two-last notFalling h l
 
   pub order-end : length beats ≤ i → everyTwo notFalling (drop i beats) ≡ true
-  unfolding neighbours every
-  order-end l = rw (drop-of-length-le beats l)
+  order-end l = two-none notFalling l
 
 -- ---- by keys, over the format
 pub record Number (f : Format) (x : Float) : Type 0 where

@@ -3,3 +3,5 @@ pub mod FromZero
 pub mod InOrder
 pub mod ByKey
 pub mod AllChange
+pub mod Falling
+pub mod KeptBack

@@ -40,8 +40,8 @@ fn main() {
         ORDERS.iter().for_each(|order| bench.tidying::<Rows>(entries, *order));
         bench.tidying::<Rows>(entries, SPREAD);
     }
-    for entries in [16, 256] {
-        ORDERS[..2].iter().for_each(|order| bench.tidying::<Tempos>(entries, *order));
+    for entries in [16, 256, 1_024] {
+        ORDERS.iter().for_each(|order| bench.tidying::<Tempos>(entries, *order));
     }
     for entries in [16, 256, 1_024] {
         ORDERS[..2].iter().for_each(|order| bench.tidying::<Scrolls>(entries, *order));
@@ -53,13 +53,20 @@ fn main() {
         bench.lookups(entries);
     }
     for (tempos, stops) in [(50, 30), (1_024, 1_024)] {
-        bench.processing::<Ssc>(tempos, stops);
-        bench.processing::<Sm>(tempos, stops);
+        for newest_first in [false, true] {
+            bench.processing::<Ssc>(tempos, stops, newest_first);
+            bench.processing::<Sm>(tempos, stops, newest_first);
+        }
     }
     for (name, counts) in [("a typical chart", [50, 30, 10, 10, 20, 20, 10]), ("full lists", [1_024; 7])] {
-        bench.assembly(&format!("SSC of {name}"), true, counts, false);
-        bench.assembly(&format!("SM of {name}"), false, counts, false);
-        bench.assembly(&format!("SM of {name}, with warps"), false, counts, true);
+        bench.assembly(&format!("SSC of {name}"), true, assembly::typical(counts, false));
+        bench.assembly(&format!("SM of {name}"), false, assembly::typical(counts, false));
+        bench.assembly(&format!("SM of {name}, with warps"), false, assembly::typical(counts, true));
+        for (format, ssc) in [("SSC", true), ("SM", false)] {
+            let mut raw = assembly::typical(counts, false);
+            raw.turn_round();
+            bench.assembly(&format!("{format} of {name}, saved backwards but scrolls and speeds"), ssc, raw);
+        }
     }
     for entries in [16, 256] {
         bench.sm_stops(entries);
@@ -258,8 +265,7 @@ impl Bench {
 }
 
 impl Bench {
-    fn assembly(&mut self, name: &str, ssc: bool, counts: [usize; 7], backward: bool) {
-        let mut raw = assembly::typical(counts, backward);
+    fn assembly(&mut self, name: &str, ssc: bool, mut raw: assembly::Raw) {
         let mut rooms = assembly::Rooms::new([1_024; 16], &mut Random::new(1, "bench of assembly"));
         // full lists leave no place for made warps
         if assembly::assemble(ssc, &raw, &mut rooms).number == 1 {
@@ -305,21 +311,24 @@ impl Bench {
 }
 
 impl Bench {
-    /// A chart in order: a tempo and a stop every few beats.
-    fn processing<F: Format>(&mut self, tempos: usize, stops: usize) {
+    /// A tempo and a stop every few beats, in order or the newest first.
+    fn processing<F: Format>(&mut self, tempos: usize, stops: usize, newest_first: bool) {
         let mut random = Random::new(1, "bench of processing");
-        let columns = [
+        let mut columns: [Vec<f64>; 4] = [
             (0..tempos).map(|place| place as f64 * 4.0).collect(),
             (0..tempos).map(|_| 60.0 + random.part() * 200.0).collect(),
             (0..stops).map(|place| place as f64 * 5.0 + 0.5).collect(),
             (0..stops).map(|_| 0.05 + random.part()).collect(),
         ];
+        if newest_first {
+            columns.iter_mut().for_each(|column| column.reverse());
+        }
         let lists = charts::Lists { columns };
         let (list, segments) = (processing::tempos(&lists), processing::stops(&lists));
         let lengths = [tempos, tempos, stops, stops, tempos + stops, tempos + stops];
         let mut rooms: Rooms = lengths.map(|length| vec![0.0; length]);
         self.line(
-            &format!("{} of {tempos} tempos, {stops} stops", F::NAME),
+            &format!("{} of {tempos} tempos, {stops} stops{}", F::NAME, ["", ", reversed"][usize::from(newest_first)]),
             1,
             || {
                 black_box(F::port(black_box(&lists), &mut rooms, &lengths));

@@ -1,4 +1,4 @@
--- `tidy_rows::look_at_neighbours` counts falls and repeats over each two neighbours. Assumes nothing.
+-- `tidy_rows::look_at_neighbours` counts falls, repeats and rises over each two neighbours. Assumes nothing.
 use Prim.Native.Nat.{_+_, _-_, _≤_}
 use native.Mathlib.Omega.{arith}
 use lib.Dec.{T}
@@ -7,6 +7,7 @@ use lib.ListN.{length, getD}
 use Rattle.rows.specs.Rows.{allowedBeat}
 use Rattle.order.proofs.LastEntries.{Repeats, repeats-none, repeat-few, repeats-turn, repeats-all}
 use Rattle.order.proofs.FallsCounted.{Falls, falls-none, fall-few, falls-turn, falls-all}
+use Rattle.order.proofs.RisesCounted.{Unrisen, unrisen-none, unrisen-turn, unrisen-all}
 use Rattle.rows.proofs.Allowed.{allowed-at}
 use Rattle.rows.specs.RowKey.{rowKeyAt}
 use borrow.Author.Needs.{needs}
@@ -14,7 +15,7 @@ use Rattle.tidy_rows.proofs.look_at_neighbours.Statement.{statement}
 use Rattle.tidy_rows.proofs.look_at_neighbours.Tie as tie
 
 abbrev Inv-loop : tie.InvT-loop
-Inv-loop beats fallen₀ repeated₀ i₀ fallen repeated i = (i ≤ length beats) × Falls rowKeyAt beats i fallen × Repeats rowKeyAt beats i repeated
+Inv-loop beats fallen₀ repeated₀ i₀ fallen repeated i = (i ≤ length beats) × Falls rowKeyAt beats i fallen × Repeats rowKeyAt beats i repeated × Unrisen rowKeyAt beats i (fallen + repeated)
 
 abbrev μ-loop : tie.MeasureT-loop
 μ-loop beats fallen₀ repeated₀ i₀ fallen repeated i = length beats - i
@@ -28,7 +29,7 @@ both c =
     (allowed-at beats i (start .pre) (omega arith), allowed-at beats (i + 1) (start .pre) (c .loop-test .taken))
 
 loop-holds : tie.Need-loop-holds Inv-loop μ-loop
-loop-holds c = (omega arith, falls-none rowKeyAt, repeats-none rowKeyAt)
+loop-holds c = (omega arith, falls-none rowKeyAt, repeats-none rowKeyAt, unrisen-none rowKeyAt)
 
 add-loop : tie.Need-add-loop Inv-loop μ-loop
 add-loop c = search needs
@@ -92,12 +93,30 @@ loop-again : tie.Need-loop-again Inv-loop μ-loop
 loop-again c =
     let at = c .before .before .before .before .before .before .before in
     let more = c .before .before .before .before .before .before .loop-test .taken in
-    (omega arith, falls-turn rowKeyAt nan more (c .before .before .before .falls .ensures) (at .loop .inv .1), repeats-turn rowKeyAt nan more (c .repeats .ensures) (at .loop .inv .2))
+    let fall = c .before .before .before .falls .ensures in
+    let same = c .repeats .ensures in
+    let inv = at .loop .inv in (
+      omega arith,
+      falls-turn rowKeyAt nan more fall (inv .1),
+      repeats-turn rowKeyAt nan more same (inv .2),
+      unrisen-turn rowKeyAt nan (at .loop .fallen) (at .loop .repeated) more fall same (inv .3),
+    )
+
+add-rises : tie.Need-add-rises Inv-loop μ-loop
+add-rises c = record { fits = omega (arith, c .before .loop .inv .3 .few) }
+
+sub-rises : tie.Need-sub-rises Inv-loop μ-loop
+sub-rises c = c .before .loop .inv .3 .few
 
 returns : tie.Need-returns Inv-loop μ-loop
 returns c =
-    let loop = c .before .loop in
-    record { inOrder = falls-all rowKeyAt (c .loop-test .left) (loop .inv .1); kept = repeats-all rowKeyAt (loop .inv .0) (c .loop-test .left) (loop .inv .2) }
+    let inv = c .before .loop .inv in
+    let past = c .loop-test .left in
+    record {
+      inOrder = falls-all rowKeyAt past (inv .1);
+      turned = λ z. unrisen-all rowKeyAt past (inv .3) (omega (arith, z, inv .3 .few));
+      kept = repeats-all rowKeyAt (inv .0) past (inv .2);
+    }
 
 pub look-at-neighbours-spec : {M : Type 1} → statement M
 look-at-neighbours-spec =
@@ -124,4 +143,6 @@ look-at-neighbours-spec =
     add-i
     loop-less
     loop-again
+    add-rises
+    sub-rises
     returns)

@@ -41,8 +41,11 @@ same-length-2 c = search needs
 returns-2 : tie.Need-returns-2
 returns-2 c = c .before .before .before .before .tidy-ordered .ensures
 
-tidy-by-sort-untested-requires : tie.Need-tidy-by-sort-untested-requires
-tidy-by-sort-untested-requires c κs = search needs
+tidy-turned-requires : tie.Need-tidy-turned-requires
+tidy-turned-requires c κs =
+    let looked = c .before .before .before .before .before .before in
+    let seen = looked .look-at-neighbours .ensures in
+    (sym (looked .before .before .list-number .ensures) ∙ looked .before .if1 .left, (seen .turned (c .before .before .if3 .taken), seen .kept))
 
 same-length-3 : tie.Need-same-length-3
 same-length-3 c = search needs
@@ -51,10 +54,22 @@ same-length-4 : tie.Need-same-length-4
 same-length-4 c = search needs
 
 returns-3 : tie.Need-returns-3
+returns-3 c = c .before .before .before .before .tidy-turned .ensures
+
+tidy-by-sort-untested-requires : tie.Need-tidy-by-sort-untested-requires
+tidy-by-sort-untested-requires c κs = search needs
+
+same-length-5 : tie.Need-same-length-5
+same-length-5 c = search needs
+
+same-length-6 : tie.Need-same-length-6
+same-length-6 c = search needs
+
+returns-4 : tie.Need-returns-4
 unfolding tidyRows
-returns-3 c =
-    let given = c .before .before .before .before .before .before .before .before .before .before .before .before .before .before .before .before .args in
-    let zero = sym (c .before .before .before .before .before .before .before .before .before .before .before .list-number .ensures) ∙ c .before .before .before .before .before .before .before .before .before .before .if1 .left in
+returns-4 c =
+    let given = c .before .before .before .before .before .before .before .before .before .before .before .before .before .before .before .before .before .before .args in
+    let zero = sym (c .before .before .before .before .before .before .before .before .before .before .before .before .before .list-number .ensures) ∙ c .before .before .before .before .before .before .before .before .before .before .before .before .if1 .left in
     let list = list-taken zero in
     numbered (taken-sizes (length (given .beats .now)) (length (given .values .now)) (list .few) (list .even) ∙ sym zero) (c .before .before .before .before .tidy-by-sort-untested .ensures)
 
@@ -70,7 +85,11 @@ tidy-row-segments-spec =
     same-length
     same-length-2
     returns-2
-    tidy-by-sort-untested-requires
+    tidy-turned-requires
     same-length-3
     same-length-4
-    returns-3)
+    returns-3
+    tidy-by-sort-untested-requires
+    same-length-5
+    same-length-6
+    returns-4)

@@ -1,5 +1,5 @@
--- The changes of tempo among entries whose beats never fall, by the tests that the code makes. Definitions only.
-use Prim.Native.Nat.{ℕ, _+_, _<_}
+-- The changes of tempo among entries whose beats never fall, or never rise, by the tests that the code makes. Definitions only.
+use Prim.Native.Nat.{ℕ, zero, suc, _+_, _<_}
 use mathlib.Core.Bool.{Bool, true, false, not}
 use mathlib.Core.List.{List, [], _∷_}
 use lib.Dec.{ltb}
@@ -24,9 +24,23 @@ keeps beats tempos i value =
     (pick (eq (getD beats i nan) (getD beats (i + 1) nan)) false (ne (getD tempos i nan) value))
     (ne (getD tempos i nan) value)
 
+-- the same of entries whose beats never rise, the first n of them from the last to the first
+unfoldable pub keptBack : List Float → List Float → ℕ → Float → List (Float × Float)
+keptBack beats tempos zero value = []
+keptBack beats tempos (suc i) value =
+    pick (keeps beats tempos i value) ((getD beats i nan, getD tempos i nan) ∷ keptBack beats tempos i (getD tempos i nan)) (keptBack beats tempos i value)
+
 -- the next beat is neither below nor the same
 unfoldable pub apart : Float → Float → Bool
 apart beat next = pick (lt next beat) false (not (eq beat next))
+
+-- the next beat is not above
+abbrev pub noRiseTo : Float → Float → Bool
+noRiseTo beat next = not (lt beat next)
+
+-- the next beat is below
+abbrev pub fallsTo : Float → Float → Bool
+fallsTo beat next = lt next beat
 
 -- the next tempo is another
 abbrev pub changesTo : Float → Float → Bool
