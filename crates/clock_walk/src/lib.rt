@@ -268,7 +268,7 @@ fn find_due(heads: Heads, asked: i32) -> Due
 // ---- time
 
 // A number of a list, and a NaN beyond its end.
-fn read_at(values: &[f32], place: usize) -> f64
+pub fn read_at(values: &[f32], place: usize) -> f64
     ensures { λ r. ⌜ r ≡ getD (now (values .entry)) place nan ⌝ }
 {
     if place < values.len() {
@@ -317,7 +317,7 @@ fn get_bpm_for_row(row: i32, tempo_beats: &[f32], tempo_values: &[f32]) -> f64
 }
 
 // The tempo that a walk begins with where none is passed yet.
-fn early_tempo(state: State, tempo_beats: &[f32], tempo_values: &[f32]) -> f64
+pub fn early_tempo(state: State, tempo_beats: &[f32], tempo_values: &[f32]) -> f64
     ensures { λ r. ⌜ r ≡ earlyTempo (now («tempo_beats» .entry)) (now («tempo_values» .entry)) state ⌝ }
 {
     let place = state.tempos;
