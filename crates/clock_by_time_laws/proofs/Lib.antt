@@ -1,0 +1,2 @@
+pub mod AtMostOneRound
+pub mod FarWarpEnd
