@@ -1,10 +1,10 @@
 // The walk through the events of a timing, up to an asked row.
 use chart::State;
 ghost use mathlib.Core.Path.{_≡_};
-ghost use mathlib.Core.Bool.{true};
+ghost use mathlib.Core.Bool.{true, false};
 ghost use Prim.Native.Nat.{_<_, _^_};
 ghost use lib.ListN.{length, getD};
-ghost use lib.Ieee.{nan};
+ghost use lib.Ieee.{nan, lt};
 ghost use Rattle.ieee.specs.Constants.{sixty};
 ghost use Rattle.chart.specs.Timing.{timing};
 ghost use Rattle.clock_walk.specs.Events.{goesFirst, goesBefore, dueOf};
@@ -14,6 +14,7 @@ ghost use Rattle.clock_walk.specs.inside.CanMove.{CanMove};
 ghost use Rattle.clock_walk.specs.Quiet.{rowAt, endRow, notBefore, isLater, isNextLater, onlyTempos};
 ghost use Rattle.clock_walk.specs.Soon.{quietAt, tempoPassed, rowAfter, soonOf};
 ghost use Rattle.clock_walk.specs.declared.Event.the-variants.{Tempo};
+ghost use Rattle.clock_walk.specs.declared.Ahead.the-variants.{Found};
 ghost use Rattle.clock_walk.specs.declared.Due.the-variants.{Passes};
 ghost use Rattle.clock_walk.specs.Walk.{walk};
 ghost use Rattle.clock_walk.specs.ByTime.{stillRuns, pauseOf, walkBy};
@@ -229,13 +230,10 @@ fn goes_before(next: Next, asked: i32) -> bool
     goes_first(kind)
 }
 
-// True only where a tempo is due: no other head is looked at twice.
-fn is_tempo_due(heads: Heads, asked: i32) -> bool
-    ensures { λ r. ⌜ (r ≡ true → dueOf asked (aheadOf heads) ≡ Passes (record { row = heads .tempo; kind = Tempo })) ⌝ }
+// True only where a tempo is ahead and alone on its row, as most events of many charts are: no other head is looked at twice.
+fn is_tempo_ahead(heads: Heads) -> bool
+    ensures { λ r. ⌜ (r ≡ true → aheadOf heads ≡ Found (record { row = heads .tempo; kind = Tempo })) ⌝ }
 {
-    if asked < heads.tempo {
-        return false;
-    }
     if heads.tempo < heads.stop {
         if heads.tempo < heads.delay {
             if heads.tempo < heads.warp {
@@ -246,6 +244,16 @@ fn is_tempo_due(heads: Heads, asked: i32) -> bool
         return false;
     }
     false
+}
+
+// True only where such a tempo is due.
+fn is_tempo_due(heads: Heads, asked: i32) -> bool
+    ensures { λ r. ⌜ (r ≡ true → dueOf asked (aheadOf heads) ≡ Passes (record { row = heads .tempo; kind = Tempo })) ⌝ }
+{
+    if asked < heads.tempo {
+        return false;
+    }
+    is_tempo_ahead(heads)
 }
 
 // What is due: an event that goes before the asked beat, or the beat.
@@ -713,7 +721,18 @@ fn pause_of(kind: Event) -> Pausing
     }
 }
 
-// From a state on, every event that is over by a time; early is the tempo before any is passed.
+// True only where a tempo is ahead, alone on its row, and has come by a time.
+fn is_tempo_over(state: State, heads: Heads, elapsed: f64, early: f64, tempo_values: &[f32]) -> bool
+    ensures { λ r. ⌜ (r ≡ true → (aheadOf heads ≡ Found (record { row = heads .tempo; kind = Tempo })) × (lt elapsed (timeAt early (now («tempo_values» .entry)) state (heads .tempo)) ≡ false)) ⌝ }
+{
+    if is_tempo_ahead(heads) {
+        let later = elapsed < time_at(state, heads.tempo, early, tempo_values);
+        return !later;
+    }
+    false
+}
+
+// From a state on, every event that is over by a time; early is the tempo before any is passed. Tempos have a branch of their own, as in `walk_to`.
 pub fn walk_by(
     start: State,
     elapsed: f64,
@@ -736,6 +755,17 @@ pub fn walk_by(
     let mut heads = heads_of(start, tempo_beats, stop_beats, delay_beats, warp_beats);
     let mut passed: usize = 0;
     loop {
+        if is_tempo_over(state, heads, elapsed, early, tempo_values) {
+            let tempo = Next {
+                row: heads.tempo,
+                kind: Event::Tempo,
+            };
+            let time = time_at(state, heads.tempo, early, tempo_values);
+            state = pass_event(state, tempo, time, 0.0);
+            heads.tempo = row_at(tempo_beats, state.tempos);
+            passed = passed + 1;
+            continue;
+        }
         let found = find_ahead(heads);
         let Ahead::Found(next) = found else {
             let tempo = tempo_in_force(early, tempo_values, state.tempos);
