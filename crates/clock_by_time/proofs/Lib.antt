@@ -1,2 +1,3 @@
 pub mod WalkedFresh
+pub mod LaterTimes
 pub mod InfoOutcome
