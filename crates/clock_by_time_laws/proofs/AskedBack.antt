@@ -1,9 +1,10 @@
 -- Where time does not fall, what goes before a beat is passed by its time (`AskedBack`). Assumes nothing.
-use Prim.Native.Nat.{ℕ, zero, suc, _+_, _<_, _≤_}
+use Prim.Native.Nat.{ℕ, zero, suc, _+_, _≤_}
 use mathlib.Core.Bool.{Bool, true, false, not}
-use mathlib.Core.Path.{_≡_, refl, sym, ap, _∙_, subst}
+use mathlib.Core.Path.{_≡_, refl, sym, ap, _∙_}
 use native.Mathlib.Omega.{arith}
 use lib.Dec.{T}
+use denote.Floats.{passes}
 use lib.IntN.{ℤ}
 use lib.Ieee.{Float, binary64, add, lt, le}
 use Rattle.picks.specs.Pick.{pick}
@@ -11,11 +12,11 @@ use Rattle.ieee.proofs.FloatsInOrder.{float-le-trans, float-lt-not-le}
 use Rattle.rows.proofs.RowOrder.{no}
 use Rattle.chart.specs.Timing.{Timing}
 use Rattle.chart.specs.declared.State.{State}
-use Rattle.clock_walk.specs.Events.{ahead, due, dueOf}
-use Rattle.clock_walk.specs.Passing.{timeAt, brings, arrived, eventPassed, passing, afterWarpEnd, afterTempo, afterDelay, afterStop, afterWarp}
-use Rattle.clock_walk.specs.Course.{isFound, isAhead, pastFound, onward, eventsLeft, Stopped, passWhile}
-use Rattle.clock_walk.specs.Walk.{isDue, ended, walkOn}
-use Rattle.clock_walk.specs.ByTime.{hasCome, isDelayOrStop, stillRuns, overBy, isAheadOver, isFoundOver, passedBy}
+use Rattle.clock_walk.specs.Events.{ahead}
+use Rattle.clock_walk.specs.Passing.{timeAt, brings, arrived, eventPassed, passing, afterDelay, afterStop}
+use Rattle.clock_walk.specs.Course.{isFound, onward, eventsLeft, Stopped, passWhile}
+use Rattle.clock_walk.specs.Walk.{isDue, walkOn}
+use Rattle.clock_walk.specs.ByTime.{hasCome, stillRuns, overBy, isAheadOver, passedBy}
 use Rattle.clock_walk.specs.declared.Next.{Next}
 use Rattle.clock_walk.specs.declared.Event.{Event}
 use Rattle.clock_walk.specs.declared.Event.the-variants.{WarpEnd, Tempo, Delay, Stop, Warp}
@@ -27,9 +28,6 @@ use Rattle.clock_walk.proofs.ClockTest.{says-due, walk-on, walk-end}
 use Rattle.clock_walk.proofs.OverByATime.{says-over}
 use Rattle.clock_by_time_laws.specs.AskedBack.{holdsPast, holdsWithin, timeHolds, AskedBack}
 
-held : (b : Bool) → b ≡ true → T b
-held b e = subst T (sym e) tt
-
 both : (a b : Bool) → pick a b false ≡ true → (a ≡ true) × (b ≡ true)
 both true b h = (refl, h)
 both false b h = no h
@@ -40,7 +38,7 @@ not-above x time h = go (lt time x) refl
   where
     go : (b : Bool) → lt time x ≡ b → b ≡ false
     go false e = refl
-    go true e = absurd (float-lt-not-le time x (held _ e) h)
+    go true e = absurd (float-lt-not-le time x (passes _ e) h)
 
 module _ (early : Float) (t : Timing) where
   -- ---- an event is over by every time from the one on that it leaves behind
@@ -65,8 +63,8 @@ module _ (early : Float) (t : Timing) where
       let comes = timeAt early (t .tempoValues) s (n .row) in
       let parts = both (le (s .time) comes) (le comes (passing early t s n .time)) (rw is at holds) in
       let left : T (le (passing early t s n .time) time) = rw is at after in
-      let come = float-le-trans comes (passing early t s n .time) time (held _ (parts .1)) left in
-      (rw is (over-past s time n come left), float-le-trans (s .time) comes time (held _ (parts .0)) come)
+      let come = float-le-trans comes (passing early t s n .time) time (passes _ (parts .1)) left in
+      (rw is (over-past s time n come left), float-le-trans (s .time) comes time (passes _ (parts .0)) come)
   past s time NotFound is found holds after = no found
 
   module _ (r : ℤ) (time : Float) where
@@ -80,8 +78,8 @@ module _ (early : Float) (t : Timing) where
         → (passWhile more early t s n ≡ beyond (passWhile (isDue t r) early t s n)) × T (le (s .time) time)
     unfolding holdsWithin
     by-left zero true s n e l h is = let k = left-falls early t s (says-due t r s e) in absurd (omega arith)
-    by-left zero false s n e l h is = (ap beyond (sym (pass-end early t (isDue t r) (says-due t r) s n e)), rw (is, walk-end early t r s n e) (held _ h))
-    by-left (suc f) false s n e l h is = (ap beyond (sym (pass-end early t (isDue t r) (says-due t r) s n e)), rw (is, walk-end early t r s n e) (held _ (rw e at h)))
+    by-left zero false s n e l h is = (ap beyond (sym (pass-end early t (isDue t r) (says-due t r) s n e)), rw (is, walk-end early t r s n e) (passes _ h))
+    by-left (suc f) false s n e l h is = (ap beyond (sym (pass-end early t (isDue t r) (says-due t r) s n e)), rw (is, walk-end early t r s n e) (passes _ (rw e at h)))
     by-left (suc f) true s n e l h is =
         let k = left-falls early t s (says-due t r s e) in
         let parts = both (holdsPast early t s) (holdsWithin f early t r (onward early t s)) (rw e at h) in

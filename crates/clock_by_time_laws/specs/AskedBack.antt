@@ -13,7 +13,7 @@ use Rattle.chart.specs.Timing.{Timing}
 use Rattle.chart.specs.declared.State.{State}
 use Rattle.clock_walk.specs.Events.{rowAhead, ahead}
 use Rattle.clock_walk.specs.Passing.{timeAt}
-use Rattle.clock_walk.specs.Course.{onward, eventsLeft, Stopped, passWhile}
+use Rattle.clock_walk.specs.Course.{onward, eventsLeft, passWhile}
 use Rattle.clock_walk.specs.Walk.{isDue, walkOn}
 use Rattle.clock_walk.specs.ByTime.{isAheadOver, passedBy}
 use Rattle.clock_walk.specs.declared.Walked.{Walked}

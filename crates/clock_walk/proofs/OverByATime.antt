@@ -11,14 +11,13 @@ use Rattle.chart.specs.Timing.{Timing}
 use Rattle.clock_walk.specs.Events.{ahead}
 use Rattle.clock_walk.specs.Passing.{inForce, timeAt, brings}
 use Rattle.clock_walk.specs.Course.{isFound, eventsLeft}
-use Rattle.clock_walk.specs.ByTime.{hasCome, isDelayOrStop, stillRuns, overBy, isFoundOver, isAheadOver, passedBy, pauseOf, pauseFound, pausing, stoppedBy, walkBy}
+use Rattle.clock_walk.specs.ByTime.{hasCome, isDelayOrStop, stillRuns, overBy, isFoundOver, isAheadOver, passedBy, pauseOf, pausing, stoppedBy, walkBy}
 use Rattle.chart.specs.declared.State.{State}
 use Rattle.clock_walk.specs.declared.Next.{Next}
 use Rattle.clock_walk.specs.declared.Ahead.{Ahead}
 use Rattle.clock_walk.specs.declared.Ahead.the-variants.{Found, NotFound}
 use Rattle.clock_walk.specs.declared.Pausing.{Pausing}
 use Rattle.clock_walk.specs.declared.Pausing.the-variants.{NoPause}
-use Rattle.clock_walk.specs.declared.ByTime.{ByTime}
 use Rattle.rows.proofs.RowOrder.{no}
 use Rattle.clock_walk.proofs.EventByEvent.{count-fits}
 use Rattle.clock_walk.proofs.AllWalks.{SaysAhead, Going, pass-end, spent-on, stops-at}

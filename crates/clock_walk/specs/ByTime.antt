@@ -1,5 +1,4 @@
 -- The walk to a time: no beat is asked, and events are passed as long as they are over by then. Definitions only.
-use Prim.Native.Nat.{ℕ}
 use mathlib.Core.Bool.{Bool, true, false, not}
 use lib.Ieee.{Float, binary64, add, lt}
 use Rattle.picks.specs.Pick.{pick}

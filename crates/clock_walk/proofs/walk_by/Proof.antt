@@ -1,7 +1,6 @@
 -- `clock_walk::walk_by` passes what is over by a time. Assumes nothing.
 use Prim.Native.Nat.{_+_, _<_}
 use mathlib.Core.Path.{_≡_, refl, sym, ap, _∙_}
-use mathlib.Core.Bool.{true, false}
 use native.Mathlib.Omega.{arith}
 use Rattle.chart.specs.Timing.{Timing, timing}
 use Rattle.clock_walk.specs.Events.{ahead}
