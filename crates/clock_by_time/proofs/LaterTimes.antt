@@ -2,21 +2,20 @@
 use Prim.Native.Nat.{ℕ, zero, suc, _+_, _*_, _^_, _<_, _≤_}
 use mathlib.Core.Bool.{Bool, true, false, not}
 use mathlib.Core.Logic.{⊎-elim}
-use mathlib.Core.Path.{_≡_, refl, sym, ap, _∙_, subst}
+use mathlib.Core.Path.{_≡_, refl, sym, ap, _∙_}
 use native.Mathlib.Omega.{arith}
 use lib.Dec.{T}
+use denote.Floats.{passes, is-true}
 use lib.ListN.{length}
-use lib.Ieee.{Float, nan, inf, fin, isNan, lt, le, eq}
+use lib.Ieee.{Float, nan, inf, fin, isNan, lt, le}
 use Rattle.picks.specs.Pick.{pick}
 use Rattle.ieee.proofs.FloatsInOrder.{float-le-trans, float-lt-or-le, float-lt-not-le}
 use Rattle.rows.proofs.RowOrder.{no}
 use Rattle.chart.specs.Timing.{Timing}
 use Rattle.chart.specs.declared.State.{State}
 use Rattle.clock_walk.specs.Events.{ahead}
-use Rattle.clock_walk.specs.Passing.{timeAt, brings}
-use Rattle.clock_walk.specs.Course.{onward, eventsLeft, Stopped, passWithin, passWhile}
-use Rattle.clock_walk.specs.ByTime.{hasCome, isPause, stillRuns, overBy, isFoundOver, isOver, passedBy, stoppedBy, walkBy}
-use Rattle.clock_walk.specs.declared.Next.{Next}
+use Rattle.clock_walk.specs.Course.{onward, eventsLeft, passWithin, passWhile}
+use Rattle.clock_walk.specs.ByTime.{hasCome, isDelayOrStop, stillRuns, overBy, isFoundOver, isAheadOver, passedBy, stoppedBy, walkBy}
 use Rattle.clock_walk.specs.declared.Ahead.{Ahead}
 use Rattle.clock_walk.specs.declared.Ahead.the-variants.{Found, NotFound}
 use Rattle.clock_walk.specs.declared.ByTime.{ByTime}
@@ -28,13 +27,6 @@ use Rattle.clock_by_time.specs.declared.Reached.{Reached}
 use Rattle.clock_by_time.specs.inside.OnTheWay.{OnTheWay}
 
 -- ---- of floats: what is above a later time is above an earlier one
-held : (b : Bool) → b ≡ true → T b
-held b e = subst T (sym e) tt
-
-yes : (b : Bool) → T b → b ≡ true
-yes true h = refl
-yes false h = absurd h
-
 above-is-number : (x y : Float) → T (lt x y) → T (not (isNan y))
 unfolding lt isNan
 above-is-number x (inf s) h = tt
@@ -45,9 +37,9 @@ above-is-number (fin s m e) nan h = h
 
 lt-before : (first later x : Float) → le first later ≡ true → lt later x ≡ true → lt first x ≡ true
 lt-before first later x h k =
-    yes (lt first x)
-    (⊎-elim (λ l. l) (λ up. absurd (float-lt-not-le later x (held _ k) (float-le-trans x first later up (held _ h))))
-    (float-lt-or-le first x (number first later h) (above-is-number later x (held _ k))))
+    is-true (lt first x)
+    (⊎-elim (λ l. l) (λ up. absurd (float-lt-not-le later x (passes _ k) (float-le-trans x first later up (passes _ h))))
+    (float-lt-or-le first x (number first later h) (above-is-number later x (passes _ k))))
 
 not-above : (first later x : Float) → le first later ≡ true → lt first x ≡ false → lt later x ≡ false
 not-above first later x h k = go (lt later x) refl
@@ -67,10 +59,10 @@ module _ (early : Float) (t : Timing) where
   module _ (first later : Float) (h : le first later ≡ true) where
     found-over : (s : State) (a : Ahead) → isFoundOver first early t s a ≡ true → isFoundOver later early t s a ≡ true
     unfolding overBy hasCome stillRuns
-    found-over s (Found n) o = by-tests (lt first _) (lt first _) (isPause (n .kind)) (lt later _) (lt later _) o (not-above first later _ h) (not-above first later _ h)
+    found-over s (Found n) o = by-tests (lt first _) (lt first _) (isDelayOrStop (n .kind)) (lt later _) (lt later _) o (not-above first later _ h) (not-above first later _ h)
     found-over s NotFound o = no o
 
-    over-later : (s : State) → isOver first early t s ≡ true → isOver later early t s ≡ true
+    over-later : (s : State) → isAheadOver first early t s ≡ true → isAheadOver later early t s ≡ true
     over-later s o = found-over s (ahead t s) o
 
   -- ---- the count that a walk begins with is added to what it passes
@@ -95,15 +87,15 @@ module _ (early : Float) (t : Timing) where
     pub way-goes-on : (elapsed : Float) (w : ByTime) → w ≡ walkBy elapsed early t start → OnTheWay early t start (record { state = w .state; passed = w .passed; elapsed = elapsed })
     unfolding walkBy passedBy
     way-goes-on elapsed w is = rw is (record {
-      same = λ later h. sym (passed-on early t (isOver elapsed early t) (isOver later early t) (says-over later early t) (over-later elapsed later h) start 0);
-      few = let h = spent-on early t (isOver elapsed early t) (says-over elapsed early t) start 0 in omega arith;
+      same = λ later h. sym (passed-on early t (isAheadOver elapsed early t) (isAheadOver later early t) (says-over later early t) (over-later elapsed later h) start 0);
+      few = let h = spent-on early t (isAheadOver elapsed early t) (says-over elapsed early t) start 0 in omega arith;
     })
 
     module _ (at : Reached) (way : OnTheWay early t start at) (elapsed : Float) (w : ByTime) (is : w ≡ walkBy elapsed early t (at .state)) where
       pub walked-on : le (at .elapsed) elapsed ≡ true
           → record { state = w .state; passed = at .passed + w .passed; pause = w .pause; tempo = w .tempo } ≡ walkBy elapsed early t start
       unfolding walkBy passedBy
-      walked-on h = rw is (ap (stoppedBy elapsed early t) (sym (count-added (isOver elapsed early t) (at .state) (at .passed)) ∙ way .same elapsed h))
+      walked-on h = rw is (ap (stoppedBy elapsed early t) (sym (count-added (isAheadOver elapsed early t) (at .state) (at .passed)) ∙ way .same elapsed h))
 
       pub sum-fits : length (t .tempoBeats) * 4 < 2 ^ 63 → length (t .stopBeats) * 4 < 2 ^ 63 → length (t .delayBeats) * 4 < 2 ^ 63 → length (t .warpBeats) * 4 < 2 ^ 63 → at .passed + w .passed < 2 ^ 64
       unfolding walkBy

@@ -1,4 +1,4 @@
-// Which beat is it at this time? No cursor: each question walks from the start, and passes what is over by then.
+// Which beat is it at this time? There is no cursor: a question walks from the start, and passes what is over by then; a run goes on where time does not fall.
 use chart::State;
 use clock_walk::ByTime;
 use clock_walk::Pausing;
@@ -311,7 +311,9 @@ fn walk_on(
     warp_beats: &[f32],
     warp_lengths: &[f32],
 ) -> ByTime
-    requires { ⌜ OnTheWay early (timing (now «tempo_beats») (now «tempo_values») (now «stop_beats») (now «stop_values») (now «delay_beats») (now «delay_values») (now «warp_beats») (now «warp_lengths»)) start reached ⌝ }
+    requires { let t = timing (now «tempo_beats») (now «tempo_values») (now «stop_beats») (now «stop_values»)
+        (now «delay_beats») (now «delay_values») (now «warp_beats») (now «warp_lengths») in
+        ⌜ OnTheWay early t start reached ⌝ }
     ensures { λ r.
         let t = timing «tempo_beats».entry.now «tempo_values».entry.now «stop_beats».entry.now «stop_values».entry.now
         «delay_beats».entry.now «delay_values».entry.now «warp_beats».entry.now «warp_lengths».entry.now in
@@ -371,7 +373,9 @@ fn answer_on(
     warp_beats: &[f32],
     warp_lengths: &[f32],
 ) -> Step
-    requires { ⌜ OnTheWay early (timing (now «tempo_beats») (now «tempo_values») (now «stop_beats») (now «stop_values») (now «delay_beats») (now «delay_values») (now «warp_beats») (now «warp_lengths»)) start reached ⌝ }
+    requires { let t = timing (now «tempo_beats») (now «tempo_values») (now «stop_beats») (now «stop_values»)
+        (now «delay_beats») (now «delay_values») (now «warp_beats») (now «warp_lengths») in
+        ⌜ OnTheWay early t start reached ⌝ }
     ensures { λ r.
         let t = timing «tempo_beats».entry.now «tempo_values».entry.now «stop_beats».entry.now «stop_values».entry.now
         «delay_beats».entry.now «delay_values».entry.now «warp_beats».entry.now «warp_lengths».entry.now in

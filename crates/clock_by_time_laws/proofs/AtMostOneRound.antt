@@ -1,16 +1,15 @@
 -- The beat of a time passes one round of events at most, and says what it is asked to say (`OneRound`). Assumes nothing.
 use Prim.Native.Nat.{ℕ, _+_, _≤_}
 use mathlib.Core.Bool.{Bool, true, false, _&&_}
-use mathlib.Core.Path.{_≡_, refl, sym, ap, _∙_}
+use mathlib.Core.Path.{_≡_, refl, ap}
 use native.Mathlib.Omega.{arith}
 use lib.Dec.{eqb}
 use lib.Ieee.{Float, binary64, add}
-use Rattle.picks.specs.Pick.{pick}
 use Rattle.limits.specs.Refusals.{lower}
 use Rattle.chart.specs.Timing.{Timing}
 use Rattle.clock_tests.specs.TimingNumbers.{timingNumber}
 use Rattle.clock_walk.specs.Passing.{earlyTempo}
-use Rattle.clock_walk.specs.ByTime.{passedBy, walkBy}
+use Rattle.clock_walk.specs.ByTime.{walkBy}
 use Rattle.clock_walk.specs.declared.Pausing.{Pausing}
 use Rattle.clock_walk.specs.declared.Pausing.the-variants.{InDelay, InFreeze, NoPause}
 use Rattle.clock_walk.proofs.OverByATime.{at-most-one-round}

@@ -2,7 +2,7 @@
 use mathlib.Core.List.{[], _∷_}
 use mathlib.Core.Path.{_≡_, refl}
 use lib.IntN.{pos}
-use lib.Ieee.{Float, fin, add, sub, neg, mul, div, ofInt, lt, le, eq, sum}
+use lib.Ieee.{fin, add, sub, neg, mul, div, ofInt, lt, le, sum}
 use mathlib.Core.Bool.{true, false}
 use Rattle.ieee.specs.Constants.{plusZero, sixty}
 use Rattle.ieee.specs.Rounding.{rint, hold}

@@ -8,7 +8,7 @@ use Rattle.picks.specs.Pick.{pick}
 use Rattle.chart.specs.Timing.{Timing}
 use Rattle.chart.specs.declared.State.{State}
 use Rattle.clock_walk.specs.Course.{eventsLeft, passWhile}
-use Rattle.clock_walk.specs.ByTime.{isOver, passedBy, walkBy}
+use Rattle.clock_walk.specs.ByTime.{isAheadOver, passedBy, walkBy}
 use Rattle.clock_by_time.specs.BeatAt.{timeNumber, infoOf, infoRefused}
 use Rattle.clock_by_time.specs.declared.BeatInfo.{BeatInfo}
 use Rattle.clock_by_time.specs.declared.Reached.{Reached}
@@ -21,5 +21,5 @@ infoFrom early t start global time =
 
 -- a walk to no earlier time comes from here to where it comes from the start
 pub record OnTheWay (early : Float) (t : Timing) (start : State) (at : Reached) : Type 0 where
-  pub same : (later : Float) → le (at .elapsed) later ≡ true → passWhile (isOver later early t) early t (at .state) (at .passed) ≡ passedBy later early t start
+  pub same : (later : Float) → le (at .elapsed) later ≡ true → passWhile (isAheadOver later early t) early t (at .state) (at .passed) ≡ passedBy later early t start
   pub few : at .passed + eventsLeft t (at .state) ≤ eventsLeft t start

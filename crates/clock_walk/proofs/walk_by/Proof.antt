@@ -12,7 +12,7 @@ use Rattle.clock_walk.specs.Events.{ahead}
 use Rattle.clock_walk.specs.Passing.{timeAt, brings, eventPassed, passing}
 use Rattle.clock_walk.specs.inside.CanMove.{CanMove}
 use Rattle.clock_walk.specs.Course.{pastFound, eventsLeft}
-use Rattle.clock_walk.specs.ByTime.{stillRuns, isOver}
+use Rattle.clock_walk.specs.ByTime.{stillRuns, isAheadOver}
 use Rattle.clock_walk.specs.Heads.{headsOf, headsAfter, aheadOf}
 use Rattle.chart.specs.declared.State.{State}
 use Rattle.clock_walk.specs.declared.Next.{Next}
@@ -31,7 +31,7 @@ use Rattle.clock_walk.proofs.walk_by.Tie as tie
 abbrev Inv-loop : tie.InvT-loop
 Inv-loop elapsed early tempo-beats tempo-values stop-beats stop-values delay-beats delay-values warp-beats warp-lengths start heads₀ none state heads passed =
     let t = timing tempo-beats tempo-values stop-beats stop-values delay-beats delay-values warp-beats warp-lengths in
-    Going early t (isOver elapsed early t) (says-over elapsed early t) start state passed × (heads ≡ headsOf tempo-beats stop-beats delay-beats warp-beats state)
+    Going early t (isAheadOver elapsed early t) (says-over elapsed early t) start state passed × (heads ≡ headsOf tempo-beats stop-beats delay-beats warp-beats state)
 
 abbrev μ-loop : tie.MeasureT-loop
 μ-loop elapsed early tempo-beats tempo-values stop-beats stop-values delay-beats delay-values warp-beats warp-lengths start heads₀ none state heads passed =
@@ -57,12 +57,12 @@ module _ (c : tie.At-loop Inv-loop μ-loop) (n : Next) (is : ahead (timing-of c)
   can-pass = let g = c .before .before .before .before .before .before .before .before .before .before .good in moves (timing-of c) (c .loop .state) n is (g .1 .1 .1 .0 .1) (g .1 .1 .1 .1 .1 .0 .1) (g .1 .1 .1 .1 .1 .1 .1 .0 .1) (g .1 .1 .1 .1 .1 .1 .1 .1 .1 .0 .1)
 
   module _ (s : State) (passed : s ≡ passing (early-of c) (timing-of c) (c .loop .state) n) where
-    moved : isOver (elapsed-of c) (early-of c) (timing-of c) (c .loop .state) ≡ true →
+    moved : isAheadOver (elapsed-of c) (early-of c) (timing-of c) (c .loop .state) ≡ true →
         let t = timing-of c in
-        Going (early-of c) t (isOver (elapsed-of c) (early-of c) t) (says-over (elapsed-of c) (early-of c) t) (c .before .before .before .before .before .before .before .before .before .before .args .start) s (c .loop .passed + 1) × (eventsLeft t s < eventsLeft t (c .loop .state))
+        Going (early-of c) t (isAheadOver (elapsed-of c) (early-of c) t) (says-over (elapsed-of c) (early-of c) t) (c .before .before .before .before .before .before .before .before .before .before .args .start) s (c .loop .passed + 1) × (eventsLeft t s < eventsLeft t (c .loop .state))
     moved over =
         let t = timing-of c in
-        turn (early-of c) t (isOver (elapsed-of c) (early-of c) t) (says-over (elapsed-of c) (early-of c) t) (c .before .before .before .before .before .before .before .before .before .before .args .start) (c .loop .state) (c .loop .passed) s over
+        turn (early-of c) t (isAheadOver (elapsed-of c) (early-of c) t) (says-over (elapsed-of c) (early-of c) t) (c .before .before .before .before .before .before .before .before .before .before .args .start) (c .loop .state) (c .loop .passed) s over
         (passed ∙ sym (ap (pastFound (early-of c) t (c .loop .state)) is)) (c .loop .inv .0)
 
     heads-moved : let t = timing-of c in headsAfter (t .tempoBeats) (t .stopBeats) (t .delayBeats) (t .warpBeats) (c .loop .heads) s (n .kind) ≡ headsOf (t .tempoBeats) (t .stopBeats) (t .delayBeats) (t .warpBeats) s
@@ -93,7 +93,7 @@ tempo-of c = record { row = c .loop .heads .tempo; kind = Tempo }
 tempo-ahead : (c : tie.Then1 Inv-loop μ-loop) → let at = c .before .before in ahead (timing-of at) (at .loop .state) ≡ Found (tempo-of at)
 tempo-ahead c = ahead-here (c .before .before) _ (c .before .is-tempo-over .ensures (c .if1 .taken) .0)
 
-tempo-over : (c : tie.Then1 Inv-loop μ-loop) → let at = c .before .before in isOver (elapsed-of at) (early-of at) (timing-of at) (at .loop .state) ≡ true
+tempo-over : (c : tie.Then1 Inv-loop μ-loop) → let at = c .before .before in isAheadOver (elapsed-of at) (early-of at) (timing-of at) (at .loop .state) ≡ true
 unfolding stillRuns
 tempo-over c =
     let at = c .before .before in
@@ -215,7 +215,7 @@ heads-after-requires : tie.Need-heads-after-requires Inv-loop μ-loop
 heads-after-requires c κs = search needs
 
 -- what is ahead is over, and passed
-found-over : (c : tie.Else3 Inv-loop μ-loop) → let at = c .before .before .before .before .before .before .before .before .before .before .before .before in isOver (elapsed-of at) (early-of at) (timing-of at) (at .loop .state) ≡ true
+found-over : (c : tie.Else3 Inv-loop μ-loop) → let at = c .before .before .before .before .before .before .before .before .before .before .before .before in isAheadOver (elapsed-of at) (early-of at) (timing-of at) (at .loop .state) ≡ true
 found-over c =
     let ran = c .before in
     let timed = ran .before .before .before in
