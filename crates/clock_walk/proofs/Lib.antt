@@ -18,3 +18,4 @@ pub mod HeadsAhead
 pub mod LaterBeats
 pub mod PlacesWithin
 pub mod OneTempo
+pub mod OverByATime

@@ -17,6 +17,7 @@ ghost use Rattle.clock_walk.specs.declared.Event.the-variants.{Tempo};
 ghost use Rattle.clock_walk.specs.declared.Due.the-variants.{Passes};
 ghost use Rattle.clock_walk.specs.Walk.{walk};
 ghost use Rattle.clock_walk.specs.EndMark.{greaterRow, endMark};
+ghost use Rattle.clock_walk.specs.ByTime.{isPause, stillRuns, pauseOf, walkBy};
 
 // What a walk passes, in the order in which events of one row come; the asked beat comes between a delay and a stop.
 pub enum Event {
@@ -269,7 +270,7 @@ fn find_due(heads: Heads, asked: i32) -> Due
 // ---- time
 
 // A number of a list, and a NaN beyond its end.
-fn read_at(values: &[f32], place: usize) -> f64
+pub fn read_at(values: &[f32], place: usize) -> f64
     ensures { λ r. ⌜ r ≡ getD (now (values .entry)) place nan ⌝ }
 {
     if place < values.len() {
@@ -318,7 +319,7 @@ fn get_bpm_for_row(row: i32, tempo_beats: &[f32], tempo_values: &[f32]) -> f64
 }
 
 // The tempo that a walk begins with where none is passed yet.
-fn early_tempo(state: State, tempo_beats: &[f32], tempo_values: &[f32]) -> f64
+pub fn early_tempo(state: State, tempo_beats: &[f32], tempo_values: &[f32]) -> f64
     ensures { λ r. ⌜ r ≡ earlyTempo (now («tempo_beats» .entry)) (now («tempo_values» .entry)) state ⌝ }
 {
     let place = state.tempos;
@@ -734,5 +735,132 @@ pub fn walk_all(
             warp_beats,
         );
         greatest = greater_of(greatest, next.row);
+    }
+}
+
+// ---- the walk to a time
+
+// The pause that a walk stopped in.
+pub enum Pausing {
+    InDelay,
+    InFreeze,
+    NoPause,
+}
+
+// The state after the last event passed, how many were passed, the pause that runs there and the tempo in force.
+pub struct ByTime {
+    pub state: State,
+    pub passed: usize,
+    pub pause: Pausing,
+    pub tempo: f64,
+}
+
+fn is_pause(kind: Event) -> bool
+    ensures { λ r. ⌜ r ≡ isPause kind ⌝ }
+{
+    match kind {
+        Event::WarpEnd => false,
+        Event::Tempo => false,
+        Event::Delay => true,
+        Event::Stop => true,
+        Event::Warp => false,
+    }
+}
+
+// Whether an event that came at a time and brings a number is a pause that is not over.
+fn still_runs(elapsed: f64, time: f64, number: f64, kind: Event) -> bool
+    ensures { λ r. ⌜ r ≡ stillRuns elapsed time number kind ⌝ }
+{
+    if is_pause(kind) {
+        return elapsed < time + number;
+    }
+    false
+}
+
+fn pause_of(kind: Event) -> Pausing
+    ensures { λ r. ⌜ r ≡ pauseOf kind ⌝ }
+{
+    match kind {
+        Event::WarpEnd => Pausing::NoPause,
+        Event::Tempo => Pausing::NoPause,
+        Event::Delay => Pausing::InDelay,
+        Event::Stop => Pausing::InFreeze,
+        Event::Warp => Pausing::NoPause,
+    }
+}
+
+// From a state on, every event that is over by a time; early is the tempo before any is passed.
+pub fn walk_by(
+    start: State,
+    elapsed: f64,
+    early: f64,
+    tempo_beats: &[f32],
+    tempo_values: &[f32],
+    stop_beats: &[f32],
+    stop_values: &[f32],
+    delay_beats: &[f32],
+    delay_values: &[f32],
+    warp_beats: &[f32],
+    warp_lengths: &[f32],
+) -> ByTime
+    ensures { λ r.
+        let t = timing «tempo_beats».entry.now «tempo_values».entry.now «stop_beats».entry.now «stop_values».entry.now
+        «delay_beats».entry.now «delay_values».entry.now «warp_beats».entry.now «warp_lengths».entry.now in
+        ⌜ r ≡ walkBy elapsed early t start ⌝ }
+{
+    let mut state = start;
+    let mut heads = heads_of(start, tempo_beats, stop_beats, delay_beats, warp_beats);
+    let mut passed: usize = 0;
+    loop {
+        let found = find_ahead(heads);
+        let Ahead::Found(next) = found else {
+            let tempo = tempo_in_force(early, tempo_values, state.tempos);
+            return ByTime {
+                state,
+                passed,
+                pause: Pausing::NoPause,
+                tempo,
+            };
+        };
+        let time = time_at(state, next.row, early, tempo_values);
+        if elapsed < time {
+            let tempo = tempo_in_force(early, tempo_values, state.tempos);
+            return ByTime {
+                state,
+                passed,
+                pause: Pausing::NoPause,
+                tempo,
+            };
+        }
+        let kind = next.kind;
+        let number = number_of(
+            state,
+            kind,
+            stop_values,
+            delay_values,
+            warp_beats,
+            warp_lengths,
+        );
+        if still_runs(elapsed, time, number, kind) {
+            let tempo = tempo_in_force(early, tempo_values, state.tempos);
+            let pause = pause_of(kind);
+            return ByTime {
+                state,
+                passed,
+                pause,
+                tempo,
+            };
+        }
+        state = pass_event(state, next, time, number);
+        heads = heads_after(
+            heads,
+            kind,
+            state,
+            tempo_beats,
+            stop_beats,
+            delay_beats,
+            warp_beats,
+        );
+        passed = passed + 1;
     }
 }
