@@ -120,6 +120,17 @@ pub fn time_allowed(time: f64) -> bool {
 }
 
 impl Columns {
+    /// Of so many places each.
+    pub fn new(places: usize) -> Self {
+        Self {
+            numbers: vec![0; places],
+            beats: vec![0.0; places],
+            freezes: vec![0; places],
+            delays: vec![0; places],
+            counts: vec![0; places],
+        }
+    }
+
     /// Numbers of every kind, with some places past the rooms.
     fn by_chance([numbers, beats, freezes, delays, counts]: Rooms, random: &mut Random) -> Self {
         let mut column = |room: usize| (0..room + PAST).map(|_| random.bits()).collect::<Vec<_>>();

@@ -27,7 +27,7 @@ pub enum Refusal {
     Uneven = 2,
     /// A beat lies beyond 65,536 on either side, or is not finite; or a row lies beyond 3,145,728.
     BadBeat = 3,
-    /// A tempo, a length, a unit or an offset is beyond its limit.
+    /// A tempo, a length, a unit or an offset is beyond its limit; or a time lies beyond 2^50 seconds on either side, or is not finite.
     BadValue = 4,
     /// The rows of a list do not rise strictly, or the tempos do not start at beat 0; where notes are to be drawn, the beats of the scrolls fall.
     NotRising = 5,
