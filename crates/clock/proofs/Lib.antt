@@ -5,3 +5,5 @@ pub mod NearTaken
 pub mod RefusalKeepsCursor
 pub mod NewIsFresh
 pub mod NothingToAnswer
+pub mod MarkedReply
+pub mod MarkTested

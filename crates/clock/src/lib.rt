@@ -757,11 +757,13 @@ impl Cursor {
             «delay_beats».entry.now «delay_values».entry.now «warp_beats».entry.now «warp_lengths».entry.now in
             ⌜ r ≡ markedAsking mark t self offset global beat ⌝ }
     {
-        if clock_tests::beat_number(beat) == limits::TAKEN {
-            let row = row_of_taken(beat);
-            if mark.row < row {
-                return answer_beyond(mark, row, tempo_beats, tempo_values, global);
-            }
+        let number = clock_tests::beat_number(beat);
+        if number != limits::TAKEN {
+            return refused(number, self);
+        }
+        let row = row_of_taken(beat);
+        if mark.row < row {
+            return answer_beyond(mark, row, tempo_beats, tempo_values, global);
         }
         self.ask(
             tempo_beats,
@@ -800,15 +802,17 @@ impl Cursor {
             «delay_beats».entry.now «delay_values».entry.now «warp_beats».entry.now «warp_lengths».entry.now in
             ⌜ r ≡ markedPlayerQuestion mark t self offset global beat ⌝ }
     {
-        if clock_tests::beat_number(beat) == limits::TAKEN {
-            let row = row_of_taken(beat);
-            if mark.row < row {
-                let lent = self.refusal(tempo_beats, stop_beats, delay_beats, warp_beats);
-                if lent == limits::TAKEN {
-                    return answer_beyond(mark, row, tempo_beats, tempo_values, global);
-                }
+        let asked = clock_tests::beat_number(beat);
+        if asked != limits::TAKEN {
+            return refused(asked, self);
+        }
+        let row = row_of_taken(beat);
+        if mark.row < row {
+            let lent = self.refusal(tempo_beats, stop_beats, delay_beats, warp_beats);
+            if lent != limits::TAKEN {
                 return refused(lent, self);
             }
+            return answer_beyond(mark, row, tempo_beats, tempo_values, global);
         }
         self.time_for_beat_checked(
             tempo_beats,
