@@ -1,0 +1,2 @@
+pub mod WalkedFresh
+pub mod InfoOutcome

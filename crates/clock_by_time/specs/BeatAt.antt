@@ -9,7 +9,8 @@ use Rattle.ieee.specs.Constants.{plusZero, sixty}
 use Rattle.ieee_mul_add.specs.MulAdd.{mulAdd}
 use Rattle.picks.specs.Pick.{pick}
 use Rattle.limits.specs.Table.{badValue}
-use Rattle.limits.specs.Numbers.{upTo, inRange}
+use Rattle.limits.specs.Numbers.{rangeOf, inRange}
+use Rattle.limits.specs.declared.Kind.the-variants.{Pause}
 use Rattle.limits.specs.Refusals.{lower}
 use Rattle.rows.specs.Rows.{beatOf}
 use Rattle.chart.specs.Timing.{Timing}
@@ -25,9 +26,9 @@ use Rattle.clock_by_time.specs.declared.BeatInfo.{BeatInfo}
 
 -- ---- refusals
 
--- 4 for a time that is not finite, or beyond 2 ^ 50 in size
+-- a time is taken as the seconds of a pause are, finite and at most 2 ^ 50 in size; else 4
 unfoldable pub timeNumber : Float → ℕ
-timeNumber time = pick (inRange (upTo 50) time) 0 badValue
+timeNumber time = pick (inRange (rangeOf Pause) time) 0 badValue
 
 -- ---- the beat
 

@@ -2,6 +2,7 @@
 use chart::State;
 use clock_walk::ByTime;
 use clock_walk::Pausing;
+use limits::Kind;
 ghost use mathlib.Core.Path.{_≡_};
 ghost use Prim.Native.Nat.{_+_, _<_, _^_};
 ghost use lib.ListN.{length};
@@ -20,15 +21,12 @@ pub struct BeatInfo {
     pub count: usize,
 }
 
-// By both ends, as a beat is tested.
+// A time is taken as the seconds of a pause are.
 fn time_number(time: f64) -> u32
     ensures { λ r. ⌜ r ≡ timeNumber time ⌝ }
 {
-    if -1125899906842624.0 <= time {
-        if time <= 1125899906842624.0 {
-            return limits::TAKEN;
-        }
-        return limits::BAD_VALUE;
+    if limits::taken(Kind::Pause, time) {
+        return limits::TAKEN;
     }
     limits::BAD_VALUE
 }

@@ -1,13 +1,16 @@
--- The walk to a time is one whose test is that what is ahead is over; it stops before what has not come, or in a pause. Assumes nothing.
-use Prim.Native.Nat.{ℕ}
+-- The walk to a time is one whose test is that what is ahead is over; it stops before what has not come, or in a pause, and goes round the lists once at most.
+-- Assumes nothing.
+use Prim.Native.Nat.{ℕ, _+_, _*_, _^_, _<_, _≤_}
 use mathlib.Core.Bool.{Bool, true, false, not}
 use mathlib.Core.Path.{_≡_, refl, sym, ap, _∙_}
+use native.Mathlib.Omega.{arith}
+use lib.ListN.{length}
 use lib.Ieee.{Float, lt}
 use Rattle.picks.specs.Pick.{pick}
 use Rattle.chart.specs.Timing.{Timing}
 use Rattle.clock_walk.specs.Events.{ahead}
 use Rattle.clock_walk.specs.Passing.{inForce, timeAt, brings}
-use Rattle.clock_walk.specs.Course.{isFound}
+use Rattle.clock_walk.specs.Course.{isFound, eventsLeft}
 use Rattle.clock_walk.specs.ByTime.{hasCome, isPause, stillRuns, overBy, isFoundOver, isOver, passedBy, pauseOf, pauseFound, pausing, stoppedBy, walkBy}
 use Rattle.chart.specs.declared.State.{State}
 use Rattle.clock_walk.specs.declared.Next.{Next}
@@ -17,7 +20,8 @@ use Rattle.clock_walk.specs.declared.Pausing.{Pausing}
 use Rattle.clock_walk.specs.declared.Pausing.the-variants.{NoPause}
 use Rattle.clock_walk.specs.declared.ByTime.{ByTime}
 use Rattle.rows.proofs.RowOrder.{no}
-use Rattle.clock_walk.proofs.AllWalks.{SaysAhead, Going, pass-end, stops-at}
+use Rattle.clock_walk.proofs.EventByEvent.{count-fits}
+use Rattle.clock_walk.proofs.AllWalks.{SaysAhead, Going, pass-end, spent-on, stops-at}
 
 module _ (elapsed early : Float) (t : Timing) where
   over-found : (s : State) (a : Ahead) → isFoundOver elapsed early t s a ≡ true → isFound a ≡ true
@@ -74,3 +78,13 @@ module _ (elapsed early : Float) (t : Timing) where
   unfolding passedBy
   stopped-in-a-pause start n is h =
       by-tests _ n true h refl (rw is at (stops-at early t (isOver elapsed early t) says-over start 0))
+
+  -- ---- no more events are passed than are left, so that they and one can be counted
+  pub at-most-one-round : (s : State) → passedBy elapsed early t s .passed ≤ eventsLeft t s
+  unfolding passedBy
+  at-most-one-round s = let h = spent-on early t (isOver elapsed early t) says-over s 0 in omega arith
+
+  pub passed-by-fits : (s : State) → length (t .tempoBeats) * 4 < 2 ^ 63 → length (t .stopBeats) * 4 < 2 ^ 63 → length (t .delayBeats) * 4 < 2 ^ 63 → length (t .warpBeats) * 4 < 2 ^ 63
+      → walkBy elapsed early t s .passed + 1 < 2 ^ 64
+  unfolding walkBy
+  passed-by-fits s a b c d = count-fits t s (passedBy elapsed early t s .passed) 0 (let h = at-most-one-round s in omega arith) a b c d
