@@ -274,7 +274,7 @@ fn seconds_have_their_beats() {
     let (yes, no) = (&Json::Truth(true), &Json::Truth(false));
     assert_eq!(told, [(2.25, 4.0, yes, no, 2.0), (5.5, 8.0, no, yes, 3.0), (-1.0, -2.5, no, no, 1.0)]);
     // the machine's offset counts, nothing is said where nothing is asked, and a second beyond the limit is refused
-    assert!(said(&["example.ssc", "--at", "1.5", "--global", "0.25"]).contains("second  1.5 beat 3, 2 steps"));
+    assert!(said(&["example.ssc", "--at", "1.5", "--global", "0.25"]).contains("second  1.5 beat 3.5, 2 steps"));
     assert!(!said(&["example.ssc"]).contains("second") && !said(&["example.ssc", "--json"]).contains("\"at\":"));
     assert!(refused(&["example.ssc", "--at", "1,1e300"]).contains("(refusal 4)"));
     assert!(said(&["--help"]).contains("--at"));
