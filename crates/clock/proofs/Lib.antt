@@ -7,3 +7,5 @@ pub mod NewIsFresh
 pub mod NothingToAnswer
 pub mod MarkedReply
 pub mod MarkTested
+pub mod OwnMark
+pub mod SmallestMarks

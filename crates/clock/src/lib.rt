@@ -850,7 +850,7 @@ impl Cursor {
             «delay_beats».entry.now «delay_values».entry.now «warp_beats».entry.now «warp_lengths».entry.now in
             ⌜ r ≡ markedQuestion mark t self offset global beat ⌝ }
     {
-        let timing = check_marked_timing(
+        let marked = check_marked_timing(
             mark,
             tempo_beats,
             tempo_values,
@@ -866,7 +866,7 @@ impl Cursor {
         let asked = clock_tests::beat_number(beat);
         let lent = self.refusal(tempo_beats, stop_beats, delay_beats, warp_beats);
         let player = limits::lower_of(asked, lent);
-        let number = limits::lower_of(timing, player);
+        let number = limits::lower_of(marked, player);
         if number != limits::TAKEN {
             return refused(number, self);
         }

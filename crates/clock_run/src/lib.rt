@@ -404,7 +404,7 @@ pub fn run_marked(
         «delay_beats».entry.now «delay_values».entry.now «warp_beats».entry.now «warp_lengths».entry.now in
         ⌜ MarkedRunLaid mark t offset global cursor beats.entry.now r numbers.entry.now numbers.exit.now times.entry.now times.exit.now counts.entry.now counts.exit.now ⌝ }
 {
-    let timing = clock::check_marked_timing(
+    let marked = clock::check_marked_timing(
         mark,
         tempo_beats,
         tempo_values,
@@ -420,7 +420,7 @@ pub fn run_marked(
     let room = room_number(beats.len(), numbers.len(), times.len(), counts.len());
     let lent = cursor.refusal(tempo_beats, stop_beats, delay_beats, warp_beats);
     let later = limits::lower_of(room, lent);
-    let number = limits::lower_of(timing, later);
+    let number = limits::lower_of(marked, later);
     if number == limits::TAKEN {
         let last = ask_each(
             cursor,

@@ -6,6 +6,8 @@ pub mod AskedOrAhead
 pub mod PrefixLaw
 pub mod WholeCourse
 pub mod BeyondTheCourse
+pub mod NumbersFit
+pub mod CourseEnds
 pub mod LastUpTo
 pub mod EventsSpent
 pub mod WalkedOn

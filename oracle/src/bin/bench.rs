@@ -562,7 +562,7 @@ impl Bench {
             || {
                 for (beat, time) in black_box(&beats).iter().zip(black_box(&mut times)) {
                     let mut cursor = fresh;
-                    let (mark, chart) = (black_box(made.mark), black_box(chart));
+                    let (mark, chart) = (*black_box(&made.mark), black_box(chart));
                     *time = marked::lent_time_for_beat_checked_marked(&mut cursor, mark, chart, *beat).time;
                 }
             },
@@ -573,7 +573,7 @@ impl Bench {
             count,
             || {
                 for (beat, time) in black_box(&beats).iter().zip(black_box(&mut times)) {
-                    let (mark, chart) = (black_box(made.mark), black_box(chart));
+                    let (mark, chart) = (*black_box(&made.mark), black_box(chart));
                     *time = marked::time_for_beat_checked_marked(fresh, mark, chart, *beat).time;
                 }
             },
@@ -612,7 +612,8 @@ impl Bench {
                 let mut cursor = fresh;
                 for (beat, time) in black_box(&beats).iter().zip(black_box(&mut times)) {
                     let chart = black_box(chart);
-                    *time = marked::lent_time_for_beat_checked_marked(&mut cursor, black_box(mark), chart, *beat).time;
+                    *time =
+                        marked::lent_time_for_beat_checked_marked(&mut cursor, *black_box(&mark), chart, *beat).time;
                 }
             },
             "lent_time_for_beat_checked",
