@@ -1,7 +1,7 @@
 -- A run that is refused leaves its columns, and one that is taken has a place for each time and answers all. Assumes nothing.
 use Prim.Native.Nat.{ℕ, _<_, _≤_}
-use mathlib.Core.List.{List, []}
-use mathlib.Core.Path.{_≡_, refl, _∙_}
+use mathlib.Core.List.{List}
+use mathlib.Core.Path.{_≡_, _∙_, subst}
 use native.Mathlib.Omega.{arith}
 use lib.ListN.{length}
 use lib.Ieee.{Float}
@@ -13,7 +13,11 @@ use Rattle.chart.specs.Timing.{Timing}
 use Rattle.clock_tests.specs.TimingNumbers.{timingNumber}
 use Rattle.clock_by_time.specs.BeatAt.{beatInfoChecked}
 use Rattle.clock_by_time.specs.ManyTimes.{InfoColumns, freezeMark, delayMark, shortestOf, infoPlaces, BeatInfosLaid}
+use Rattle.clock_by_time.specs.declared.BeatInfo.{BeatInfo}
 use Rattle.clock_by_time.specs.inside.AllTimes.{RoomFor, AllTimes}
+
+pub answered-alike : {first second : Float → BeatInfo} {times : List Float} {old new : InfoColumns} → first ≡ second → AllTimes first times old new → AllTimes second times old new
+answered-alike {first} {second} {times} {old} {new} same all = subst (λ (answer : Float → BeatInfo). AllTimes answer times old new) same all
 
 module _ (t : Timing) (offset global : Float) (times : List Float) (old : InfoColumns) where
   left-alone : (n : ℕ) → (n ≡ 0 → ⊥) → n ≡ roomNumber (timingNumber t offset global) (length times) (infoPlaces old) → BeatInfosLaid t offset global times n old old
@@ -38,7 +42,7 @@ module _ (t : Timing) (offset global : Float) (times : List Float) (old : InfoCo
     unfolding shortestOf
     room-for-all = record { inNumbers = omega arith; inBeats = omega arith; inFreezes = omega arith; inDelays = omega arith; inCounts = omega arith }
 
-    pub taken-run : (new : InfoColumns) → timingNumber t offset global ≡ 0 → AllTimes t offset global times old new → BeatInfosLaid t offset global times 0 old new
+    pub taken-run : (new : InfoColumns) → timingNumber t offset global ≡ 0 → AllTimes (beatInfoChecked t offset global) times old new → BeatInfosLaid t offset global times 0 old new
     unfolding given
     taken-run new e all =
         let r = room-for-all in

@@ -1,4 +1,4 @@
-// Which beat is it at this time? No cursor: each question walks from the start, and passes what is over by then.
+// Which beat is it at this time? There is no cursor: a question walks from the start, and passes what is over by then; a run goes on where time does not fall.
 use chart::State;
 use clock_walk::ByTime;
 use clock_walk::Pausing;
@@ -9,7 +9,9 @@ ghost use lib.ListN.{length};
 ghost use Rattle.chart.specs.Timing.{timing};
 ghost use Rattle.clock_by_time.specs.BeatAt.{timeNumber, freshBy, beatOn, beatIn, isFreeze, isDelay, infoOf, infoAt, infoRefused, beatInfoChecked, beatInfo};
 ghost use Rattle.clock_by_time.specs.ManyTimes.{infoColumns, shortestOf, BeatInfosLaid};
+ghost use Rattle.clock_walk.specs.ByTime.{walkBy};
 ghost use Rattle.clock_by_time.specs.inside.AllTimes.{RoomFor, AllTimes};
+ghost use Rattle.clock_by_time.specs.inside.OnTheWay.{infoFrom, OnTheWay};
 
 // A question's number, the beat, whether it stands in a running stop or delay, and the events passed and one.
 #[repr(C)]
@@ -281,6 +283,195 @@ fn room_of(numbers: usize, beats: usize, freezes: usize, delays: usize, counts: 
     columns::room_of(numbers, columns::room_of(beats, marks))
 }
 
+// How far a run has come: the state and the events passed by its last time that was taken.
+struct Reached {
+    state: State,
+    passed: usize,
+    elapsed: f64,
+}
+
+// An answer of a run, and how far it came.
+struct Step {
+    info: BeatInfo,
+    reached: Reached,
+}
+
+// The walk to a time goes on from where the last one stopped, and begins anew where time falls.
+fn walk_on(
+    reached: Reached,
+    start: State,
+    early: f64,
+    elapsed: f64,
+    tempo_beats: &[f32],
+    tempo_values: &[f32],
+    stop_beats: &[f32],
+    stop_values: &[f32],
+    delay_beats: &[f32],
+    delay_values: &[f32],
+    warp_beats: &[f32],
+    warp_lengths: &[f32],
+) -> ByTime
+    requires { let t = timing (now «tempo_beats») (now «tempo_values») (now «stop_beats») (now «stop_values»)
+        (now «delay_beats») (now «delay_values») (now «warp_beats») (now «warp_lengths») in
+        ⌜ OnTheWay early t start reached ⌝ }
+    ensures { λ r.
+        let t = timing «tempo_beats».entry.now «tempo_values».entry.now «stop_beats».entry.now «stop_values».entry.now
+        «delay_beats».entry.now «delay_values».entry.now «warp_beats».entry.now «warp_lengths».entry.now in
+        ⌜ r ≡ walkBy elapsed early t start ⌝ }
+{
+    if reached.elapsed <= elapsed {
+        let state = reached.state;
+        let at = clock_walk::walk_by(
+            state,
+            elapsed,
+            early,
+            tempo_beats,
+            tempo_values,
+            stop_beats,
+            stop_values,
+            delay_beats,
+            delay_values,
+            warp_beats,
+            warp_lengths,
+        );
+        let stopped = at.state;
+        let pause = at.pause;
+        return ByTime {
+            state: stopped,
+            passed: reached.passed + at.passed,
+            pause,
+            tempo: at.tempo,
+        };
+    }
+    clock_walk::walk_by(
+        start,
+        elapsed,
+        early,
+        tempo_beats,
+        tempo_values,
+        stop_beats,
+        stop_values,
+        delay_beats,
+        delay_values,
+        warp_beats,
+        warp_lengths,
+    )
+}
+
+fn answer_on(
+    reached: Reached,
+    start: State,
+    early: f64,
+    global: f64,
+    time: f64,
+    tempo_beats: &[f32],
+    tempo_values: &[f32],
+    stop_beats: &[f32],
+    stop_values: &[f32],
+    delay_beats: &[f32],
+    delay_values: &[f32],
+    warp_beats: &[f32],
+    warp_lengths: &[f32],
+) -> Step
+    requires { let t = timing (now «tempo_beats») (now «tempo_values») (now «stop_beats») (now «stop_values»)
+        (now «delay_beats») (now «delay_values») (now «warp_beats») (now «warp_lengths») in
+        ⌜ OnTheWay early t start reached ⌝ }
+    ensures { λ r.
+        let t = timing «tempo_beats».entry.now «tempo_values».entry.now «stop_beats».entry.now «stop_values».entry.now
+        «delay_beats».entry.now «delay_values».entry.now «warp_beats».entry.now «warp_lengths».entry.now in
+        ⌜ (r .info ≡ infoFrom early t start global time) × OnTheWay early t start (r .reached) ⌝ }
+{
+    let number = time_number(time);
+    if number != limits::TAKEN {
+        let info = refused(number);
+        return Step { info, reached };
+    }
+    let elapsed = time + global;
+    let at = walk_on(
+        reached,
+        start,
+        early,
+        elapsed,
+        tempo_beats,
+        tempo_values,
+        stop_beats,
+        stop_values,
+        delay_beats,
+        delay_values,
+        warp_beats,
+        warp_lengths,
+    );
+    let info = info_of(elapsed, at, stop_beats, delay_beats);
+    let state = at.state;
+    let reached = Reached {
+        state,
+        passed: at.passed,
+        elapsed,
+    };
+    Step { info, reached }
+}
+
+fn answer_from(
+    start: State,
+    early: f64,
+    global: f64,
+    tempo_beats: &[f32],
+    tempo_values: &[f32],
+    stop_beats: &[f32],
+    stop_values: &[f32],
+    delay_beats: &[f32],
+    delay_values: &[f32],
+    warp_beats: &[f32],
+    warp_lengths: &[f32],
+    times: &[f64],
+    numbers: &mut [u32],
+    beats: &mut [f64],
+    freezes: &mut [u8],
+    delays: &mut [u8],
+    counts: &mut [usize],
+)
+    requires { ⌜ RoomFor (length (now times)) (infoColumns (now numbers) (now beats) (now freezes) (now delays) (now counts)) ⌝ }
+    ensures { λ _.
+        let t = timing «tempo_beats».entry.now «tempo_values».entry.now «stop_beats».entry.now «stop_values».entry.now
+        «delay_beats».entry.now «delay_values».entry.now «warp_beats».entry.now «warp_lengths».entry.now in
+        let old = infoColumns numbers.entry.now beats.entry.now freezes.entry.now delays.entry.now counts.entry.now in
+        let new = infoColumns numbers.exit.now beats.exit.now freezes.exit.now delays.exit.now counts.exit.now in
+        ⌜ AllTimes (infoFrom early t start global) times.entry.now old new ⌝ }
+{
+    let mut reached = Reached {
+        state: start,
+        passed: 0,
+        elapsed: 0.0,
+    };
+    let mut i = 0;
+    while i < times.len() {
+        let step = answer_on(
+            reached,
+            start,
+            early,
+            global,
+            times[i],
+            tempo_beats,
+            tempo_values,
+            stop_beats,
+            stop_values,
+            delay_beats,
+            delay_values,
+            warp_beats,
+            warp_lengths,
+        );
+        let info = step.info;
+        numbers[i] = info.number;
+        beats[i] = info.beat;
+        freezes[i] = info.is_in_freeze as u8;
+        delays[i] = info.is_in_delay as u8;
+        counts[i] = info.count;
+        reached = step.reached;
+        i += 1;
+    }
+}
+
+// Where the timing has no tempo, it has the one of 60 at beat 0.
 fn answer_each(
     tempo_beats: &[f32],
     tempo_values: &[f32],
@@ -305,30 +496,34 @@ fn answer_each(
         «delay_beats».entry.now «delay_values».entry.now «warp_beats».entry.now «warp_lengths».entry.now in
         let old = infoColumns numbers.entry.now beats.entry.now freezes.entry.now delays.entry.now counts.entry.now in
         let new = infoColumns numbers.exit.now beats.exit.now freezes.exit.now delays.exit.now counts.exit.now in
-        ⌜ AllTimes t offset global times.entry.now old new ⌝ }
+        ⌜ AllTimes (beatInfoChecked t offset global) times.entry.now old new ⌝ }
 {
-    let mut i = 0;
-    while i < times.len() {
-        let info = get_beat_info_from_time_checked(
-            tempo_beats,
-            tempo_values,
-            stop_beats,
-            stop_values,
-            delay_beats,
-            delay_values,
-            warp_beats,
-            warp_lengths,
-            offset,
-            global,
-            times[i],
-        );
-        numbers[i] = info.number;
-        beats[i] = info.beat;
-        freezes[i] = info.is_in_freeze as u8;
-        delays[i] = info.is_in_delay as u8;
-        counts[i] = info.count;
-        i += 1;
-    }
+    let none = tempo_beats.len() == 0;
+    let beat_of_none = [0.0f32];
+    let tempo_of_none = [60.0f32];
+    let at = clock::either(none, &beat_of_none, tempo_beats);
+    let tempos = clock::either(none, &tempo_of_none, tempo_values);
+    let start = clock::fresh_state(offset, global);
+    let early = clock_walk::early_tempo(start, at, tempos);
+    answer_from(
+        start,
+        early,
+        global,
+        at,
+        tempos,
+        stop_beats,
+        stop_values,
+        delay_beats,
+        delay_values,
+        warp_beats,
+        warp_lengths,
+        times,
+        numbers,
+        beats,
+        freezes,
+        delays,
+        counts,
+    );
 }
 
 // For each time what the checked call answers, over the fronts of the five columns; a mark is 1 for yes. A time that is refused has 4, zeros and no marks there, and

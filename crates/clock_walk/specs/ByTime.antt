@@ -1,5 +1,4 @@
 -- The walk to a time: no beat is asked, and events are passed as long as they are over by then. Definitions only.
-use Prim.Native.Nat.{ℕ}
 use mathlib.Core.Bool.{Bool, true, false, not}
 use lib.Ieee.{Float, binary64, add, lt}
 use Rattle.picks.specs.Pick.{pick}
@@ -23,16 +22,16 @@ use Rattle.clock_walk.specs.declared.ByTime.{ByTime}
 unfoldable pub hasCome : (elapsed early : Float) → Timing → State → Next → Bool
 hasCome elapsed early t s n = not (lt elapsed (timeAt early (t .tempoValues) s (n .row)))
 
-abbrev pub isPause : Event → Bool
-isPause WarpEnd = false
-isPause Tempo = false
-isPause Delay = true
-isPause Stop = true
-isPause Warp = false
+abbrev pub isDelayOrStop : Event → Bool
+isDelayOrStop WarpEnd = false
+isDelayOrStop Tempo = false
+isDelayOrStop Delay = true
+isDelayOrStop Stop = true
+isDelayOrStop Warp = false
 
 -- a delay or a stop still runs where its seconds, from the time on at which it came, are not over
 unfoldable pub stillRuns : (elapsed time seconds : Float) → Event → Bool
-stillRuns elapsed time seconds kind = pick (isPause kind) (lt elapsed (add binary64 time seconds)) false
+stillRuns elapsed time seconds kind = pick (isDelayOrStop kind) (lt elapsed (add binary64 time seconds)) false
 
 -- over: it has come, and does not run any more
 unfoldable pub overBy : (elapsed early : Float) → Timing → State → Next → Bool
@@ -47,14 +46,14 @@ isFoundOver elapsed early t s (Found n) = overBy elapsed early t s n
 isFoundOver elapsed early t s NotFound = false
 
 -- what is ahead is over
-abbrev pub isOver : (elapsed early : Float) → Timing → State → Bool
-isOver elapsed early t s = isFoundOver elapsed early t s (ahead t s)
+abbrev pub isAheadOver : (elapsed early : Float) → Timing → State → Bool
+isAheadOver elapsed early t s = isFoundOver elapsed early t s (ahead t s)
 
 -- ---- the walk
 
 -- early is the tempo before any is passed
 unfoldable pub passedBy : (elapsed early : Float) → Timing → State → Stopped
-passedBy elapsed early t s = passWhile (isOver elapsed early t) early t s 0
+passedBy elapsed early t s = passWhile (isAheadOver elapsed early t) early t s 0
 
 -- the pause that an event is
 abbrev pub pauseOf : Event → Pausing

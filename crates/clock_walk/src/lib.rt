@@ -17,7 +17,7 @@ ghost use Rattle.clock_walk.specs.declared.Event.the-variants.{Tempo};
 ghost use Rattle.clock_walk.specs.declared.Due.the-variants.{Passes};
 ghost use Rattle.clock_walk.specs.Walk.{walk};
 ghost use Rattle.clock_walk.specs.EndMark.{greaterRow, endMark};
-ghost use Rattle.clock_walk.specs.ByTime.{isPause, stillRuns, pauseOf, walkBy};
+ghost use Rattle.clock_walk.specs.ByTime.{stillRuns, pauseOf, walkBy};
 
 // What a walk passes, in the order in which events of one row come; the asked beat comes between a delay and a stop.
 pub enum Event {
@@ -755,26 +755,17 @@ pub struct ByTime {
     pub tempo: f64,
 }
 
-fn is_pause(kind: Event) -> bool
-    ensures { λ r. ⌜ r ≡ isPause kind ⌝ }
-{
-    match kind {
-        Event::WarpEnd => false,
-        Event::Tempo => false,
-        Event::Delay => true,
-        Event::Stop => true,
-        Event::Warp => false,
-    }
-}
-
 // Whether an event that came at a time and brings a number is a pause that is not over.
 fn still_runs(elapsed: f64, time: f64, number: f64, kind: Event) -> bool
     ensures { λ r. ⌜ r ≡ stillRuns elapsed time number kind ⌝ }
 {
-    if is_pause(kind) {
-        return elapsed < time + number;
+    match kind {
+        Event::WarpEnd => false,
+        Event::Tempo => false,
+        Event::Delay => elapsed < time + number,
+        Event::Stop => elapsed < time + number,
+        Event::Warp => false,
     }
-    false
 }
 
 fn pause_of(kind: Event) -> Pausing

@@ -1,5 +1,5 @@
 -- `clock_by_time::get_beat_infos_from_times` refuses, or answers every time. Assumes nothing.
-use mathlib.Core.Path.{_≡_, sym, _∙_}
+use mathlib.Core.Path.{sym, _∙_}
 use Rattle.chart.specs.Timing.{timing}
 use Rattle.clock_by_time.specs.ManyTimes.{infoColumns}
 use Rattle.clock_by_time.proofs.InfoOutcome.{refused-run, run-without-room, room-for-all, taken-run}

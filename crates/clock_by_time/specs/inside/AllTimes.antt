@@ -5,9 +5,8 @@ use mathlib.Core.Path.{_≡_}
 use lib.ListN.{length}
 use lib.Ieee.{Float}
 use Rattle.columns.specs.Each.{laidEach}
-use Rattle.chart.specs.Timing.{Timing}
-use Rattle.clock_by_time.specs.BeatAt.{beatInfoChecked}
 use Rattle.clock_by_time.specs.ManyTimes.{InfoColumns, freezeMark, delayMark}
+use Rattle.clock_by_time.specs.declared.BeatInfo.{BeatInfo}
 
 -- each column has a place for each of so many times
 pub record RoomFor (many : ℕ) (c : InfoColumns) : Type 0 where
@@ -17,9 +16,9 @@ pub record RoomFor (many : ℕ) (c : InfoColumns) : Type 0 where
   pub inDelays : many ≤ length (c .delays)
   pub inCounts : many ≤ length (c .counts)
 
-pub record AllTimes (t : Timing) (offset global : Float) (times : List Float) (old new : InfoColumns) : Type 0 where
-  pub numbersAre : new .numbers ≡ laidEach (λ (time : Float). beatInfoChecked t offset global time .number) times (old .numbers)
-  pub beatsAre : new .beats ≡ laidEach (λ (time : Float). beatInfoChecked t offset global time .beat) times (old .beats)
-  pub freezesAre : new .freezes ≡ laidEach (λ (time : Float). freezeMark (beatInfoChecked t offset global time)) times (old .freezes)
-  pub delaysAre : new .delays ≡ laidEach (λ (time : Float). delayMark (beatInfoChecked t offset global time)) times (old .delays)
-  pub countsAre : new .counts ≡ laidEach (λ (time : Float). beatInfoChecked t offset global time .count) times (old .counts)
+pub record AllTimes (answer : Float → BeatInfo) (times : List Float) (old new : InfoColumns) : Type 0 where
+  pub numbersAre : new .numbers ≡ laidEach (λ (time : Float). answer time .number) times (old .numbers)
+  pub beatsAre : new .beats ≡ laidEach (λ (time : Float). answer time .beat) times (old .beats)
+  pub freezesAre : new .freezes ≡ laidEach (λ (time : Float). freezeMark (answer time)) times (old .freezes)
+  pub delaysAre : new .delays ≡ laidEach (λ (time : Float). delayMark (answer time)) times (old .delays)
+  pub countsAre : new .counts ≡ laidEach (λ (time : Float). answer time .count) times (old .counts)

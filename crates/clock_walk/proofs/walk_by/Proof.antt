@@ -1,13 +1,12 @@
 -- `clock_walk::walk_by` passes what is over by a time. Assumes nothing.
 use Prim.Native.Nat.{_+_, _<_}
 use mathlib.Core.Path.{_≡_, refl, sym, ap, _∙_}
-use mathlib.Core.Bool.{true, false}
 use native.Mathlib.Omega.{arith}
 use Rattle.chart.specs.Timing.{Timing, timing}
 use Rattle.clock_walk.specs.Events.{ahead}
 use Rattle.clock_walk.specs.Passing.{timeAt, brings, passing}
 use Rattle.clock_walk.specs.Course.{pastFound, eventsLeft}
-use Rattle.clock_walk.specs.ByTime.{stillRuns, isOver}
+use Rattle.clock_walk.specs.ByTime.{stillRuns, isAheadOver}
 use Rattle.clock_walk.specs.Heads.{headsOf, aheadOf}
 use Rattle.clock_walk.specs.declared.Ahead.the-variants.{Found}
 use Rattle.rows.proofs.BackFromBits.{back}
@@ -22,7 +21,7 @@ use Rattle.clock_walk.proofs.walk_by.Tie as tie
 abbrev Inv-loop : tie.InvT-loop
 Inv-loop elapsed early tempo-beats tempo-values stop-beats stop-values delay-beats delay-values warp-beats warp-lengths start heads₀ none state heads passed =
     let t = timing tempo-beats tempo-values stop-beats stop-values delay-beats delay-values warp-beats warp-lengths in
-    Going early t (isOver elapsed early t) (says-over elapsed early t) start state passed × (heads ≡ headsOf tempo-beats stop-beats delay-beats warp-beats state)
+    Going early t (isAheadOver elapsed early t) (says-over elapsed early t) start state passed × (heads ≡ headsOf tempo-beats stop-beats delay-beats warp-beats state)
 
 abbrev μ-loop : tie.MeasureT-loop
 μ-loop elapsed early tempo-beats tempo-values stop-beats stop-values delay-beats delay-values warp-beats warp-lengths start heads₀ none state heads passed =
@@ -150,7 +149,7 @@ moved : (c : tie.After-pass-event Inv-loop μ-loop) →
     let at = c .before .before .before .before .before .before .before .before .before .before .before in
     let a = at .before .before .before .before .before .before .before .before .before .before .args in
     let t = timing-of at in
-    Going (a .early) t (isOver (a .elapsed) (a .early) t) (says-over (a .elapsed) (a .early) t) (a .start) (c .pass-event .result) (at .loop .passed + 1) × (eventsLeft t (c .pass-event .result) < eventsLeft t (at .loop .state))
+    Going (a .early) t (isAheadOver (a .elapsed) (a .early) t) (says-over (a .elapsed) (a .early) t) (a .start) (c .pass-event .result) (at .loop .passed + 1) × (eventsLeft t (c .pass-event .result) < eventsLeft t (at .loop .state))
 moved c =
     let ran = c .before .before in
     let timed = ran .before .before .before in
@@ -158,7 +157,7 @@ moved c =
     let a = at .before .before .before .before .before .before .before .before .before .before .args in
     let t = timing-of at in
     let over = come-and-over (a .elapsed) (a .early) t (at .loop .state) _ (is-found timed) (rw (comes-at timed) at (ran .before .before .if1 .left)) (sym (runs ran) ∙ c .before .if2 .left) in
-    turn (a .early) t (isOver (a .elapsed) (a .early) t) (says-over (a .elapsed) (a .early) t) (a .start) (at .loop .state) (at .loop .passed) (c .pass-event .result) over (is-passed c ∙ sym (ap (pastFound (a .early) t (at .loop .state)) (is-found timed))) (at .loop .inv .0)
+    turn (a .early) t (isAheadOver (a .elapsed) (a .early) t) (says-over (a .elapsed) (a .early) t) (a .start) (at .loop .state) (at .loop .passed) (c .pass-event .result) over (is-passed c ∙ sym (ap (pastFound (a .early) t (at .loop .state)) (is-found timed))) (at .loop .inv .0)
 
 add-passed : tie.Need-add-passed Inv-loop μ-loop
 add-passed c =
