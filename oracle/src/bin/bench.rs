@@ -87,7 +87,9 @@ fn main() {
     for (name, chart) in [("a typical chart", chart([50, 30, 10, 10])), ("1,000 tempos", chart([1_000, 0, 0, 0]))] {
         ASKED.iter().for_each(|order| bench.before_the_mark(name, &chart, *order));
     }
-    println!("nanoseconds a time of 2,000, from the start each; a run tests the timing once");
+    println!(
+        "nanoseconds a time of 2,000, from the start each, but in a run, which goes on where times rise and tests the timing once"
+    );
     for (name, chart) in [("a typical chart", chart([50, 30, 10, 10])), ("1,000 tempos", chart([1_000, 0, 0, 0]))] {
         ASKED[..1].iter().chain(&ASKED[2..]).for_each(|order| bench.by_time(name, &chart, *order));
     }
