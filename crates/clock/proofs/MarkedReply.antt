@@ -1,7 +1,7 @@
 -- The reply with a mark: strictly beyond the mark's row it is from the mark, on that row or before it the unmarked one. Assumes nothing.
 use Prim.Native.Nat.{_^_, _<_}
 use mathlib.Core.Bool.{Bool, true, false}
-use mathlib.Core.List.{List, [], _∷_}
+use mathlib.Core.List.{[], _∷_}
 use mathlib.Core.Path.{_≡_, refl}
 use lib.Dec.{eqb}
 use lib.IntN.{ℤ}

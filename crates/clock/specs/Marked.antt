@@ -1,6 +1,6 @@
 -- A question with an end mark beside the cursor: strictly beyond the mark's row it is answered from the mark, on that row or before it the old way. Definitions only.
 use Prim.Native.Nat.{ℕ}
-use mathlib.Core.Bool.{Bool, false, not, _&&_}
+use mathlib.Core.Bool.{Bool, not, _&&_}
 use lib.Dec.{eqb}
 use lib.IntN.{ℤ}
 use lib.Signed.{ltZ}

@@ -1,17 +1,16 @@
 -- A question with the timing's end mark has the number, the time and the cursor of the one without, and counts no more. Assumes nothing.
-use Prim.Native.Nat.{ℕ, _+_, _≤_, _<_}
 use mathlib.Core.Bool.{Bool, true, false}
 use mathlib.Core.Path.{_≡_, refl, sym, ap, _∙_}
 use native.Mathlib.Omega.{arith}
 use lib.Dec.{eqb}
-use lib.IntN.{ℤ, pos}
+use lib.IntN.{ℤ}
 use lib.Signed.{ltZ}
 use lib.Ieee.{Float, binary64, sub}
 use Rattle.ieee.specs.Constants.{plusZero}
 use Rattle.picks.specs.Pick.{pick}
 use Rattle.rows.specs.Rows.{row}
 use Rattle.chart.specs.Timing.{Timing}
-use Rattle.clock_walk.specs.Passing.{earlyTempo, timeAt}
+use Rattle.clock_walk.specs.Passing.{earlyTempo}
 use Rattle.clock_walk.specs.Soon.{quietAt}
 use Rattle.clock_walk.specs.Walk.{walk}
 use Rattle.chart.specs.declared.State.{State}

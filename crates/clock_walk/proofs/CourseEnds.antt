@@ -1,10 +1,10 @@
 -- Where the course ends nothing is ahead, so that a tempo was passed where the first is on row 0. Assumes nothing.
 use Prim.Native.Nat.{ℕ, zero, suc, _≤_, _<_}
-use mathlib.Core.Bool.{true, false}
+use mathlib.Core.Bool.{false}
 use mathlib.Core.Path.{_≡_, refl, sym, ap, _∙_}
 use native.Mathlib.Omega.{arith}
 use lib.ListN.{length, getD}
-use lib.IntN.{ℤ, pos}
+use lib.IntN.{pos}
 use lib.Signed.{ltZ}
 use lib.Ieee.{Float, nan, binary64}
 use Rattle.rows.specs.Rows.{row}

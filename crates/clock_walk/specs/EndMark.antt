@@ -3,7 +3,6 @@ use mathlib.Core.List.{List, [], _∷_}
 use lib.ListN.{length}
 use lib.IntN.{ℤ}
 use lib.Signed.{ltZ}
-use lib.Ieee.{Float}
 use Rattle.picks.specs.Pick.{pick}
 use Rattle.chart.specs.Timing.{Timing}
 use Rattle.clock_walk.specs.Passing.{earlyTempo}

@@ -1,5 +1,5 @@
 -- `clock::check_marked_timing` is `markedTimingNumber`. Assumes nothing.
-use mathlib.Core.Path.{_≡_, sym, _∙_}
+use mathlib.Core.Path.{sym, _∙_}
 use Rattle.chart.specs.Timing.{Timing, timing}
 use Rattle.clock.proofs.MarkTested.{own-taken, other-refused, timing-refused}
 use borrow.Author.Needs.{needs}

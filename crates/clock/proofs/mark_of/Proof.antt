@@ -1,5 +1,4 @@
 -- `clock::mark_of` is `markOf`. Assumes nothing.
-use mathlib.Core.Path.{_≡_}
 use lib.Ieee.{ofBits}
 use Rattle.chart.specs.Timing.{Timing, timing}
 use Rattle.clock.specs.Marked.{markOf}

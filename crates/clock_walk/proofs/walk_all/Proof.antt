@@ -1,7 +1,6 @@
 -- `clock_walk::walk_all` walks event by event, to where nothing is found. Assumes nothing.
 use Prim.Native.Nat.{_<_}
-use mathlib.Core.Path.{_≡_, refl, sym, ap, _∙_, subst}
-use lib.IntN.{ℤ}
+use mathlib.Core.Path.{_≡_, sym, ap, _∙_, subst}
 use lib.Ieee.{Float}
 use mir.Syntax.{w32}
 use mir.Val.{SFits, toZ, ofZ}

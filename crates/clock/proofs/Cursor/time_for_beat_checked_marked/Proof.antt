@@ -1,5 +1,5 @@
 -- `clock::Cursor::time_for_beat_checked_marked` is `markedPlayerQuestion`. Assumes nothing.
-use mathlib.Core.Path.{_≡_, sym, ap, _∙_}
+use mathlib.Core.Path.{_≡_, sym, _∙_}
 use mathlib.Core.Bool.{Bool, true, false}
 use borrow.Author.Tests.{eq-eqb, ne-eqb}
 use lib.Ieee.{binary64}

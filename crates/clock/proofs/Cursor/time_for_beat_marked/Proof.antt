@@ -1,5 +1,5 @@
 -- `clock::Cursor::time_for_beat_marked` is `markedQuestion`. Assumes nothing.
-use mathlib.Core.Path.{_≡_, sym, _∙_}
+use mathlib.Core.Path.{sym, _∙_}
 use borrow.Author.Tests.{eq-eqb, ne-eqb}
 use Rattle.limits.proofs.NoRefusal.{lower-none}
 use Rattle.clock.specs.Question.{cursorRefusal, playerNumber, temposOf}
