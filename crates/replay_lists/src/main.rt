@@ -5,6 +5,7 @@ use chart::State;
 use clock::Answer;
 use clock::Cursor;
 use clock_bench::BenchAnswer;
+use clock_walk::Mark;
 use columns::Outcome;
 use libc::STDIN_FILENO;
 use libc::STDOUT_FILENO;
@@ -913,9 +914,10 @@ fn marked_answer(
         offset,
         global,
     );
+    let mark: Mark = made.mark;
     let fresh = Cursor::new(offset, global);
     fresh.cursor.time_for_beat_marked(
-        made.mark,
+        mark,
         f32_column(floats, words, tempo_beats_at),
         f32_column(floats, words, tempo_values_at),
         f32_column(floats, words, stop_beats_at),
