@@ -1,4 +1,4 @@
-/* A chart through the C functions: assembly, the clock and the second one, the lookups, and stops for SM. Prints what it found, and ends with 1 where an answer is not the expected one. */
+/* A chart through the C functions: assembly, the clock, with an end mark too, beat from time, and the second clock, the lookups, and stops for SM. Prints what it found, and ends with 1 where an answer is not the expected one. */
 #include <stdio.h>
 #include <string.h>
 
@@ -103,6 +103,57 @@ int main(void) {
     expect(ran == MARRIGHENTU_TAKEN && cursor.asked == 17 * 48, "a run");
     expect( numbers[0] == 0 && numbers[1] == MARRIGHENTU_BAD_BEAT && numbers[2] == 0, "a run's numbers");
     expect(times[0] == 0.0 && times[2] == 5.5 && counts[1] == 0, "a run's seconds");
+
+    /* the end of the timing: the stop on beat 16 is its last event, and a beat behind it is one step from any cursor */
+    marrighentu_mark_made ended = marrighentu_make_mark(CLOCK_COLUMNS(t));
+    const marrighentu_mark mark = ended.mark;
+    expect(ended.number == MARRIGHENTU_TAKEN && mark.row == 16 * 48 && mark.state.row == 16 * 48 && mark.state.time == 5.0, "the end mark");
+    expect(marrighentu_check_marked_timing(mark, CLOCK_COLUMNS(t)) == MARRIGHENTU_TAKEN, "a timing with its mark");
+    for (size_t i = 0; i < sizeof beats / sizeof *beats; i++) {
+        marrighentu_cursor lent = made.cursor;
+        marrighentu_answer plain = marrighentu_time_for_beat_checked(made.cursor, CLOCK_COLUMNS(t), beats[i]);
+        marrighentu_answer player = marrighentu_time_for_beat_checked_marked(made.cursor, mark, CLOCK_COLUMNS(t), beats[i]);
+        marrighentu_answer tested = marrighentu_time_for_beat_marked(made.cursor, mark, CLOCK_COLUMNS(t), beats[i]);
+        marrighentu_reply reply = marrighentu_lent_time_for_beat_checked_marked(&lent, mark, CLOCK_COLUMNS(t), beats[i]);
+        expect(player.time == expected[i] && tested.time == expected[i] && reply.time == expected[i], "the second of a beat, with a mark");
+        expect(player.count == (beats[i] > 16 ? 1 : plain.count), "one step behind the mark, and on its row and before it as many as without");
+        expect(tested.count == player.count && reply.count == player.count, "the steps of each form");
+        expect(same_cursor(&lent, &player.cursor) && same_cursor(&lent, &tested.cursor), "the cursor after a marked question");
+    }
+    printf("beat 1000 at %g s, 1 step\n", marrighentu_lent_time_for_beat_checked_marked(&cursor, mark, CLOCK_COLUMNS(t), 1000).time);
+    expect(cursor.state.row == mark.state.row && cursor.asked == 48000, "the cursor is in the mark's state");
+    ran = marrighentu_lent_run_marked(&cursor, mark, CLOCK_COLUMNS(t), asked, 3, numbers, 3, times, 3, counts, 3);
+    expect(ran == MARRIGHENTU_TAKEN && times[2] == 5.5 && counts[2] == 1 && numbers[1] == MARRIGHENTU_BAD_BEAT, "a marked run");
+    marrighentu_made by_value = marrighentu_run_marked(made.cursor, mark, CLOCK_COLUMNS(t), asked, 3, numbers, 3, times, 3, counts, 3);
+    expect(by_value.number == MARRIGHENTU_TAKEN && same_cursor(&by_value.cursor, &cursor) && counts[2] == 1, "a marked run by value");
+
+    /* a mark of another timing, here of other offsets, is refused where everything is tested */
+    t->offset += 0.5;
+    expect(marrighentu_check_marked_timing(mark, CLOCK_COLUMNS(t)) == MARRIGHENTU_NOT_RISING, "a mark of other offsets");
+    refused = marrighentu_lent_time_for_beat_marked(&cursor, mark, CLOCK_COLUMNS(t), 17);
+    expect(refused.number == MARRIGHENTU_NOT_RISING && refused.count == 0, "a question with a mark of other offsets");
+    t->offset -= 0.5;
+
+    /* which beat it is at a second: before the warp, where it ends, in the stop, when that is over, and a second that is refused */
+    const double seconds[] = {1, 2, 4.5, 5, 1e300}, found_beats[] = {2, 12, 16, 16, 0};
+    const size_t over[] = {2, 4, 4, 5, 0};
+    double info_beats[5];
+    uint32_t info_numbers[5];
+    uint8_t freezes[5], delayed[5];
+    size_t info_counts[5];
+    ran = marrighentu_get_beat_infos_from_times(
+        CLOCK_COLUMNS(t), seconds, 5, info_numbers, 5, info_beats, 5, freezes, 5, delayed, 5, info_counts, 5);
+    expect(ran == MARRIGHENTU_TAKEN, "many seconds");
+    for (size_t i = 0; i < 5; i++) {
+        marrighentu_beat_info one = marrighentu_get_beat_info_from_time(CLOCK_COLUMNS(t), seconds[i]);
+        marrighentu_beat_info player = marrighentu_get_beat_info_from_time_checked(CLOCK_COLUMNS(t), seconds[i]);
+        expect(one.beat == found_beats[i] && player.beat == found_beats[i] && info_beats[i] == found_beats[i], "the beat of a second");
+        expect(one.is_in_freeze == (i == 2) && player.is_in_freeze == (i == 2) && freezes[i] == (i == 2), "in the stop");
+        expect(!one.is_in_delay && !player.is_in_delay && delayed[i] == 0, "in no delay");
+        expect(one.count == over[i] && player.count == over[i] && info_counts[i] == over[i], "the events that are over, and one");
+        expect(one.number == (i == 4 ? MARRIGHENTU_BAD_VALUE : MARRIGHENTU_TAKEN) && player.number == one.number && info_numbers[i] == one.number, "its number");
+        if (one.number == MARRIGHENTU_TAKEN) printf("at %g s it is beat %g%s\n", seconds[i], one.beat, one.is_in_freeze ? ", in a stop" : "");
+    }
 
     /* the events one by one, as the second clock has them: a tempo, a warp, its end, a stop */
     int32_t event_rows[5];

@@ -59,25 +59,26 @@ pub struct Numbered {
 
 /// A call with the eight columns of a chart and its offsets, what it takes before them, and what after. A slice crosses as its pointer and its length.
 macro_rules! port {
-    ($($(#[$doc:meta])* fn $name:ident($($before:ident: $before_type:ty)?; $($after:ident: $after_type:ty),*) -> $answer:ty = $symbol:literal;)*) => {
+    ($($(#[$doc:meta])* fn $name:ident($($before:ident: $before_type:ty),*; $($after:ident: $after_type:ty),*) -> $answer:ty = $symbol:literal;)*) => {
         $($(#[$doc])*
         #[inline(always)]
-        pub fn $name($($before: $before_type,)? chart: &Chart, $($after: $after_type),*) -> $answer {
+        pub fn $name($($before: $before_type,)* chart: &$crate::timings::Chart, $($after: $after_type),*) -> $answer {
             unsafe extern "C" {
                 #[link_name = $symbol]
-                fn call($($before: $before_type,)? a: *const f32, al: usize, b: *const f32, bl: usize, c: *const f32, cl: usize, d: *const f32, dl: usize,
+                fn call($($before: $before_type,)* a: *const f32, al: usize, b: *const f32, bl: usize, c: *const f32, cl: usize, d: *const f32, dl: usize,
                     e: *const f32, el: usize, f: *const f32, fl: usize, g: *const f32, gl: usize, h: *const f32, hl: usize,
                     offset: f64, global: f64, $($after: $after_type),*) -> $answer;
             }
             let [(a, b), (c, d), (e, f), (g, h)] = &chart.lists;
             // SAFETY: the columns are lent whole; what else crosses is numbers, structs of numbers, or columns that the caller lends whole.
             unsafe {
-                call($($before,)? a.as_ptr(), a.len(), b.as_ptr(), b.len(), c.as_ptr(), c.len(), d.as_ptr(), d.len(),
+                call($($before,)* a.as_ptr(), a.len(), b.as_ptr(), b.len(), c.as_ptr(), c.len(), d.as_ptr(), d.len(),
                     e.as_ptr(), e.len(), f.as_ptr(), f.len(), g.as_ptr(), g.len(), h.as_ptr(), h.len(), chart.offset, chart.global, $($after),*)
             }
         })*
     };
 }
+pub(crate) use port;
 
 port! {
     fn check_timing(;) -> u32 = "marrighentu_check_timing";
@@ -165,7 +166,7 @@ impl Cursor {
     }
 
     /// Bit for bit, but for the sign of a warp's end of zero: which of two zeros is the larger differs from one processor to another in the original.
-    fn same(self, other: Self) -> bool {
+    pub(crate) fn same(self, other: Self) -> bool {
         let (one, two) = (self.state, other.state);
         let end = |state: State| (state.end + 0.0).answer();
         (one.tempos, one.stops, one.delays, one.warps, one.row, one.warping, self.asked)
@@ -175,7 +176,7 @@ impl Cursor {
     }
 
     /// 9 or 0, by the rules.
-    fn number(self, lengths: [usize; 4]) -> u32 {
+    pub(crate) fn number(self, lengths: [usize; 4]) -> u32 {
         let State { tempos, stops, delays, warps, row, time, end, .. } = self.state;
         let beyond = [tempos, stops, delays, warps].iter().zip(lengths).any(|(place, length)| *place > length);
         let row_allowed = |row: i32| (-LAST_ROW..=LAST_ROW).contains(&row);
@@ -188,7 +189,7 @@ impl Cursor {
     }
 
     /// Sound in most fields, and in one or two perhaps not.
-    fn made_up(lengths: [usize; 4], random: &mut Random) -> Self {
+    pub(crate) fn made_up(lengths: [usize; 4], random: &mut Random) -> Self {
         let mut place = |list: usize| random.below(lengths[list] as u64 + 1) as usize;
         let [tempos, stops, delays, warps] = [place(TEMPOS), place(STOPS), place(DELAYS), place(WARPS)];
         let mut row = || (random.below(2 * LAST_ROW as u64 + 1) as i32 - LAST_ROW) >> random.below(22);
@@ -222,81 +223,138 @@ impl Cursor {
 
 impl Reply {
     /// With the cursor that was lent, as it is after the question.
-    fn with(self, cursor: Cursor) -> Answer {
+    pub(crate) fn with(self, cursor: Cursor) -> Answer {
         Answer { number: self.number, time: self.time, count: self.count, cursor }
     }
 }
 
 impl Answer {
-    fn refused(number: u32, cursor: Cursor) -> Self {
+    pub(crate) fn refused(number: u32, cursor: Cursor) -> Self {
         Self { number, time: 0.0, count: 0, cursor }
     }
 
-    fn same(&self, other: &Self) -> bool {
+    pub(crate) fn same(&self, other: &Self) -> bool {
         (self.number, self.time.answer(), self.count) == (other.number, other.time.answer(), other.count)
             && self.cursor.same(other.cursor)
     }
 }
 
-/// The rules of the walk once more, in plain Rust and with a count: from a state to an asked row.
-pub struct Counted {
-    pub time: f64,
-    pub passed: usize,
+/// What comes next, by rank: on one row the lower one is first.
+pub const WARP_END: usize = 0;
+pub const TEMPO: usize = 1;
+pub const DELAY: usize = 2;
+pub const ASKED: usize = 3;
+pub const STOP: usize = 4;
+pub const WARP: usize = 5;
+
+/// The rules of the walk once more, in plain Rust: event by event, over a timing's lists.
+pub struct Walker<'a> {
+    lists: [(&'a [f32], &'a [f32]); 4],
+    early: f64,
     pub state: State,
 }
 
-pub fn counted_walk(chart: &Chart, mut state: State, asked: i32) -> Counted {
-    let default = (vec![0.0], vec![60.0]);
-    let tempos = if chart.lists[TEMPOS].0.is_empty() { &default } else { &chart.lists[TEMPOS] };
-    let lists = [tempos, &chart.lists[STOPS], &chart.lists[DELAYS], &chart.lists[WARPS]];
-    let number = |column: &[f32], place: usize| f64::from(column[place]);
-    let last_beat = f64::from(state.row) / 48.0;
-    let before = tempos.0.iter().take_while(|beat| f64::from(**beat) <= last_beat).count();
-    let early = number(&tempos.1, before.saturating_sub(1));
-    let mut passed = 0;
-    loop {
-        // what can come, by rank: warp end, tempo, delay, the asked beat, stop, warp; the least row wins, then the lower rank
+impl<'a> Walker<'a> {
+    pub fn new(chart: &'a Chart, state: State) -> Self {
+        let mut lists = chart.lists.each_ref().map(|(beats, values)| (&beats[..], &values[..]));
+        if lists[TEMPOS].0.is_empty() {
+            lists[TEMPOS] = (&[0.0], &[60.0]);
+        }
+        let (beats, values) = lists[TEMPOS];
+        let last_beat = f64::from(state.row) / 48.0;
+        let before = beats.iter().take_while(|beat| f64::from(**beat) <= last_beat).count();
+        Self { lists, early: values[before.saturating_sub(1)].into(), state }
+    }
+
+    /// The row and rank of what comes next: the least row wins, then the lower rank. An end that is held at the last row that there is never comes.
+    pub fn next(&self, asked: Option<i32>) -> Option<(i32, usize)> {
+        self.next_by(asked, [WARP_END, TEMPO, DELAY, ASKED, STOP, WARP])
+    }
+
+    /// The same by other places of the ranks on one row.
+    pub fn next_by(&self, asked: Option<i32>, places: [usize; 6]) -> Option<(i32, usize)> {
+        let state = &self.state;
         let head = |list: usize, place: usize| {
-            (place < lists[list].0.len()).then(|| probe::beat_to_note_row(number(&lists[list].0, place)))
+            self.lists[list].0.get(place).map(|beat| probe::beat_to_note_row((*beat).into()))
         };
         let heads = [
             state.warping.then(|| probe::beat_to_note_row(state.end)),
             head(TEMPOS, state.tempos),
             head(DELAYS, state.delays),
-            Some(asked),
+            asked,
             head(STOPS, state.stops),
             head(WARPS, state.warps),
         ];
         let all = heads.iter().enumerate().filter_map(|(rank, row)| row.map(|row| (row, rank)));
-        let (row, rank) = all.min().unwrap();
-        let tempo = if state.tempos == 0 { early } else { number(&tempos.1, state.tempos - 1) };
-        let beats = f64::from(row.wrapping_sub(state.row)) / 48.0;
-        let time = state.time + if state.warping { 0.0 } else { beats / (tempo / 60.0) };
-        if rank == 3 {
-            return Counted { time, passed, state };
-        }
-        passed += 1;
+        all.filter(|(row, _)| *row < i32::MAX).min_by_key(|(row, rank)| (*row, places[*rank]))
+    }
+
+    /// Beats a second by the tempo in force.
+    pub fn beats_a_second(&self) -> f64 {
+        let place = self.state.tempos;
+        let tempo = if place == 0 { self.early } else { self.lists[TEMPOS].1[place - 1].into() };
+        tempo / 60.0
+    }
+
+    /// The time of a row by the tempo in force; in a warp time stands still.
+    pub fn time_at(&self, row: i32) -> f64 {
+        let beats = f64::from(row.wrapping_sub(self.state.row)) / 48.0;
+        self.state.time + if self.state.warping { 0.0 } else { beats / self.beats_a_second() }
+    }
+
+    /// The beat and the seconds of the stop or delay that comes next.
+    pub fn pause(&self, rank: usize) -> Option<(f64, f64)> {
+        let (list, place) = match rank {
+            DELAY => (DELAYS, self.state.delays),
+            STOP => (STOPS, self.state.stops),
+            _ => return None,
+        };
+        let (beats, values) = self.lists[list];
+        Some((beats[place].into(), values[place].into()))
+    }
+
+    pub fn pass(&mut self, row: i32, rank: usize) {
+        let (time, pause) = (self.time_at(row), self.pause(rank));
+        let state = &mut self.state;
         (state.row, state.time) = (row, time);
+        if let Some((_, lasts)) = pause {
+            state.time += lasts;
+        }
         match rank {
-            0 => state.warping = false,
-            1 => state.tempos += 1,
-            2 => {
-                state.time += number(&lists[DELAYS].1, state.delays);
-                state.delays += 1;
-            }
-            4 => {
-                state.time += number(&lists[STOPS].1, state.stops);
-                state.stops += 1;
-            }
-            _ => {
-                let end = number(&lists[WARPS].0, state.warps) + number(&lists[WARPS].1, state.warps);
+            WARP_END => state.warping = false,
+            TEMPO => state.tempos += 1,
+            DELAY => state.delays += 1,
+            STOP => state.stops += 1,
+            WARP => {
+                let (beats, lengths) = self.lists[WARPS];
+                let end = f64::from(beats[state.warps]) + f64::from(lengths[state.warps]);
                 if end > state.end {
                     state.end = end;
                 }
                 state.warps += 1;
                 state.warping = true;
             }
+            _ => unreachable!("the asked beat is not passed"),
         }
+    }
+}
+
+/// Where a walk to an asked row ends, and how many events it passed.
+pub struct Counted {
+    pub time: f64,
+    pub passed: usize,
+    pub state: State,
+}
+
+pub fn counted_walk(chart: &Chart, state: State, asked: i32) -> Counted {
+    let (mut walker, mut passed) = (Walker::new(chart, state), 0);
+    loop {
+        let (row, rank) = walker.next(Some(asked)).unwrap();
+        if rank == ASKED {
+            return Counted { time: walker.time_at(row), passed, state: walker.state };
+        }
+        walker.pass(row, rank);
+        passed += 1;
     }
 }
 
@@ -327,7 +385,7 @@ pub(crate) fn lowest(numbers: impl IntoIterator<Item = u32>) -> u32 {
 
 impl Columns {
     /// Numbers of every kind, with some places past the rooms.
-    fn by_chance([numbers, times, counts]: [usize; 3], random: &mut Random) -> Self {
+    pub(crate) fn by_chance([numbers, times, counts]: [usize; 3], random: &mut Random) -> Self {
         let mut column = |room: usize| (0..room + PAST).map(|_| random.bits()).collect::<Vec<_>>();
         Self {
             numbers: column(numbers).into_iter().map(|bits| bits as u32).collect(),
@@ -336,7 +394,7 @@ impl Columns {
         }
     }
 
-    fn same(&self, other: &Self) -> bool {
+    pub(crate) fn same(&self, other: &Self) -> bool {
         let times = || self.times.iter().zip(&other.times).all(|(one, other)| one.answer() == other.answer());
         self.numbers == other.numbers && self.counts == other.counts && self.times.len() == other.times.len() && times()
     }
@@ -383,7 +441,7 @@ impl Asked {
         Self { chart, number, timing }
     }
 
-    fn answer(&self, cursor: Cursor, beat: f64) -> Answer {
+    pub(crate) fn answer(&self, cursor: Cursor, beat: f64) -> Answer {
         match lowest([self.number, cursor.number(self.chart.lengths())]) {
             number if number == 0 || number > 3 && !beat_allowed(beat) => self.asked(cursor, beat),
             number => Answer::refused(number, cursor),
@@ -391,7 +449,7 @@ impl Asked {
     }
 
     /// The beat's own number decides.
-    fn asked(&self, cursor: Cursor, beat: f64) -> Answer {
+    pub(crate) fn asked(&self, cursor: Cursor, beat: f64) -> Answer {
         match &self.timing {
             Some(timing) if beat_allowed(beat) => expected(&self.chart, timing, cursor, beat),
             _ => Answer::refused(3, cursor),
@@ -460,6 +518,13 @@ impl Asked {
             }
             (number, _) => Answer::refused(number, Cursor::fresh(chart.offset, chart.global)),
         }
+    }
+
+    /// The original's cursor after the walk with no beat asked, which it takes a beat for that is no number of a chart; none of a timing that is refused.
+    pub(crate) fn end(&self) -> Option<Cursor> {
+        let mut original = BeatCursor::new(self.timing.as_ref()?);
+        original.time_for_beat(f64::MAX);
+        Some(Cursor::of(original.held()))
     }
 
     fn fresh(&self, beat: f64, found: &mut Found) {
@@ -540,6 +605,17 @@ pub fn stored_cases(cases: &mut Vec<Case>) {
     cases.extend((0..).filter_map(run).take(stored::EACH));
 }
 
+/// The rooms of a run over so many beats: long enough, or one of them short.
+pub(crate) fn run_rooms(count: usize, random: &mut Random) -> [usize; 3] {
+    match random.below(8) {
+        0 => [count.saturating_sub(1), count, count + 1],
+        1 => [count + 3, count.saturating_sub(1), count],
+        2 => [count, count, count.saturating_sub(1)],
+        3 => [count, 0, 70],
+        _ => [0, 1, 2].map(|_| count + random.below(5) as usize),
+    }
+}
+
 pub fn compare_all(work: Work, total: &mut Total) {
     let mut random = Random::new(work.seed, "clock");
     let [mut timings, mut questions, mut fresh, mut made_up, mut runs] = [(); 5].map(|()| Found::default());
@@ -572,13 +648,7 @@ pub fn compare_all(work: Work, total: &mut Total) {
                 1 => Cursor::made_up(chart.lengths(), &mut random),
                 _ => Cursor::fresh(wanted.1[0], wanted.1[1]),
             };
-            let rooms = match random.below(8) {
-                0 => [count.saturating_sub(1), count, count + 1],
-                1 => [count + 3, count.saturating_sub(1), count],
-                2 => [count, count, count.saturating_sub(1)],
-                3 => [count, 0, 70],
-                _ => [0, 1, 2].map(|_| count + random.below(5) as usize),
-            };
+            let rooms = run_rooms(count, &mut random);
             asked.run(from, &beats, rooms, &mut random, &mut runs);
         }
     }

@@ -9,14 +9,15 @@ use crate::timing::Timing;
 pub struct Answer {
     /// The second at which the beat is.
     pub time: f64,
-    /// The events that the question passed, and one.
+    /// The events that the question passed, and one; one where the beat lies behind all events.
     pub steps: usize,
 }
 
 /// A place in a timing, which goes forward with the beats that it is asked.
 ///
 /// Questions may come in any order: each time is bit for bit what a fresh cursor gives for that beat. Rising beats are cheap, since only
-/// the events between two of them are passed; a beat on a lower row starts from beat zero again.
+/// the events between two of them are passed; a beat on a lower row starts from beat zero again. A beat behind all events is answered at once, from
+/// the end of the timing, which was worked out when the timing was made.
 ///
 /// ```
 /// use marrighentu::{Chart, Format, Refusal, Timing};
@@ -28,6 +29,9 @@ pub struct Answer {
 /// assert_eq!(cursor.time_for_beat(5.0)?, 2.0);
 /// assert_eq!(cursor.time_for_beat(8.0)?, 3.0);
 /// assert_eq!(cursor.time_for_beat(1.0)?, 0.5);
+/// // the warp's end, on beat 6, is the last event: behind it a question is one step
+/// assert_eq!(cursor.ask(6.0)?.steps, 3);
+/// assert_eq!(timing.cursor().ask(1000.0)?.steps, 1);
 /// // a refused question leaves the cursor as it was
 /// assert_eq!(cursor.time_for_beat(f64::NAN), Err(Refusal::BadBeat));
 /// # Ok::<(), Refusal>(())
@@ -134,8 +138,9 @@ impl<'timing> Cursor<'timing> {
     #[inline]
     pub fn ask(&mut self, beat: f64) -> Result<Answer, Refusal> {
         let t = self.timing;
-        let reply = ffi::time_for_beat_checked(
+        let reply = ffi::time_for_beat_checked_marked(
             &mut self.at,
+            t.mark,
             &t.tempos,
             &t.stops,
             &t.delays,
@@ -174,7 +179,7 @@ impl<'timing> Cursor<'timing> {
     /// let timing = Timing::assemble(Format::Ssc, &chart, 0.0, 0.0)?;
     /// let (mut numbers, mut times, mut steps) = ([0; 3], [0.0; 3], [0; 3]);
     /// timing.cursor().times_into(&[2.0, 1e9, 4.0], &mut numbers, &mut times, &mut steps)?;
-    /// assert_eq!((numbers, times, steps), ([0, 3, 0], [1.0, 0.0, 2.0], [2, 0, 1]));
+    /// assert_eq!((numbers, times, steps), ([0, 3, 0], [1.0, 0.0, 2.0], [1, 0, 1]));
     /// # Ok::<(), marrighentu::Refusal>(())
     /// ```
     ///
@@ -188,8 +193,9 @@ impl<'timing> Cursor<'timing> {
         steps: &mut [usize],
     ) -> Result<(), Refusal> {
         let t = self.timing;
-        let number = ffi::run(
+        let number = ffi::run_marked(
             &mut self.at,
+            t.mark,
             &t.tempos,
             &t.stops,
             &t.delays,
@@ -233,5 +239,49 @@ mod tests {
         let before = cursor.at;
         assert_eq!(cursor.ask(70_000.0), Err(Refusal::BadBeat));
         assert_eq!(cursor.at, before);
+        // so does the mark: behind the last tempo its state is the cursor's
+        let state =
+            ffi::State { tempos: 4, stops: 2, delays: 1, warps: 4, row: 1_440, warping: false, time: 15.5, end: 12.0 };
+        assert_eq!(timing.mark, ffi::Mark { state, row: 1_440 });
+        assert_eq!(timing.cursor().ask(30.0), Ok(Answer { time: 15.25, steps: 15 }));
+        assert_eq!(cursor.ask(31.0), Ok(Answer { time: 16.25, steps: 1 }));
+        assert_eq!(cursor.at, ffi::Cursor { state, asked: 1_488 });
+        assert_eq!(timing.cursor().ask(31.0), Ok(Answer { time: 16.25, steps: 1 }));
+    }
+
+    fn at_120(warps: Vec<(f32, f32)>) -> Timing {
+        Timing::from_lists(&Lists { tempos: vec![(0.0, 120.0)], warps, ..Lists::default() }, 0.0, 0.0).unwrap()
+    }
+
+    /// The greatest row, not the last: a warp of negative length ends before it starts.
+    #[test]
+    fn the_mark_is_on_the_greatest_row() {
+        let timing = at_120(vec![(4.0, -2.0)]);
+        assert_eq!((timing.mark.row, timing.mark.state.row), (192, 96));
+        assert_eq!(timing.cursor().ask(4.0), Ok(Answer { time: 2.0, steps: 2 }));
+        assert_eq!(timing.cursor().ask(5.0), Ok(Answer { time: 3.5, steps: 1 }));
+    }
+
+    /// Time stands still in a warp that never ends, and its mark serves; an end beyond the last row that is asked belongs to the mark, which then never serves.
+    #[test]
+    fn warps_that_end_far_away() {
+        let never = at_120(vec![(0.0, 44_739_244.0)]);
+        assert!(never.mark.state.warping && never.mark.row == 0);
+        assert_eq!(never.cursor().ask(60_000.0), Ok(Answer { time: 0.0, steps: 1 }));
+        let far = at_120(vec![(0.0, 44_739_240.0)]);
+        assert!(!far.mark.state.warping && far.mark.row == 2_147_483_520);
+        assert_eq!(far.cursor().ask(60_000.0), Ok(Answer { time: 0.0, steps: 3 }));
+    }
+
+    /// Questions in any order, one by one and as a run, have the seconds of a fresh cursor.
+    #[test]
+    fn behind_the_mark_and_before_it() {
+        let timing = at_120(vec![(4.0, 2.0), (10.0, 1.0)]);
+        let beats = [12.0, 3.0, 500.0, 11.0, 11.0625, 500.0, 4.0, 12.0];
+        let (mut cursor, times) = (timing.cursor(), timing.times(&beats));
+        for (beat, time) in beats.into_iter().zip(times) {
+            let fresh = timing.bench_time_for_beat(beat).unwrap().time;
+            assert_eq!((cursor.time_for_beat(beat), time), (Ok(fresh), Ok(fresh)), "beat {beat}");
+        }
     }
 }

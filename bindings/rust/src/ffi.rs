@@ -23,6 +23,22 @@ pub struct Cursor {
     pub asked: i32,
 }
 
+/// The end of a timing: the state after all its events, and the greatest row among them.
+#[derive(Clone, Copy, Debug, PartialEq)]
+#[repr(C)]
+pub struct Mark {
+    pub state: State,
+    pub row: i32,
+}
+
+/// A number and a mark: what making a mark answers.
+#[derive(Clone, Copy, Debug)]
+#[repr(C)]
+pub struct MarkMade {
+    pub number: u32,
+    pub mark: Mark,
+}
+
 /// What a question answers; the cursor after it stands in the place that was lent.
 #[derive(Clone, Copy, Debug)]
 #[repr(C)]
@@ -40,6 +56,17 @@ pub struct BenchAnswer {
     pub time: f64,
     pub count: usize,
     pub laid: usize,
+}
+
+/// Which beat it is at a time.
+#[derive(Clone, Copy, Debug)]
+#[repr(C)]
+pub struct BeatInfo {
+    pub number: u32,
+    pub beat: f64,
+    pub is_in_freeze: bool,
+    pub is_in_delay: bool,
+    pub count: usize,
 }
 
 /// A number and a cursor: what a new cursor answers.
@@ -177,17 +204,18 @@ calls! {
         rooms out_scrolls: f32,
         rooms out_fakes: f32,
     ) -> Assembled = "marrighentu_compute_timing_segments";
-    fn check_timing(
+    fn make_mark(
         list tempos: f32,
         list stops: f32,
         list delays: f32,
         list warps: f32,
         value offset: f64,
         value global: f64,
-    ) -> u32 = "marrighentu_check_timing";
+    ) -> MarkMade = "marrighentu_make_mark";
     fn cursor_new(value offset: f64, value global: f64) -> Numbered = "marrighentu_cursor_new";
-    fn time_for_beat_checked(
+    fn time_for_beat_checked_marked(
         lent cursor: Cursor,
+        value mark: Mark,
         list tempos: f32,
         list stops: f32,
         list delays: f32,
@@ -195,9 +223,10 @@ calls! {
         value offset: f64,
         value global: f64,
         value beat: f64,
-    ) -> Reply = "marrighentu_lent_time_for_beat_checked";
-    fn run(
+    ) -> Reply = "marrighentu_lent_time_for_beat_checked_marked";
+    fn run_marked(
         lent cursor: Cursor,
+        value mark: Mark,
         list tempos: f32,
         list stops: f32,
         list delays: f32,
@@ -208,7 +237,30 @@ calls! {
         room numbers: u32,
         room times: f64,
         room counts: usize,
-    ) -> u32 = "marrighentu_lent_run";
+    ) -> u32 = "marrighentu_lent_run_marked";
+    fn get_beat_info_from_time_checked(
+        list tempos: f32,
+        list stops: f32,
+        list delays: f32,
+        list warps: f32,
+        value offset: f64,
+        value global: f64,
+        value time: f64,
+    ) -> BeatInfo = "marrighentu_get_beat_info_from_time_checked";
+    fn get_beat_infos_from_times(
+        list tempos: f32,
+        list stops: f32,
+        list delays: f32,
+        list warps: f32,
+        value offset: f64,
+        value global: f64,
+        slice times: f64,
+        room numbers: u32,
+        room beats: f64,
+        room freezes: u8,
+        room delay_marks: u8,
+        room counts: usize,
+    ) -> u32 = "marrighentu_get_beat_infos_from_times";
     fn lay_out_events(
         list tempos: f32,
         list stops: f32,
@@ -307,9 +359,13 @@ const _: () = {
     assert!(offset_of!(State, warps) == 24 && offset_of!(State, row) == 32 && offset_of!(State, warping) == 36);
     assert!(offset_of!(State, time) == 40 && offset_of!(State, end) == 48);
     assert!(size_of::<Cursor>() == 64 && offset_of!(Cursor, asked) == 56);
+    assert!(size_of::<Mark>() == 64 && offset_of!(Mark, row) == 56);
+    assert!(size_of::<MarkMade>() == 72 && offset_of!(MarkMade, mark) == 8);
     assert!(size_of::<Reply>() == 24 && offset_of!(Reply, time) == 8 && offset_of!(Reply, count) == 16);
     assert!(size_of::<BenchAnswer>() == 32 && offset_of!(BenchAnswer, time) == 8);
     assert!(offset_of!(BenchAnswer, count) == 16 && offset_of!(BenchAnswer, laid) == 24);
+    assert!(size_of::<BeatInfo>() == 32 && offset_of!(BeatInfo, beat) == 8 && offset_of!(BeatInfo, is_in_freeze) == 16);
+    assert!(offset_of!(BeatInfo, is_in_delay) == 17 && offset_of!(BeatInfo, count) == 24);
     assert!(size_of::<Numbered>() == 72 && offset_of!(Numbered, cursor) == 8);
     assert!(size_of::<Looked>() == 8 && offset_of!(Looked, yes) == 4);
     assert!(size_of::<Outcome>() == 16 && offset_of!(Outcome, count) == 8);

@@ -12,7 +12,7 @@ const MOST_ENTRIES: usize = 1_024;
 
 /// The seven lists of a chart as the clock and the lookups take them, and its offsets.
 ///
-/// Its lists are tested once, when it is made, and can't change after that.
+/// Its lists are tested once, when it is made, and can't change after that; where its events end is worked out then too.
 #[derive(Clone, Debug)]
 pub struct Timing {
     pub(crate) tempos: Columns<f32>,
@@ -26,6 +26,8 @@ pub struct Timing {
     shown: Option<Vec<f64>>,
     pub(crate) offset: f64,
     pub(crate) global: f64,
+    /// from which beats behind all events are answered
+    pub(crate) mark: ffi::Mark,
     /// by which a cursor's state knows its timing; a clone has the same
     pub(crate) number: u32,
 }
@@ -36,6 +38,12 @@ impl PartialEq for Timing {
         self.lists() == other.lists() && self.offset == other.offset && self.global == other.global
     }
 }
+
+/// Before it is made.
+const NO_MARK: ffi::Mark = ffi::Mark {
+    state: ffi::State { tempos: 0, stops: 0, delays: 0, warps: 0, row: 0, warping: false, time: 0.0, end: 0.0 },
+    row: i32::MAX,
+};
 
 /// Another number for each timing that is made, until they have all been given.
 fn next_number() -> u32 {
@@ -165,6 +173,7 @@ impl Timing {
             shown: None,
             offset: song_offset + f64::from(made.offset),
             global: global_offset,
+            mark: NO_MARK,
             number: next_number(),
         }
         .checked()
@@ -187,6 +196,7 @@ impl Timing {
             shown: None,
             offset,
             global: global_offset,
+            mark: NO_MARK,
             number: next_number(),
         }
         .checked()
@@ -194,9 +204,10 @@ impl Timing {
 
     /// The lists as the clock and as the lookups test them, once: the questions after that refuse only what is asked.
     fn checked(mut self) -> Result<Timing, Refusal> {
-        let clock = ffi::check_timing(&self.tempos, &self.stops, &self.delays, &self.warps, self.offset, self.global);
+        let made = ffi::make_mark(&self.tempos, &self.stops, &self.delays, &self.warps, self.offset, self.global);
+        self.mark = made.mark;
         let lookups = ffi::check_lookups(&self.stops, &self.delays, &self.warps, &self.fakes);
-        let lowest = [clock, lookups].into_iter().filter(|number| *number != 0).min();
+        let lowest = [made.number, lookups].into_iter().filter(|number| *number != 0).min();
         let mut shown = vec![0.0; self.scrolls.len()];
         self.shown = (ffi::build_scroll_prefix(&self.scrolls, &mut shown).number == 0).then_some(shown);
         taken(lowest.unwrap_or(0), self)

@@ -5,3 +5,7 @@ pub mod NearTaken
 pub mod RefusalKeepsCursor
 pub mod NewIsFresh
 pub mod NothingToAnswer
+pub mod MarkedReply
+pub mod MarkTested
+pub mod OwnMark
+pub mod SmallestMarks

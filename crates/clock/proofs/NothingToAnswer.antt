@@ -27,9 +27,12 @@ in-range : (r : ℤ) → natAbs r ≤ mostRow → ltZ r farthest ≡ true
 in-range (pos n) near = lt-ltb n 2147483647 (omega arith)
 in-range (negsuc n) near = refl
 
+pub taken-in-range : (b : Float) → beatNumber b ≡ 0 → ltZ (row binary64 b) farthest ≡ true
+taken-in-range b h = in-range (row binary64 b) (row-within binary64 b (taken-allowed b (beat-taken b h)))
+
 -- all that matters is that the beat is taken
 pub nothing-to-answer : (b : Float) → beatNumber b ≡ 0 → (t : Timing) (s : State) → isNothing (next t (row binary64 b) s) ≡ false
-nothing-to-answer b h t s = nothing-never-found t (row binary64 b) s (in-range (row binary64 b) (row-within binary64 b (taken-allowed b (beat-taken b h))))
+nothing-to-answer b h t s = nothing-never-found t (row binary64 b) s (taken-in-range b h)
 
 -- as it is where a question is accepted
 pub question-finds : (t : Timing) (c : Cursor) (offset global b : Float) → questionNumber t c offset global b ≡ 0 → (u : Timing) (s : State) → isNothing (next u (row binary64 b) s) ≡ false

@@ -34,13 +34,16 @@ module _ (t : Timing) (c : Cursor) (offset global beat : Float) (asked : ℕ) (i
   beat-first h =
       three-first (inRange (rangeOf Beat) beat) (placesIn (temposOf t) (length (t .stopBeats)) (length (t .delayBeats)) (length (t .warpBeats)) (c .state)) (rowsIn (c .state .row) (c .asked)) (finite (c .state .time)) (endIn (c .state .end)) h
 
+  pub asked-first : eqb asked 0 ≡ false → playerNumber t c beat ≡ asked
+  asked-first h = beat-first (rw is at h) ∙ sym is
+
   pub beat-refused : eqb asked 0 ≡ false → refusedWith asked c ≡ playerQuestion t c offset global beat
   unfolding playerQuestion
   beat-refused h = let h′ : eqb (beatNumber beat) 0 ≡ false = rw is at h in rw (beat-first h′, is, h′)
 
   module _ (taken : eqb asked 0 ≡ true) (lent : ℕ)
       (lent-is : lent ≡ cursorNumber (pick (eqb (length (t .tempoBeats)) 0) 1 (length (t .tempoBeats))) (length (t .stopBeats)) (length (t .delayBeats)) (length (t .warpBeats)) (c .state) (c .asked)) where
-    cursor-next : playerNumber t c beat ≡ lent
+    pub cursor-next : playerNumber t c beat ≡ lent
     unfolding playerNumber lower cursorRefusal temposOf
     cursor-next = rw (← is, taken) (sym lent-is)
 

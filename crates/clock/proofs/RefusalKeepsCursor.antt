@@ -7,9 +7,11 @@ use lib.Ieee.{Float}
 use Rattle.ieee.specs.Constants.{plusZero}
 use Rattle.picks.specs.Pick.{pick}
 use Rattle.chart.specs.Timing.{Timing}
+use Rattle.clock_walk.specs.declared.Mark.{Mark}
 use Rattle.clock_tests.specs.TimingNumbers.{beatNumber}
 use Rattle.clock.specs.Question.{refusedWith, byNumber, reply, asking, playerNumber, playerQuestion, questionNumber, question}
-use Rattle.clock.specs.History.{Asking, ofBeat, ofCursor, ofAll, asks}
+use Rattle.clock.specs.Marked.{markOf, markedReply, markedByNumber, markedAsking, markedPlayerQuestion, markedQuestionNumber, markedQuestion}
+use Rattle.clock.specs.History.{Asking, ofBeat, ofCursor, ofAll, markedOfBeat, markedOfCursor, markedOfAll, asks}
 use Rattle.clock.specs.declared.Cursor.{Cursor}
 use Rattle.clock.specs.declared.Answer.{Answer}
 
@@ -25,8 +27,19 @@ module _ (t : Timing) (c : Cursor) (offset global beat : Float) where
       go true h = absurd (h refl)
       go false h = (refl, refl, refl)
 
+  marked-by-number : (m : Mark) (n : ℕ) → (markedByNumber n m t c offset global beat .number ≡ 0 → ⊥) → Untouched c (markedByNumber n m t c offset global beat)
+  unfolding markedReply
+  marked-by-number m n h = go (eqb n 0) h
+    where
+      go : (x : Bool) → (pick x (markedReply m t c offset global beat) (refusedWith n c) .number ≡ 0 → ⊥) → Untouched c (pick x (markedReply m t c offset global beat) (refusedWith n c))
+      go true h = absurd (h refl)
+      go false h = (refl, refl, refl)
+
   pub refusal-keeps-cursor : (way : Asking) → (asks way t c offset global beat .number ≡ 0 → ⊥) → Untouched c (asks way t c offset global beat)
-  unfolding asking playerQuestion question
+  unfolding asking playerQuestion question markedAsking markedPlayerQuestion markedQuestion
   refusal-keeps-cursor ofBeat h = by-number (beatNumber beat) h
   refusal-keeps-cursor ofCursor h = by-number (playerNumber t c beat) h
   refusal-keeps-cursor ofAll h = by-number (questionNumber t c offset global beat) h
+  refusal-keeps-cursor markedOfBeat h = marked-by-number (markOf t offset global) (beatNumber beat) h
+  refusal-keeps-cursor markedOfCursor h = marked-by-number (markOf t offset global) (playerNumber t c beat) h
+  refusal-keeps-cursor markedOfAll h = marked-by-number (markOf t offset global) (markedQuestionNumber (markOf t offset global) t c offset global beat) h

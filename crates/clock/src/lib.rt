@@ -1,5 +1,6 @@
 // The clock: at what time is this beat? A cursor goes along a timing and is handed back with each answer.
 use chart::State;
+use clock_walk::Mark;
 use clock_walk::Soon;
 use clock_walk::Walked;
 ghost use mathlib.Core.Path.{_≡_};
@@ -7,18 +8,22 @@ ghost use Prim.Native.Nat.{_+_, _<_, _≤_, _^_};
 ghost use lib.ListN.{length};
 ghost use lib.Dec.{eqb};
 ghost use Rattle.picks.specs.Pick.{pick};
-ghost use lib.Ieee.{binary64};
+ghost use lib.Ieee.{binary64, div};
+ghost use Rattle.ieee.specs.Constants.{plusZero, sixty};
 ghost use Rattle.clock_tests.specs.TimingNumbers.{beatNumber};
 ghost use Rattle.clock_tests.specs.CursorNumbers.{timeAndEndIn, cursorNumber};
 ghost use lib.IntN.{pos};
 ghost use lib.Signed.{ltZ};
 ghost use mathlib.Core.Bool.{true, false};
+ghost use mathlib.Core.List.{[], _∷_};
 ghost use Rattle.rows.specs.Rows.{row};
 ghost use Rattle.chart.specs.Timing.{timing};
+ghost use Rattle.clock_walk.specs.Passing.{inForce};
 ghost use Rattle.clock_walk.specs.Quiet.{onlyTempos};
-ghost use Rattle.clock_walk.specs.Soon.{soonOf};
+ghost use Rattle.clock_walk.specs.Soon.{quietAt, soonOf};
 ghost use Rattle.clock_walk.specs.Walk.{walk};
 ghost use Rattle.clock.specs.Question.{freshState, freshCursor, made, filled, beginning, answered, refusedWith, asking, playerQuestion, question};
+ghost use Rattle.clock.specs.Marked.{markOf, noMark, markMade, sameBits, sameRow, samePlaces, sameWarp, sameMark, markedTimingNumber, markedAsking, markedPlayerQuestion, markedQuestion};
 
 // How far the questions so far have come, and the row asked last.
 #[repr(C)]
@@ -34,6 +39,13 @@ pub struct Answer {
     pub time: f64,
     pub count: usize,
     pub cursor: Cursor,
+}
+
+// An end mark, and the number that its timing answers.
+#[repr(C)]
+pub struct MarkMade {
+    pub number: u32,
+    pub mark: Mark,
 }
 
 // A new cursor, and the number that its offsets answer.
@@ -154,6 +166,255 @@ fn walk_filled(
         warp_beats,
         warp_lengths,
     )
+}
+
+// ---- the end mark
+
+// The walk through all of a timing, from a fresh state. Where it has no tempo, it has the one of 60 at beat 0.
+fn mark_of(
+    tempo_beats: &[f32],
+    tempo_values: &[f32],
+    stop_beats: &[f32],
+    stop_values: &[f32],
+    delay_beats: &[f32],
+    delay_values: &[f32],
+    warp_beats: &[f32],
+    warp_lengths: &[f32],
+    offset: f64,
+    global: f64,
+) -> Mark
+    ensures { λ r.
+        let t = timing «tempo_beats».entry.now «tempo_values».entry.now «stop_beats».entry.now «stop_values».entry.now
+        «delay_beats».entry.now «delay_values».entry.now «warp_beats».entry.now «warp_lengths».entry.now in
+        ⌜ r ≡ markOf t offset global ⌝ }
+{
+    let none = tempo_beats.len() == 0;
+    let beat_of_none = [0.0f32];
+    let tempo_of_none = [60.0f32];
+    let beats = either(none, &beat_of_none, tempo_beats);
+    let tempos = either(none, &tempo_of_none, tempo_values);
+    let start = fresh_state(offset, global);
+    clock_walk::walk_all(
+        start,
+        beats,
+        tempos,
+        stop_beats,
+        stop_values,
+        delay_beats,
+        delay_values,
+        warp_beats,
+        warp_lengths,
+    )
+}
+
+// A mark beyond which no row lies.
+pub fn no_mark() -> Mark
+    ensures { λ r. ⌜ r ≡ noMark ⌝ }
+{
+    let state = fresh_state(0.0, 0.0);
+    Mark {
+        state: state,
+        row: 2147483647,
+    }
+}
+
+// The end mark of a timing with its offsets, to be made anew with every change to a list or an offset. The timing is tested, 1 to 5, and a refused one has the
+// mark that serves no question.
+pub fn make_mark(
+    tempo_beats: &[f32],
+    tempo_values: &[f32],
+    stop_beats: &[f32],
+    stop_values: &[f32],
+    delay_beats: &[f32],
+    delay_values: &[f32],
+    warp_beats: &[f32],
+    warp_lengths: &[f32],
+    offset: f64,
+    global: f64,
+) -> MarkMade
+    ensures { λ r.
+        let t = timing «tempo_beats».entry.now «tempo_values».entry.now «stop_beats».entry.now «stop_values».entry.now
+        «delay_beats».entry.now «delay_values».entry.now «warp_beats».entry.now «warp_lengths».entry.now in
+        ⌜ r ≡ markMade t offset global ⌝ }
+{
+    let number = clock_tests::check_timing(
+        tempo_beats,
+        tempo_values,
+        stop_beats,
+        stop_values,
+        delay_beats,
+        delay_values,
+        warp_beats,
+        warp_lengths,
+        offset,
+        global,
+    );
+    if number == limits::TAKEN {
+        let mark = mark_of(
+            tempo_beats,
+            tempo_values,
+            stop_beats,
+            stop_values,
+            delay_beats,
+            delay_values,
+            warp_beats,
+            warp_lengths,
+            offset,
+            global,
+        );
+        return MarkMade {
+            number: limits::TAKEN,
+            mark: mark,
+        };
+    }
+    let mark = no_mark();
+    MarkMade {
+        number: number,
+        mark: mark,
+    }
+}
+
+fn is_same_bits(one: f64, other: f64) -> bool
+    ensures { λ r. ⌜ r ≡ sameBits one other ⌝ }
+{
+    ieee_patterns::bits_of_f64(one) == ieee_patterns::bits_of_f64(other)
+}
+
+fn is_same_row(one: i32, other: i32) -> bool
+    ensures { λ r. ⌜ r ≡ sameRow one other ⌝ }
+{
+    if one < other {
+        return false;
+    }
+    !(other < one)
+}
+
+fn is_same_places(one: State, other: State) -> bool
+    ensures { λ r. ⌜ r ≡ samePlaces one other ⌝ }
+{
+    if one.tempos == other.tempos {
+        if one.stops == other.stops {
+            if one.delays == other.delays {
+                return one.warps == other.warps;
+            }
+            return false;
+        }
+        return false;
+    }
+    false
+}
+
+fn is_same_warp(one: State, other: State) -> bool
+    ensures { λ r. ⌜ r ≡ sameWarp one other ⌝ }
+{
+    let warping = other.warping;
+    if one.warping {
+        if warping {
+            return is_same_bits(one.end, other.end);
+        }
+        return false;
+    }
+    if warping {
+        return false;
+    }
+    is_same_bits(one.end, other.end)
+}
+
+// Whether two marks are the same in every field, to the bit.
+fn is_same_mark(one: Mark, other: Mark) -> bool
+    ensures { λ r. ⌜ r ≡ sameMark one other ⌝ }
+{
+    let state = one.state;
+    let beside = other.state;
+    if is_same_row(one.row, other.row) {
+        if is_same_places(state, beside) {
+            if is_same_row(state.row, beside.row) {
+                if is_same_bits(state.time, beside.time) {
+                    return is_same_warp(state, beside);
+                }
+                return false;
+            }
+            return false;
+        }
+        return false;
+    }
+    false
+}
+
+// The number of a timing that is given with its mark: 1 to 5 as without one, and then 5 where the mark is another's. The mark is made anew to be tested.
+pub fn check_marked_timing(
+    mark: Mark,
+    tempo_beats: &[f32],
+    tempo_values: &[f32],
+    stop_beats: &[f32],
+    stop_values: &[f32],
+    delay_beats: &[f32],
+    delay_values: &[f32],
+    warp_beats: &[f32],
+    warp_lengths: &[f32],
+    offset: f64,
+    global: f64,
+) -> u32
+    ensures { λ r.
+        let t = timing «tempo_beats».entry.now «tempo_values».entry.now «stop_beats».entry.now «stop_values».entry.now
+        «delay_beats».entry.now «delay_values».entry.now «warp_beats».entry.now «warp_lengths».entry.now in
+        ⌜ r ≡ markedTimingNumber mark t offset global ⌝ }
+{
+    let made = make_mark(
+        tempo_beats,
+        tempo_values,
+        stop_beats,
+        stop_values,
+        delay_beats,
+        delay_values,
+        warp_beats,
+        warp_lengths,
+        offset,
+        global,
+    );
+    if made.number == limits::TAKEN {
+        let own = made.mark;
+        if is_same_mark(mark, own) {
+            return limits::TAKEN;
+        }
+        return limits::NOT_RISING;
+    }
+    made.number
+}
+
+// Beats a second beyond a mark, by the tempo in force there.
+pub fn rate_beyond(mark: Mark, tempo_beats: &[f32], tempo_values: &[f32]) -> f64
+    ensures { λ r.
+        let tempos = pick (eqb (length «tempo_beats».entry.now) 0) (sixty ∷ []) «tempo_values».entry.now in
+        ⌜ r ≡ div binary64 (inForce plusZero tempos (mark .state .tempos)) sixty ⌝ }
+{
+    let tempo_of_none = [60.0f32];
+    let tempos = either(tempo_beats.len() == 0, &tempo_of_none, tempo_values);
+    let state = mark.state;
+    clock_walk::tempo_in_force(0.0, tempos, state.tempos) / 60.0
+}
+
+// The answer to a row beyond a mark, from the mark: of the lists only the tempo in force is looked at.
+fn answer_beyond(
+    mark: Mark,
+    row: i32,
+    tempo_beats: &[f32],
+    tempo_values: &[f32],
+    global: f64,
+) -> Answer
+    ensures { λ r.
+        let tempos = pick (eqb (length «tempo_beats».entry.now) 0) (sixty ∷ []) «tempo_values».entry.now in
+        ⌜ r ≡ answered global row (record { state = mark .state; passed = 0; time = quietAt tempos (mark .state) row }) ⌝ }
+{
+    let tempo_of_none = [60.0f32];
+    let tempos = either(tempo_beats.len() == 0, &tempo_of_none, tempo_values);
+    let state = mark.state;
+    let time = clock_walk::quiet_time(state, row, tempos);
+    let cursor = Cursor {
+        state: state,
+        asked: row,
+    };
+    answered(cursor, 0, time, global)
 }
 
 impl Cursor {
@@ -472,6 +733,157 @@ impl Cursor {
         self.state = state;
         self.asked = row;
         answered(self, walked.passed, walked.time, global)
+    }
+
+    // A question of a marked run: `ask` with the end mark of the timing. Beyond the mark it is answered from the mark, in one step; the mark is trusted as the
+    // timing is.
+    pub fn ask_marked(
+        self,
+        mark: Mark,
+        tempo_beats: &[f32],
+        tempo_values: &[f32],
+        stop_beats: &[f32],
+        stop_values: &[f32],
+        delay_beats: &[f32],
+        delay_values: &[f32],
+        warp_beats: &[f32],
+        warp_lengths: &[f32],
+        offset: f64,
+        global: f64,
+        beat: f64,
+    ) -> Answer
+        ensures { λ r.
+            let t = timing «tempo_beats».entry.now «tempo_values».entry.now «stop_beats».entry.now «stop_values».entry.now
+            «delay_beats».entry.now «delay_values».entry.now «warp_beats».entry.now «warp_lengths».entry.now in
+            ⌜ r ≡ markedAsking mark t self offset global beat ⌝ }
+    {
+        let number = clock_tests::beat_number(beat);
+        if number != limits::TAKEN {
+            return refused(number, self);
+        }
+        let row = row_of_taken(beat);
+        if mark.row < row {
+            return answer_beyond(mark, row, tempo_beats, tempo_values, global);
+        }
+        self.ask(
+            tempo_beats,
+            tempo_values,
+            stop_beats,
+            stop_values,
+            delay_beats,
+            delay_values,
+            warp_beats,
+            warp_lengths,
+            offset,
+            global,
+            beat,
+        )
+    }
+
+    // The player's question with the end mark of the timing, both tested where they were made: beyond the mark it is answered from the mark, in a time that
+    // grows with nothing. The beat and the cursor are tested; over any other mark it answers by that mark.
+    pub fn time_for_beat_checked_marked(
+        self,
+        mark: Mark,
+        tempo_beats: &[f32],
+        tempo_values: &[f32],
+        stop_beats: &[f32],
+        stop_values: &[f32],
+        delay_beats: &[f32],
+        delay_values: &[f32],
+        warp_beats: &[f32],
+        warp_lengths: &[f32],
+        offset: f64,
+        global: f64,
+        beat: f64,
+    ) -> Answer
+        ensures { λ r.
+            let t = timing «tempo_beats».entry.now «tempo_values».entry.now «stop_beats».entry.now «stop_values».entry.now
+            «delay_beats».entry.now «delay_values».entry.now «warp_beats».entry.now «warp_lengths».entry.now in
+            ⌜ r ≡ markedPlayerQuestion mark t self offset global beat ⌝ }
+    {
+        let asked = clock_tests::beat_number(beat);
+        if asked != limits::TAKEN {
+            return refused(asked, self);
+        }
+        let row = row_of_taken(beat);
+        if mark.row < row {
+            let lent = self.refusal(tempo_beats, stop_beats, delay_beats, warp_beats);
+            if lent != limits::TAKEN {
+                return refused(lent, self);
+            }
+            return answer_beyond(mark, row, tempo_beats, tempo_values, global);
+        }
+        self.time_for_beat_checked(
+            tempo_beats,
+            tempo_values,
+            stop_beats,
+            stop_values,
+            delay_beats,
+            delay_values,
+            warp_beats,
+            warp_lengths,
+            offset,
+            global,
+            beat,
+        )
+    }
+
+    // At what time is this beat, with an end mark beside the cursor? Everything is tested: the timing, its offsets, the mark, the beat, the cursor.
+    pub fn time_for_beat_marked(
+        self,
+        mark: Mark,
+        tempo_beats: &[f32],
+        tempo_values: &[f32],
+        stop_beats: &[f32],
+        stop_values: &[f32],
+        delay_beats: &[f32],
+        delay_values: &[f32],
+        warp_beats: &[f32],
+        warp_lengths: &[f32],
+        offset: f64,
+        global: f64,
+        beat: f64,
+    ) -> Answer
+        ensures { λ r.
+            let t = timing «tempo_beats».entry.now «tempo_values».entry.now «stop_beats».entry.now «stop_values».entry.now
+            «delay_beats».entry.now «delay_values».entry.now «warp_beats».entry.now «warp_lengths».entry.now in
+            ⌜ r ≡ markedQuestion mark t self offset global beat ⌝ }
+    {
+        let marked = check_marked_timing(
+            mark,
+            tempo_beats,
+            tempo_values,
+            stop_beats,
+            stop_values,
+            delay_beats,
+            delay_values,
+            warp_beats,
+            warp_lengths,
+            offset,
+            global,
+        );
+        let asked = clock_tests::beat_number(beat);
+        let lent = self.refusal(tempo_beats, stop_beats, delay_beats, warp_beats);
+        let player = limits::lower_of(asked, lent);
+        let number = limits::lower_of(marked, player);
+        if number != limits::TAKEN {
+            return refused(number, self);
+        }
+        self.ask_marked(
+            mark,
+            tempo_beats,
+            tempo_values,
+            stop_beats,
+            stop_values,
+            delay_beats,
+            delay_values,
+            warp_beats,
+            warp_lengths,
+            offset,
+            global,
+            beat,
+        )
     }
 }
 

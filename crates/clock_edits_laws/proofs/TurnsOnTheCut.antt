@@ -99,7 +99,7 @@ module _ (t : Timing) (offset global : Float) (taken : timingNumber t offset glo
   pub fresh-answer : (b : Float) → alone t offset global b ≡ answer b (walkOn (tempoAtZero t) (cut (row binary64 b) f) (row binary64 b) fresh 0)
   unfolding asking reply
   fresh-answer b =
-      as-asked t offset global taken ofAll (freshCursor offset global) b (new refl)
+      as-asked t offset global taken ofAll (freshCursor offset global) b refl (new refl)
       ∙ ap (λ (s : State). answer b (walk f (row binary64 b) s)) (fresh-begins (row binary64 b))
       ∙ ap (answer b) (by-cut (row binary64 b))
 

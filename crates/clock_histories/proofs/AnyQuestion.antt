@@ -20,13 +20,19 @@ use Rattle.clock_tests.specs.TimingNumbers.{timingNumber, beatNumber}
 use Rattle.clock_tests.specs.CursorNumbers.{cursorNumber}
 use Rattle.clock_tests.proofs.TimingTaken.{beat-taken}
 use Rattle.clock.specs.Question.{filled, temposOf, freshCursor, beginning, refusedWith, byNumber, reply, asking, cursorRefusal, playerNumber, playerQuestion, questionNumber, question}
-use Rattle.clock.specs.History.{Asking, ofBeat, ofCursor, ofAll, asks, History, lastCursor}
+use Rattle.clock.specs.Marked.{markOf, markedWalk, markedReply, markedByNumber, markedAsking, markedPlayerQuestion, markedQuestionNumber, markedQuestion}
+use Rattle.clock.specs.History.{Asking, ofBeat, ofCursor, ofAll, markedOfBeat, markedOfCursor, markedOfAll, asks, walkOf, History, lastCursor}
 use Rattle.clock.specs.declared.Cursor.{Cursor}
 use Rattle.clock.specs.declared.Answer.{Answer}
+use Rattle.clock.proofs.OwnMark.{own-mark}
 use Rattle.rows.proofs.Allowed.{taken-allowed}
+use Rattle.rows.proofs.RowOrder.{no}
 use Rattle.clock_histories.specs.Demand.{used, alone}
+use Rattle.clock_histories.specs.NoDearer.{NoDearer}
+use Rattle.clock_histories.specs.Runs.{isMarked}
 use Rattle.clock_histories.proofs.WhereAFreshOneEnds.{Reached, new, walked, ends-there, ends-then}
 use Rattle.clock_histories.proofs.WalksAreSound.{sound}
+use Rattle.clock_histories.proofs.FromTheMark.{same-answer, from-the-mark}
 
 -- an accepted beat has a row within the limit
 pub row-near : (b : Float) → eqb (beatNumber b) 0 ≡ true → natAbs (row binary64 b) ≤ mostRow
@@ -55,12 +61,36 @@ module _ (t : Timing) (offset global : Float) (taken : timingNumber t offset glo
   unfolding questionNumber
   question-number c b h = rw taken (none-lower (playerNumber t c b) ∙ player-number c b h)
 
-  -- so each question is the one that tests the beat alone
-  pub as-asked : (way : Asking) (c : Cursor) (b : Float) → Comes c → asks way t c offset global b ≡ asking t c offset global b
+  marked-number : (c : Cursor) (b : Float) → Comes c → markedQuestionNumber (markOf t offset global) t c offset global b ≡ beatNumber b
+  unfolding markedQuestionNumber
+  marked-number c b h = rw (own-mark t offset global, taken) (none-lower (playerNumber t c b) ∙ player-number c b h)
+
+  -- so each question is the one that tests the beat alone, without the mark or with it
+  pub as-asked : (way : Asking) (c : Cursor) (b : Float) → isMarked way ≡ false → Comes c → asks way t c offset global b ≡ asking t c offset global b
   unfolding asking playerQuestion question
-  as-asked ofBeat c b h = refl
-  as-asked ofCursor c b h = ap (λ (n : ℕ). byNumber n t c offset global b) (player-number c b h)
-  as-asked ofAll c b h = ap (λ (n : ℕ). byNumber n t c offset global b) (question-number c b h)
+  as-asked ofBeat c b e h = refl
+  as-asked ofCursor c b e h = ap (λ (n : ℕ). byNumber n t c offset global b) (player-number c b h)
+  as-asked ofAll c b e h = ap (λ (n : ℕ). byNumber n t c offset global b) (question-number c b h)
+  as-asked markedOfBeat c b e h = no (sym e)
+  as-asked markedOfCursor c b e h = no (sym e)
+  as-asked markedOfAll c b e h = no (sym e)
+
+  pub as-marked : (way : Asking) (c : Cursor) (b : Float) → isMarked way ≡ true → Comes c → asks way t c offset global b ≡ markedAsking (markOf t offset global) t c offset global b
+  unfolding markedAsking markedPlayerQuestion markedQuestion
+  as-marked ofBeat c b e h = no e
+  as-marked ofCursor c b e h = no e
+  as-marked ofAll c b e h = no e
+  as-marked markedOfBeat c b e h = refl
+  as-marked markedOfCursor c b e h = ap (λ (n : ℕ). markedByNumber n (markOf t offset global) t c offset global b) (player-number c b h)
+  as-marked markedOfAll c b e h = ap (λ (n : ℕ). markedByNumber n (markOf t offset global) t c offset global b) (marked-number c b h)
+
+  -- and the mark changes nothing but the count, which is no higher
+  pub no-dearer : (way : Asking) (c : Cursor) (b : Float) → Comes c → NoDearer (asks way t c offset global b) (asking t c offset global b)
+  no-dearer way c b h = go (isMarked way) refl
+    where
+      go : (x : Bool) → isMarked way ≡ x → NoDearer (asks way t c offset global b) (asking t c offset global b)
+      go true e = rw (as-marked way c b e h) (from-the-mark t offset global (sound taken .usable) c b h)
+      go false e = same-answer _ _ (as-asked way c b e h)
 
   asked-number : (c : Cursor) (b : Float) → asking t c offset global b .number ≡ beatNumber b
   unfolding asking reply
@@ -71,7 +101,7 @@ module _ (t : Timing) (offset global : Float) (taken : timingNumber t offset glo
       go false e = refl
 
   pub number-is : (way : Asking) (c : Cursor) (b : Float) → Comes c → asks way t c offset global b .number ≡ beatNumber b
-  number-is way c b h = ap (λ (a : Answer). a .number) (as-asked way c b h) ∙ asked-number c b
+  number-is way c b h = no-dearer way c b h .number ∙ asked-number c b
 
   pub accepted-is : (way : Asking) (c : Cursor) (b : Float) → Comes c → asks way t c offset global b .number ≡ 0 → eqb (beatNumber b) 0 ≡ true
   accepted-is way c b h n = eq-eqb (beatNumber b) 0 (sym (number-is way c b h) ∙ n)
@@ -88,7 +118,7 @@ module _ (t : Timing) (offset global : Float) (taken : timingNumber t offset glo
   pub comes : (c : Cursor) (history : History) → Comes c → Comes (lastCursor t offset global c history)
   unfolding lastCursor
   comes c [] h = h
-  comes c (q ∷ history) h = rw (as-asked (q .0) c (q .1) h) (comes (asking t c offset global (q .1) .cursor) history (asked-stays c (q .1) h))
+  comes c (q ∷ history) h = rw (no-dearer (q .0) c (q .1) h .cursor) (comes (asking t c offset global (q .1) .cursor) history (asked-stays c (q .1) h))
 
   pub used-comes : (history : History) → Comes (used t offset global history)
   used-comes history = comes fresh history (new refl)
@@ -112,7 +142,7 @@ module _ (t : Timing) (offset global : Float) (taken : timingNumber t offset glo
 
   pub time-alone : (way : Asking) (c : Cursor) (b : Float) → Comes c → asks way t c offset global b .time ≡ alone t offset global b .time
   time-alone way c b h =
-      ap (λ (a : Answer). a .time) (as-asked way c b h) ∙ asked-time c b h ∙ sym (ap (λ (a : Answer). a .time) (as-asked ofAll fresh b (new refl)))
+      no-dearer way c b h .time ∙ asked-time c b h ∙ sym (no-dearer ofAll fresh b (new refl) .time)
 
   pub number-alone : (way : Asking) (c : Cursor) (b : Float) → Comes c → asks way t c offset global b .number ≡ alone t offset global b .number
   number-alone way c b h = number-is way c b h ∙ sym (number-is ofAll fresh b (new refl))
@@ -121,11 +151,30 @@ module _ (t : Timing) (offset global : Float) (taken : timingNumber t offset glo
   unfolding asking
   took c b e = rw e
 
-  -- the answer of one that is not refused
-  pub replies : (way : Asking) (c : Cursor) (b : Float) → Comes c → asks way t c offset global b .number ≡ 0 → asks way t c offset global b ≡ reply t c offset global b
-  replies way c b h n = as-asked way c b h ∙ took c b (accepted-is way c b h n)
+  -- the time of one that is not refused
+  pub replies-then : (way : Asking) (c : Cursor) (b : Float) → Comes c → asks way t c offset global b .number ≡ 0 → asks way t c offset global b .time ≡ reply t c offset global b .time
+  replies-then way c b h n = no-dearer way c b h .time ∙ ap (λ (a : Answer). a .time) (took c b (accepted-is way c b h n))
 
-  pub steps-passed : (way : Asking) (c : Cursor) (b : Float) → Comes c → asks way t c offset global b .number ≡ 0
+  marked-took : (c : Cursor) (b : Float) → eqb (beatNumber b) 0 ≡ true → markedAsking (markOf t offset global) t c offset global b ≡ markedReply (markOf t offset global) t c offset global b
+  unfolding markedAsking
+  marked-took c b e = rw e
+
+  -- its count is the events that its walk passes, and one
+  unmarked-steps : (way : Asking) (c : Cursor) (b : Float) → isMarked way ≡ false → Comes c → asks way t c offset global b .number ≡ 0
       → asks way t c offset global b .count ≡ walk (filled t) (row binary64 b) (beginning c (row binary64 b) offset global) .passed + 1
   unfolding reply
-  steps-passed way c b h n = ap (λ (a : Answer). a .count) (replies way c b h n)
+  unmarked-steps way c b e h n = ap (λ (a : Answer). a .count) (as-asked way c b e h ∙ took c b (accepted-is way c b h n))
+
+  marked-steps : (way : Asking) (c : Cursor) (b : Float) → isMarked way ≡ true → Comes c → asks way t c offset global b .number ≡ 0
+      → asks way t c offset global b .count ≡ markedWalk (markOf t offset global) t c (row binary64 b) offset global .passed + 1
+  unfolding markedReply
+  marked-steps way c b e h n = ap (λ (a : Answer). a .count) (as-marked way c b e h ∙ marked-took c b (accepted-is way c b h n))
+
+  pub steps-passed : (way : Asking) (c : Cursor) (b : Float) → Comes c → asks way t c offset global b .number ≡ 0
+      → asks way t c offset global b .count ≡ walkOf way t c (row binary64 b) offset global .passed + 1
+  steps-passed ofBeat c b h n = unmarked-steps ofBeat c b refl h n
+  steps-passed ofCursor c b h n = unmarked-steps ofCursor c b refl h n
+  steps-passed ofAll c b h n = unmarked-steps ofAll c b refl h n
+  steps-passed markedOfBeat c b h n = marked-steps markedOfBeat c b refl h n
+  steps-passed markedOfCursor c b h n = marked-steps markedOfCursor c b refl h n
+  steps-passed markedOfAll c b h n = marked-steps markedOfAll c b refl h n

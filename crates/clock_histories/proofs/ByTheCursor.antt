@@ -20,7 +20,7 @@ use Rattle.clock.specs.declared.Cursor.{Cursor}
 use Rattle.clock_histories.specs.Costs.{beatsOf, acceptedRows, falls}
 use Rattle.clock_histories.specs.ByTheCursor.{acceptedAnswers, begunAnew}
 use Rattle.clock_histories.proofs.WhereAFreshOneEnds.{new}
-use Rattle.clock_histories.proofs.AnyQuestion.{Comes, as-asked, number-is, asked-stays}
+use Rattle.clock_histories.proofs.AnyQuestion.{Comes, no-dearer, number-is, asked-stays}
 use Rattle.clock_histories.proofs.CostOfAll.{none-before}
 
 module _ (t : Timing) (offset global : Float) (taken : timingNumber t offset global ≡ 0) where
@@ -30,7 +30,7 @@ module _ (t : Timing) (offset global : Float) (taken : timingNumber t offset glo
   accepted-from c [] h = refl
   accepted-from c (q ∷ history) h =
       let b = q .1 in
-      rw (number-is t offset global taken (q .0) c b h, as-asked t offset global taken (q .0) c b h, accepted-from (asking t c offset global b .cursor) history (asked-stays t offset global taken c b h)) (go (eqb (beatNumber b) 0))
+      rw (number-is t offset global taken (q .0) c b h, no-dearer t offset global taken (q .0) c b h .cursor, accepted-from (asking t c offset global b .cursor) history (asked-stays t offset global taken c b h)) (go (eqb (beatNumber b) 0))
     where
       go : (x : Bool) → one x + length (acceptedRows (beatsOf history)) ≡ length (pick x (row binary64 (q .1) ∷ acceptedRows (beatsOf history)) (acceptedRows (beatsOf history)))
       go true = omega arith
@@ -51,7 +51,7 @@ module _ (t : Timing) (offset global : Float) (taken : timingNumber t offset glo
   falls-from c [] h = refl
   falls-from c (q ∷ history) h =
       let b = q .1 in
-      rw (number-is t offset global taken (q .0) c b h, as-asked t offset global taken (q .0) c b h, falls-from (asking t c offset global b .cursor) history (asked-stays t offset global taken c b h))
+      rw (number-is t offset global taken (q .0) c b h, no-dearer t offset global taken (q .0) c b h .cursor, falls-from (asking t c offset global b .cursor) history (asked-stays t offset global taken c b h))
       (one-fall (eqb (beatNumber b) 0) c b (acceptedRows (beatsOf history)))
 
   pub falls-by-beats : (history : History) → begunAnew t offset global (freshCursor offset global) history ≡ falls (acceptedRows (beatsOf history))

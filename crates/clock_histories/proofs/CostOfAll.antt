@@ -2,7 +2,7 @@
 use Prim.Native.Nat.{ℕ, suc, _+_, _*_, _≤_}
 use mathlib.Core.List.{List, [], _∷_, map}
 use mathlib.Core.Bool.{Bool, true, false}
-use mathlib.Core.Path.{_≡_, refl, sym, subst}
+use mathlib.Core.Path.{_≡_, refl}
 use native.Mathlib.Omega.{arith}
 use native.Mathlib.Nat.{zero-add, add-mul, one-mul}
 use borrow.Author.Tests.{le-ltb}
@@ -24,10 +24,11 @@ use Rattle.clock.specs.History.{History, answers, lastCursor, countOf}
 use Rattle.clock.specs.declared.Cursor.{Cursor}
 use Rattle.clock.specs.declared.Answer.{Answer}
 use Rattle.clock_histories.specs.Costs.{beatsOf, acceptedRows, falls, events, mostOf}
+use Rattle.clock_histories.specs.NoDearer.{NoDearer}
 use Rattle.order.specs.Entries.{total}
 use Rattle.clock_histories.proofs.WithATempo.{all-left}
 use Rattle.clock_histories.proofs.WhereAFreshOneEnds.{new}
-use Rattle.clock_histories.proofs.AnyQuestion.{row-near, Comes, as-asked, asked-stays}
+use Rattle.clock_histories.proofs.AnyQuestion.{row-near, Comes, no-dearer, asked-stays}
 
 -- ---- no row is below the fresh mark
 above-mark : (r : ℤ) → natAbs r ≤ mostRow → ltZ r freshMark ≡ false
@@ -97,12 +98,19 @@ module _ (t : Timing) (offset global : Float) (taken : timingNumber t offset glo
       (le-through _ _ _ (spent (filled t) r (beginning c r offset global)) (begins-with c r)) h
   one-more false c b history rows h = rw (zero-add (counted c history)) h
 
+  -- with an answer that is no dearer it holds too
+  cheaper : (c : Cursor) (a dear : Answer) (history : History) (rows : List ℤ) → NoDearer a dear → Answered c dear history rows → Answered c a history rows
+  cheaper c a dear history rows same h = rw (same .cursor) (less (a .count) (dear .count) _ _ _ (same .count) h)
+    where
+      less : (x y m z most : ℕ) → x ≤ y → y + m + z ≤ most → x + m + z ≤ most
+      less x y m z most p q = omega arith
+
   cost-from : (c : Cursor) (history : History) → Comes t offset global taken c → Bounded c history (acceptedRows (beatsOf history))
   unfolding answers lastCursor total acceptedRows falls asking
   cost-from c [] h = none-spent (rest c) (events t)
   cost-from c (q ∷ history) h =
       let b = q .1 in
-      subst (λ (a : Answer). Answered c a history (acceptedRows (b ∷ beatsOf history))) (sym (as-asked t offset global taken (q .0) c b h))
+      cheaper c _ _ history (acceptedRows (b ∷ beatsOf history)) (no-dearer t offset global taken (q .0) c b h)
       (one-more (eqb (beatNumber b) 0) c b history (acceptedRows (beatsOf history)) (cost-from (asking t c offset global b .cursor) history (asked-stays t offset global taken c b h)))
 
   pub cost-of-all : (history : History) → counted (freshCursor offset global) history ≤ mostOf t (acceptedRows (beatsOf history))

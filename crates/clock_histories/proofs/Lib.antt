@@ -2,6 +2,7 @@ pub mod FirstTempoInForce
 pub mod WithATempo
 pub mod WhereAFreshOneEnds
 pub mod WalksAreSound
+pub mod FromTheMark
 pub mod AnyQuestion
 pub mod CostOfAll
 pub mod DemandThree

@@ -22,7 +22,7 @@ use Rattle.clock_histories.proofs.EachEventKeeps.{spansAfter, spans-of-
 use Rattle.clock_histories.specs.Demand.{used}
 use Rattle.clock_histories.proofs.WhereAFreshOneEnds.{new, walked, ends-then}
 use Rattle.clock_histories.proofs.WalksAreSound.{walked-fine, walked-time, sound}
-use Rattle.clock_histories.proofs.AnyQuestion.{row-near, Comes, used-comes, accepted-is, replies}
+use Rattle.clock_histories.proofs.AnyQuestion.{row-near, Comes, used-comes, accepted-is, replies-then}
 
 module _ (t : Timing) (offset global : Float) (taken : timingNumber t offset global ≡ 0) where
   -- the time of a walk from a fresh state, with the global offset taken off
@@ -43,7 +43,7 @@ module _ (t : Timing) (offset global : Float) (taken : timingNumber t offset glo
       let c = used t offset global before in
       let come = used-comes t offset global taken before in
       let e = accepted-is t offset global taken way c b come n in
-      rw (replies t offset global taken way c b come n, ends-then (filled t) offset global (sound taken .usable) c (row binary64 b) come) (walk-less-global (row binary64 b) (row-near b e))
+      rw (replies-then t offset global taken way c b come n, ends-then (filled t) offset global (sound taken .usable) c (row binary64 b) come) (walk-less-global (row binary64 b) (row-near b e))
 
   near-in : (c : Cursor) → Comes t offset global taken c → natAbs (c .state .row) ≤ mostRow
   unfolding freshCursor freshState

@@ -1,4 +1,5 @@
 pub mod Costs
+pub mod NoDearer
 pub mod Demand
 pub mod ByTheCursor
 pub mod Runs

@@ -11,57 +11,57 @@ use lib.Ieee.{Float, nan, binary64, sub}
 use Rattle.rows.specs.Rows.{row}
 use Rattle.order.proofs.LaidOverFront.{Laying, laying-none, laying-more, laying-all}
 use Rattle.chart.specs.Timing.{Timing}
+use Rattle.clock_walk.specs.declared.Mark.{Mark}
 use Rattle.clock_walk.specs.declared.Walked.{Walked}
-use Rattle.clock.specs.Question.{asking}
-use Rattle.clock.specs.History.{answers, lastCursor, numberOf, timeOf, countOf}
+use Rattle.clock.specs.Marked.{markedAsking}
+use Rattle.clock.specs.History.{numberOf, timeOf, countOf}
 use Rattle.clock.specs.declared.Cursor.{Cursor}
 use Rattle.clock.specs.declared.Answer.{Answer}
-use Rattle.clock_run.specs.Run.{runOf}
-use Rattle.clock_run.specs.inside.Asked.{AllAsked}
+use Rattle.clock_run.specs.inside.Asked.{eachAsked, lastAsked, AllAsked}
 use Rattle.clock_run.proofs.QuietRows.{answer-of}
 
-module _ (t : Timing) (offset global : Float) where
+module _ (m : Mark) (t : Timing) (offset global : Float) where
   -- with the next beat the answers have one less to come
   next-answer : (c : Cursor) (beats : List Float) (i : ℕ) → i < length beats
-      → answers t offset global c (runOf (drop i beats))
-      ≡ asking t c offset global (getD beats i nan) ∷ answers t offset global (asking t c offset global (getD beats i nan) .cursor) (runOf (drop (i + 1) beats))
-  unfolding answers
+      → eachAsked m t offset global c (drop i beats)
+      ≡ markedAsking m t c offset global (getD beats i nan) ∷ eachAsked m t offset global (markedAsking m t c offset global (getD beats i nan) .cursor) (drop (i + 1) beats)
+  unfolding eachAsked
   next-answer c beats i h = rw (drop-cons beats i nan h, add-one i)
 
   next-cursor : (c : Cursor) (beats : List Float) (i : ℕ) → i < length beats
-      → lastCursor t offset global c (runOf (drop i beats)) ≡ lastCursor t offset global (asking t c offset global (getD beats i nan) .cursor) (runOf (drop (i + 1) beats))
-  unfolding lastCursor
+      → lastAsked m t offset global c (drop i beats) ≡ lastAsked m t offset global (markedAsking m t c offset global (getD beats i nan) .cursor) (drop (i + 1) beats)
+  unfolding lastAsked
   next-cursor c beats i h = rw (drop-cons beats i nan h, add-one i)
 
-  no-answer : (c : Cursor) (beats : List Float) (i : ℕ) → length beats ≤ i → answers t offset global c (runOf (drop i beats)) ≡ []
-  unfolding answers
+  no-answer : (c : Cursor) (beats : List Float) (i : ℕ) → length beats ≤ i → eachAsked m t offset global c (drop i beats) ≡ []
+  unfolding eachAsked
   no-answer c beats i h = rw (drop-of-length-le beats h)
 
-  same-cursor : (c : Cursor) (beats : List Float) (i : ℕ) → length beats ≤ i → lastCursor t offset global c (runOf (drop i beats)) ≡ c
-  unfolding lastCursor
+  same-cursor : (c : Cursor) (beats : List Float) (i : ℕ) → length beats ≤ i → lastAsked m t offset global c (drop i beats) ≡ c
+  unfolding lastAsked
   same-cursor c beats i h = rw (drop-of-length-le beats h)
 
   -- i beats are asked, and the cursor that stands there asks the others
   pub record Running (c₀ : Cursor) (beats : List Float) (numbers₀ : List ℕ) (times₀ : List Float) (counts₀ : List ℕ) (c : Cursor) (numbers : List ℕ) (times : List Float) (counts : List ℕ) (i : ℕ) : Type 0 where
-    pub last : lastCursor t offset global c (runOf (drop i beats)) ≡ lastCursor t offset global c₀ (runOf beats)
-    pub ofNumbers : Laying (map numberOf (answers t offset global c₀ (runOf beats))) numbers₀ numbers (map numberOf (answers t offset global c (runOf (drop i beats)))) i
-    pub ofTimes : Laying (map timeOf (answers t offset global c₀ (runOf beats))) times₀ times (map timeOf (answers t offset global c (runOf (drop i beats)))) i
-    pub ofCounts : Laying (map countOf (answers t offset global c₀ (runOf beats))) counts₀ counts (map countOf (answers t offset global c (runOf (drop i beats)))) i
+    pub last : lastAsked m t offset global c (drop i beats) ≡ lastAsked m t offset global c₀ beats
+    pub ofNumbers : Laying (map numberOf (eachAsked m t offset global c₀ beats)) numbers₀ numbers (map numberOf (eachAsked m t offset global c (drop i beats))) i
+    pub ofTimes : Laying (map timeOf (eachAsked m t offset global c₀ beats)) times₀ times (map timeOf (eachAsked m t offset global c (drop i beats))) i
+    pub ofCounts : Laying (map countOf (eachAsked m t offset global c₀ beats)) counts₀ counts (map countOf (eachAsked m t offset global c (drop i beats))) i
 
   module _ (c₀ : Cursor) (beats : List Float) (numbers₀ : List ℕ) (times₀ : List Float) (counts₀ : List ℕ) where
     pub begun : Running c₀ beats numbers₀ times₀ counts₀ c₀ numbers₀ times₀ counts₀ 0
     begun = record {
       last = refl;
-      ofNumbers = laying-none (map numberOf (answers t offset global c₀ (runOf beats))) numbers₀;
-      ofTimes = laying-none (map timeOf (answers t offset global c₀ (runOf beats))) times₀;
-      ofCounts = laying-none (map countOf (answers t offset global c₀ (runOf beats))) counts₀;
+      ofNumbers = laying-none (map numberOf (eachAsked m t offset global c₀ beats)) numbers₀;
+      ofTimes = laying-none (map timeOf (eachAsked m t offset global c₀ beats)) times₀;
+      ofCounts = laying-none (map countOf (eachAsked m t offset global c₀ beats)) counts₀;
     }
 
     module _ (c : Cursor) (numbers : List ℕ) (times : List Float) (counts : List ℕ) (i : ℕ) (r : Running c₀ beats numbers₀ times₀ counts₀ c numbers times counts i) where
-      pub turned : (a : Answer) → a ≡ asking t c offset global (getD beats i nan) → i < length beats → length beats ≤ length numbers₀ → length beats ≤ length times₀ → length beats ≤ length counts₀
+      pub turned : (a : Answer) → a ≡ markedAsking m t c offset global (getD beats i nan) → i < length beats → length beats ≤ length numbers₀ → length beats ≤ length times₀ → length beats ≤ length counts₀
           → Running c₀ beats numbers₀ times₀ counts₀ (a .cursor) (set numbers i (a .number)) (set times i (a .time)) (set counts i (a .count)) (i + 1)
       turned a e h inNumbers inTimes inCounts =
-          let more : answers t offset global c (runOf (drop i beats)) ≡ a ∷ answers t offset global (a .cursor) (runOf (drop (i + 1) beats)) = rw e (next-answer c beats i h) in
+          let more : eachAsked m t offset global c (drop i beats) ≡ a ∷ eachAsked m t offset global (a .cursor) (drop (i + 1) beats) = rw e (next-answer c beats i h) in
           record {
             last = rw e (sym (next-cursor c beats i h)) ∙ r .last;
             ofNumbers = laying-more _ _ _ _ i (r .ofNumbers) (a .number) _ (ap (map numberOf) more) (omega (arith, r .ofNumbers .size));
@@ -70,7 +70,7 @@ module _ (t : Timing) (offset global : Float) where
           }
 
       -- a beat that is answered without a walk, by what a walk would come to
-      pub quiet-turn : (w : Walked) → answer-of t offset global c (getD beats i nan) w ≡ asking t c offset global (getD beats i nan)
+      pub quiet-turn : (w : Walked) → answer-of t offset global c (getD beats i nan) w ≡ markedAsking m t c offset global (getD beats i nan)
           → (r : ℤ) → r ≡ row binary64 (getD beats i nan) → (time : Float) → time ≡ sub binary64 (w .time) global
           → i < length beats → length beats ≤ length numbers₀ → length beats ≤ length times₀ → length beats ≤ length counts₀
           → Running c₀ beats numbers₀ times₀ counts₀ (record { state = w .state; asked = r }) (set numbers i 0) (set times i time) (set counts i (w .passed + 1)) (i + 1)
@@ -79,9 +79,9 @@ module _ (t : Timing) (offset global : Float) where
           (rw (isTime, isRow) is)
           h inNumbers inTimes inCounts
 
-      pub ended : length beats ≤ i → AllAsked t offset global c₀ beats c numbers₀ numbers times₀ times counts₀ counts
+      pub ended : length beats ≤ i → AllAsked m t offset global c₀ beats c numbers₀ numbers times₀ times counts₀ counts
       ended h =
-          let none : answers t offset global c (runOf (drop i beats)) ≡ [] = no-answer c beats i h in
+          let none : eachAsked m t offset global c (drop i beats) ≡ [] = no-answer c beats i h in
           record {
             cursor = sym (same-cursor c beats i h) ∙ r .last;
             numbersAre = laying-all _ _ _ _ i (r .ofNumbers) (ap (map numberOf) none);

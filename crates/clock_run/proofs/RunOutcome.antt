@@ -8,6 +8,7 @@ use lib.ListN.{length}
 use lib.Ieee.{Float}
 use borrow.Author.Tests.{ne-eqb, leb-true}
 use Rattle.picks.specs.Pick.{pick}
+use Rattle.limits.specs.Refusals.{lower}
 use Rattle.limits.proofs.NoRefusal.{lower-none}
 use Rattle.order.specs.Order.{laid}
 use Rattle.columns.specs.Laying.{given}
@@ -15,24 +16,32 @@ use Rattle.chart.specs.Timing.{Timing}
 use Rattle.clock_tests.specs.TimingNumbers.{timingNumber}
 use Rattle.clock.specs.Question.{cursorRefusal}
 use Rattle.clock.specs.History.{lastCursor}
+use Rattle.clock_walk.specs.declared.Mark.{Mark}
+use Rattle.clock_walk.proofs.NumbersFit.{NumbersFit}
+use Rattle.clock.specs.Marked.{markOf, noMark, markedTimingNumber}
 use Rattle.clock.specs.declared.Cursor.{Cursor}
+use Rattle.clock.proofs.OwnMark.{taken-mark}
 use Rattle.clock_run.specs.Run.{runRoomNumber, runNumber, RunLaid}
+use Rattle.clock_run.specs.MarkedRun.{markedRunNumber, MarkedRunLaid}
 use Rattle.clock_run.specs.inside.Asked.{AllAsked}
+use Rattle.clock_run.proofs.AskedAsHistories.{unmarked-answers, unmarked-last, marked-answers, marked-last}
 
 has-room : (b : Bool) → _≡_ {A = ℕ} (pick b 0 7) 0 → b ≡ true
 has-room true h = refl
 has-room false h = absurd (omega arith)
 
 module _ (t : Timing) (offset global : Float) (c : Cursor) (beats : List Float) (numbers : List ℕ) (times : List Float) (counts : List ℕ) where
-  shortest : runNumber t offset global c (length beats) (length numbers) (length times) (length counts) ≡ 0 → length beats ≤ min (length numbers) (min (length times) (length counts))
-  unfolding runNumber runRoomNumber
-  shortest h =
-      let later = lower-none (timingNumber t offset global) _ h .1 in
+  shortest : (first : ℕ) → lower first (lower (runRoomNumber (length beats) (length numbers) (length times) (length counts)) (cursorRefusal t c)) ≡ 0
+      → length beats ≤ min (length numbers) (min (length times) (length counts))
+  unfolding runRoomNumber
+  shortest first h =
+      let later = lower-none first _ h .1 in
       leb-true _ _ (has-room _ (lower-none _ (cursorRefusal t c) later .0))
 
   pub room-for-all : runNumber t offset global c (length beats) (length numbers) (length times) (length counts) ≡ 0
       → (length beats ≤ length numbers) × (length beats ≤ length times) × (length beats ≤ length counts)
-  room-for-all h = let s = shortest h in (omega arith, omega arith, omega arith)
+  unfolding runNumber
+  room-for-all h = let s = shortest (timingNumber t offset global) h in (omega arith, omega arith, omega arith)
 
   pub refused-run : (n : ℕ) → n ≡ runNumber t offset global c (length beats) (length numbers) (length times) (length counts) → (n ≡ 0 → ⊥)
       → RunLaid t offset global c beats (record { number = n; cursor = c }) numbers numbers times times counts counts
@@ -45,14 +54,55 @@ module _ (t : Timing) (offset global : Float) (c : Cursor) (beats : List Float) 
     countsAre = rw (ne-eqb n 0 h);
   }
 
-  pub taken-run : (last : Cursor) (numbersNew : List ℕ) (timesNew : List Float) (countsNew : List ℕ) → runNumber t offset global c (length beats) (length numbers) (length times) (length counts) ≡ 0
-      → AllAsked t offset global c beats last numbers numbersNew times timesNew counts countsNew
+  pub taken-run : (m : Mark) → m ≡ noMark → (last : Cursor) (numbersNew : List ℕ) (timesNew : List Float) (countsNew : List ℕ)
+      → runNumber t offset global c (length beats) (length numbers) (length times) (length counts) ≡ 0
+      → AllAsked m t offset global c beats last numbers numbersNew times timesNew counts countsNew
       → RunLaid t offset global c beats (record { number = 0; cursor = last }) numbers numbersNew times timesNew counts countsNew
   unfolding given
-  taken-run last numbersNew timesNew countsNew e all = record {
-    number = sym e;
-    cursor = all .cursor;
-    numbersAre = all .numbersAre;
-    timesAre = all .timesAre;
-    countsAre = all .countsAre;
-  }
+  taken-run m none last numbersNew timesNew countsNew e all =
+      let each = unmarked-answers t offset global c beats in
+      record {
+        number = sym e;
+        cursor = rw (none, unmarked-last t offset global c beats) at (all .cursor);
+        numbersAre = rw (none, each) at (all .numbersAre);
+        timesAre = rw (none, each) at (all .timesAre);
+        countsAre = rw (none, each) at (all .countsAre);
+      }
+
+  -- ---- and one with a mark, which is then the timing's own
+  module _ (m : Mark) where
+    pub marked-room-for-all : markedRunNumber m t offset global c (length beats) (length numbers) (length times) (length counts) ≡ 0
+        → (length beats ≤ length numbers) × (length beats ≤ length times) × (length beats ≤ length counts)
+    unfolding markedRunNumber
+    marked-room-for-all h = let s = shortest (markedTimingNumber m t offset global) h in (omega arith, omega arith, omega arith)
+
+    own-mark : NumbersFit (m .state) → markedRunNumber m t offset global c (length beats) (length numbers) (length times) (length counts) ≡ 0 → m ≡ markOf t offset global
+    unfolding markedRunNumber
+    own-mark f h = taken-mark m t offset global f (lower-none (markedTimingNumber m t offset global) _ h .0)
+
+    pub refused-marked-run : (n : ℕ) → n ≡ markedRunNumber m t offset global c (length beats) (length numbers) (length times) (length counts) → (n ≡ 0 → ⊥)
+        → MarkedRunLaid m t offset global c beats (record { number = n; cursor = c }) numbers numbers times times counts counts
+    unfolding given laid lastCursor
+    refused-marked-run n e h = record {
+      number = e;
+      cursor = rw (ne-eqb n 0 h);
+      numbersAre = rw (ne-eqb n 0 h);
+      timesAre = rw (ne-eqb n 0 h);
+      countsAre = rw (ne-eqb n 0 h);
+    }
+
+    pub taken-marked-run : NumbersFit (m .state) → (last : Cursor) (numbersNew : List ℕ) (timesNew : List Float) (countsNew : List ℕ)
+        → markedRunNumber m t offset global c (length beats) (length numbers) (length times) (length counts) ≡ 0
+        → AllAsked m t offset global c beats last numbers numbersNew times timesNew counts countsNew
+        → MarkedRunLaid m t offset global c beats (record { number = 0; cursor = last }) numbers numbersNew times timesNew counts countsNew
+    unfolding given
+    taken-marked-run f last numbersNew timesNew countsNew e all =
+        let own = own-mark f e in
+        let each = marked-answers t offset global c beats in
+        record {
+          number = sym e;
+          cursor = rw (own, marked-last t offset global c beats) at (all .cursor);
+          numbersAre = rw (own, each) at (all .numbersAre);
+          timesAre = rw (own, each) at (all .timesAre);
+          countsAre = rw (own, each) at (all .countsAre);
+        }

@@ -1,14 +1,16 @@
 // A run: at what times are these beats? The timing and the cursor are tested once, and each beat is asked by the cursor that the one before it left.
 use chart::State;
 use clock::Cursor;
+use clock_walk::Mark;
 use clock_walk::Soon;
 ghost use mathlib.Core.Path.{_≡_};
 ghost use Prim.Native.Nat.{_≤_};
 ghost use lib.ListN.{length};
 ghost use Rattle.chart.specs.Timing.{timing};
 ghost use Rattle.clock_run.specs.Run.{runRoomNumber, RunLaid};
+ghost use Rattle.clock_run.specs.MarkedRun.{MarkedRunLaid};
 ghost use Rattle.clock_run.specs.inside.Asked.{AllAsked};
-ghost use Rattle.clock_run.specs.inside.Outlook.{lesserRow, restUntil, lookOn, lookAhead, isBefore, quietTime, soonBefore};
+ghost use Rattle.clock_run.specs.inside.Outlook.{lesserRow, restUntil, lookOn, lookAhead, isBeyond, isBefore, quietTime, soonBefore};
 
 // The run's number, and the cursor after its last beat; after a refusal the cursor that was lent.
 #[repr(C)]
@@ -119,6 +121,16 @@ fn look_ahead(
     look_on(state, rest, tempo_beats, tempo_values)
 }
 
+// Whether a beat is taken and beyond a mark.
+fn is_beyond(mark: i32, beat: f64, row: i32) -> bool
+    ensures { λ r. ⌜ r ≡ isBeyond mark beat row ⌝ }
+{
+    if mark < row {
+        return clock_tests::beat_number(beat) == limits::TAKEN;
+    }
+    false
+}
+
 // Whether a beat is taken, at or behind the row asked last, and before a row that is known.
 fn is_before(known: bool, until: i32, last: i32, beat: f64, row: i32) -> bool
     ensures { λ r. ⌜ r ≡ isBefore known until last beat row ⌝ }
@@ -187,10 +199,11 @@ fn soon(
 
 // ---- the run
 
-// Asks every beat, and answers the cursor after the last. A beat before the next event passes none, so that its count is 1, and needs no walk; nor does one that
-// passes a tempo and is before what is ahead of that.
+// Asks every beat with a mark, and answers the cursor after the last. A beat beyond the mark is answered from it. One before the next event passes none, so that
+// its count is 1, and needs no walk; nor does one that passes a tempo and is before what is ahead of that.
 fn ask_each(
     cursor: Cursor,
+    mark: Mark,
     tempo_beats: &[f32],
     tempo_values: &[f32],
     stop_beats: &[f32],
@@ -207,8 +220,12 @@ fn ask_each(
     counts: &mut [usize],
 ) -> Cursor
     requires { ⌜ (length (now beats) ≤ length (now numbers)) × (length (now beats) ≤ length (now times)) × (length (now beats) ≤ length (now counts)) ⌝ }
-    ensures { λ r. ⌜ AllAsked (timing (now («tempo_beats» .entry)) (now («tempo_values» .entry)) (now («stop_beats» .entry)) (now («stop_values» .entry)) (now («delay_beats» .entry)) (now («delay_values» .entry)) (now («warp_beats» .entry)) (now («warp_lengths» .entry))) offset global cursor (now (beats .entry)) r (now (numbers .entry)) (now (numbers .exit)) (now (times .entry)) (now (times .exit)) (now (counts .entry)) (now (counts .exit)) ⌝ }
+    ensures { λ r.
+        let t = timing «tempo_beats».entry.now «tempo_values».entry.now «stop_beats».entry.now «stop_values».entry.now
+        «delay_beats».entry.now «delay_values».entry.now «warp_beats».entry.now «warp_lengths».entry.now in
+        ⌜ AllAsked mark t offset global cursor beats.entry.now r numbers.entry.now numbers.exit.now times.entry.now times.exit.now counts.entry.now counts.exit.now ⌝ }
 {
+    let beyond = clock::rate_beyond(mark, tempo_beats, tempo_values);
     let mut at = cursor;
     let mut outlook = Outlook {
         known: false,
@@ -220,6 +237,20 @@ fn ask_each(
     while i < beats.len() {
         let beat = beats[i];
         let row = rows::beat_to_note_row(beat);
+        if is_beyond(mark.row, beat, row) {
+            let state = mark.state;
+            let time = quiet_time(state, beyond, row) - global;
+            numbers[i] = limits::TAKEN;
+            times[i] = time;
+            counts[i] = 1;
+            at = Cursor {
+                state: state,
+                asked: row,
+            };
+            outlook.known = false;
+            i += 1;
+            continue;
+        }
         if is_before(outlook.known, outlook.row, at.asked, beat, row) {
             let state = at.state;
             let time = quiet_time(state, outlook.rate, row) - global;
@@ -319,8 +350,81 @@ pub fn run(
     let later = limits::lower_of(room, lent);
     let number = limits::lower_of(timing, later);
     if number == limits::TAKEN {
+        let none = clock::no_mark();
         let last = ask_each(
             cursor,
+            none,
+            tempo_beats,
+            tempo_values,
+            stop_beats,
+            stop_values,
+            delay_beats,
+            delay_values,
+            warp_beats,
+            warp_lengths,
+            offset,
+            global,
+            beats,
+            numbers,
+            times,
+            counts,
+        );
+        return Ran {
+            number: limits::TAKEN,
+            cursor: last,
+        };
+    }
+    Ran {
+        number: number,
+        cursor: cursor,
+    }
+}
+
+// The run with an end mark beside the cursor, which is tested once, after the timing: each beat is asked by the cursor and the mark.
+pub fn run_marked(
+    cursor: Cursor,
+    mark: Mark,
+    tempo_beats: &[f32],
+    tempo_values: &[f32],
+    stop_beats: &[f32],
+    stop_values: &[f32],
+    delay_beats: &[f32],
+    delay_values: &[f32],
+    warp_beats: &[f32],
+    warp_lengths: &[f32],
+    offset: f64,
+    global: f64,
+    beats: &[f64],
+    numbers: &mut [u32],
+    times: &mut [f64],
+    counts: &mut [usize],
+) -> Ran
+    ensures { λ r.
+        let t = timing «tempo_beats».entry.now «tempo_values».entry.now «stop_beats».entry.now «stop_values».entry.now
+        «delay_beats».entry.now «delay_values».entry.now «warp_beats».entry.now «warp_lengths».entry.now in
+        ⌜ MarkedRunLaid mark t offset global cursor beats.entry.now r numbers.entry.now numbers.exit.now times.entry.now times.exit.now counts.entry.now counts.exit.now ⌝ }
+{
+    let marked = clock::check_marked_timing(
+        mark,
+        tempo_beats,
+        tempo_values,
+        stop_beats,
+        stop_values,
+        delay_beats,
+        delay_values,
+        warp_beats,
+        warp_lengths,
+        offset,
+        global,
+    );
+    let room = room_number(beats.len(), numbers.len(), times.len(), counts.len());
+    let lent = cursor.refusal(tempo_beats, stop_beats, delay_beats, warp_beats);
+    let later = limits::lower_of(room, lent);
+    let number = limits::lower_of(marked, later);
+    if number == limits::TAKEN {
+        let last = ask_each(
+            cursor,
+            mark,
             tempo_beats,
             tempo_values,
             stop_beats,

@@ -40,7 +40,7 @@ module _ (one other : Float) where
   unfolding inForce
   force-apart values place h = rw (ne-eqb place 0 (λ e. absurd (omega arith)))
 
-  time-apart : (values : List Float) (s : State) (at : ℤ) → 0 < s .tempos → timeAt one values s at ≡ timeAt other values s at
+  pub time-apart : (values : List Float) (s : State) (at : ℤ) → 0 < s .tempos → timeAt one values s at ≡ timeAt other values s at
   unfolding timeAt timeTo
   time-apart values s at h = rw (force-apart values (s .tempos) h)
 

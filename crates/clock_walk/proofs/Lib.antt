@@ -4,6 +4,10 @@ pub mod AllWalks
 pub mod ClockTest
 pub mod AskedOrAhead
 pub mod PrefixLaw
+pub mod WholeCourse
+pub mod BeyondTheCourse
+pub mod NumbersFit
+pub mod CourseEnds
 pub mod LastUpTo
 pub mod EventsSpent
 pub mod WalkedOn

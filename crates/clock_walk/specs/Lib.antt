@@ -3,6 +3,7 @@ pub mod SixCandidates
 pub mod Passing
 pub mod Course
 pub mod Walk
+pub mod EndMark
 pub mod ByTime
 pub mod Quiet
 pub mod Soon

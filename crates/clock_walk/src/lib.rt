@@ -17,6 +17,7 @@ ghost use Rattle.clock_walk.specs.declared.Event.the-variants.{Tempo};
 ghost use Rattle.clock_walk.specs.declared.Ahead.the-variants.{Found};
 ghost use Rattle.clock_walk.specs.declared.Due.the-variants.{Passes};
 ghost use Rattle.clock_walk.specs.Walk.{walk};
+ghost use Rattle.clock_walk.specs.EndMark.{greaterRow, endMark};
 ghost use Rattle.clock_walk.specs.ByTime.{stillRuns, pauseOf, walkBy};
 
 // What a walk passes, in the order in which events of one row come; the asked beat comes between a delay and a stop.
@@ -330,7 +331,7 @@ pub fn early_tempo(state: State, tempo_beats: &[f32], tempo_values: &[f32]) -> f
 }
 
 // The last tempo passed, before any the early one.
-fn tempo_in_force(early: f64, tempo_values: &[f32], place: usize) -> f64
+pub fn tempo_in_force(early: f64, tempo_values: &[f32], place: usize) -> f64
     ensures { λ r. ⌜ r ≡ inForce early (now («tempo_values» .entry)) place ⌝ }
 {
     if place == 0 {
@@ -676,6 +677,77 @@ pub fn walk_to(
             warp_beats,
         );
         passed = passed + 1;
+    }
+}
+
+// ---- the walk with no asked beat
+
+// The end mark of a timing: the state after all events that can be reached, and the greatest row among those events.
+#[repr(C)]
+pub struct Mark {
+    pub state: State,
+    pub row: i32,
+}
+
+fn greater_of(one: i32, other: i32) -> i32
+    ensures { λ r. ⌜ r ≡ greaterRow one other ⌝ }
+{
+    if one < other {
+        return other;
+    }
+    one
+}
+
+// From a state on, every event, until none is found.
+pub fn walk_all(
+    start: State,
+    tempo_beats: &[f32],
+    tempo_values: &[f32],
+    stop_beats: &[f32],
+    stop_values: &[f32],
+    delay_beats: &[f32],
+    delay_values: &[f32],
+    warp_beats: &[f32],
+    warp_lengths: &[f32],
+) -> Mark
+    ensures { λ r.
+        let t = timing «tempo_beats».entry.now «tempo_values».entry.now «stop_beats».entry.now «stop_values».entry.now
+        «delay_beats».entry.now «delay_values».entry.now «warp_beats».entry.now «warp_lengths».entry.now in
+        ⌜ r ≡ endMark t start ⌝ }
+{
+    let early = early_tempo(start, tempo_beats, tempo_values);
+    let mut state = start;
+    let mut heads = heads_of(start, tempo_beats, stop_beats, delay_beats, warp_beats);
+    let mut greatest = start.row;
+    loop {
+        let found = find_ahead(heads);
+        let Ahead::Found(next) = found else {
+            return Mark {
+                state,
+                row: greatest,
+            };
+        };
+        let kind = next.kind;
+        let number = number_of(
+            state,
+            kind,
+            stop_values,
+            delay_values,
+            warp_beats,
+            warp_lengths,
+        );
+        let time = time_at(state, next.row, early, tempo_values);
+        state = pass_event(state, next, time, number);
+        heads = heads_after(
+            heads,
+            kind,
+            state,
+            tempo_beats,
+            stop_beats,
+            delay_beats,
+            warp_beats,
+        );
+        greatest = greater_of(greatest, next.row);
     }
 }
 

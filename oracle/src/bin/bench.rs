@@ -2,11 +2,13 @@
 
 use oracle::assembly;
 use oracle::bench_clock;
+use oracle::by_time;
 use oracle::calls::{self, Call, Visit};
 use oracle::cases::Cases;
 use oracle::charts;
 use oracle::clock::{self, Columns, Cursor};
 use oracle::lookups::{self, Lists};
+use oracle::marked;
 use oracle::notes::{self, Scrolls as ScrollList};
 use oracle::processing::{self, Format, Rooms, Sm, Ssc};
 use oracle::random::Random;
@@ -14,7 +16,10 @@ use oracle::sm_stops;
 use oracle::speeds::{self, Columns as SpeedColumns};
 use oracle::tempo_text::{self, MOST_ENTRY_BYTES, Width};
 use oracle::tidying::{self, Rows, Scrolls, Tempos, Tidying};
-use oracle::timing::{compute_row_to_beat, convert_warps_and_delays_to_sm_stops, get_displayed_beat, probe};
+use oracle::timing::{
+    compute_row_to_beat, convert_warps_and_delays_to_sm_stops, get_beat_info_from_time, get_displayed_beat,
+    get_time_for_beat, probe,
+};
 use oracle::timings::{Chart, DELAYS, STOPS, TEMPOS, WARPS};
 use std::hint::black_box;
 use std::time::{Duration, Instant};
@@ -68,6 +73,27 @@ fn main() {
         ASKED.iter().for_each(|order| bench.clock(name, &chart, *order));
     }
     println!(
+        "nanoseconds a question past the last event, each from a fresh cursor, by the end mark; the original walks through all events"
+    );
+    for (name, entries) in [
+        ("a typical chart", [50, 30, 10, 10]),
+        ("10 tempos", [10, 0, 0, 0]),
+        ("100 tempos", [100, 0, 0, 0]),
+        ("1,000 tempos", [1_000, 0, 0, 0]),
+    ] {
+        bench.past_the_end(name, &chart(entries));
+    }
+    println!("nanoseconds a question of 2,000 before the mark; beside the port's own question without a mark");
+    for (name, chart) in [("a typical chart", chart([50, 30, 10, 10])), ("1,000 tempos", chart([1_000, 0, 0, 0]))] {
+        ASKED.iter().for_each(|order| bench.before_the_mark(name, &chart, *order));
+    }
+    println!(
+        "nanoseconds a time of 2,000, from the start each, but in a run, which goes on where times rise and tests the timing once"
+    );
+    for (name, chart) in [("a typical chart", chart([50, 30, 10, 10])), ("1,000 tempos", chart([1_000, 0, 0, 0]))] {
+        ASKED[..1].iter().chain(&ASKED[2..]).for_each(|order| bench.by_time(name, &chart, *order));
+    }
+    println!(
         "nanoseconds a call of the port's two clocks; each call tests the timing, and a question to the bench clock lays all events out first"
     );
     for (name, entries) in [
@@ -118,11 +144,11 @@ impl Bench {
         }
     }
 
-    /// Times two calls of the port, the first beside the second. They do not do the same work, so there is no ratio.
-    fn beside(&mut self, name: &str, mut one: impl FnMut(), other_name: &str, mut other: impl FnMut()) {
+    /// Times two calls of the port on `entries` entries, the first beside the second. It is not among the ratios to the original.
+    fn beside(&mut self, name: &str, entries: usize, mut one: impl FnMut(), other_name: &str, mut other: impl FnMut()) {
         if name.contains(&self.only) {
-            let [one, other] = in_turns(&mut one, &mut other);
-            println!("{name}: {one:.0} ns, {other_name} {other:.0} ns");
+            let [one, other] = in_turns(&mut one, &mut other).map(|time| time / entries as f64);
+            println!("{name}: {one:.1} ns, {other_name} {other:.1} ns, {:.2} of it", one / other);
         }
     }
 
@@ -519,6 +545,143 @@ impl Bench {
 }
 
 impl Bench {
+    /// 2,000 beats of an outro, each asked of a fresh cursor, and as a run that is tested once, the mark made anew for that.
+    fn past_the_end(&mut self, name: &str, chart: &Chart) {
+        let beats: Vec<_> = (0..2_000).map(|place| 600.0 + place as f64 / 4.0).collect();
+        let (timing, fresh, count) = (chart.original(), Cursor::fresh(chart.offset, chart.global), beats.len());
+        let made = marked::make_mark(chart);
+        assert_eq!(made.number, 0);
+        assert!(f64::from(made.mark.row) < beats[0] * 48.0, "{name} ends before the beats");
+        let (mut times, mut others) = (vec![0.0; count], vec![0.0; count]);
+        let mut original = || {
+            for (beat, time) in black_box(&beats).iter().zip(black_box(&mut others)) {
+                *time = get_time_for_beat(black_box(&timing), *beat);
+            }
+        };
+        self.line(
+            &format!("lent_time_for_beat_checked_marked past the end of {name}"),
+            count,
+            || {
+                for (beat, time) in black_box(&beats).iter().zip(black_box(&mut times)) {
+                    let mut cursor = fresh;
+                    let (mark, chart) = (*black_box(&made.mark), black_box(chart));
+                    *time = marked::lent_time_for_beat_checked_marked(&mut cursor, mark, chart, *beat).time;
+                }
+            },
+            &mut original,
+        );
+        self.line(
+            &format!("time_for_beat_checked_marked past the end of {name}"),
+            count,
+            || {
+                for (beat, time) in black_box(&beats).iter().zip(black_box(&mut times)) {
+                    let (mark, chart) = (*black_box(&made.mark), black_box(chart));
+                    *time = marked::time_for_beat_checked_marked(fresh, mark, chart, *beat).time;
+                }
+            },
+            &mut original,
+        );
+        let mut columns = Columns { numbers: vec![0; count], times: vec![0.0; count], counts: vec![0; count] };
+        self.line(
+            &format!("run_marked past the end of {name}"),
+            count,
+            || {
+                black_box(marked::run_marked(
+                    fresh,
+                    made.mark,
+                    black_box(chart),
+                    black_box(&beats),
+                    &mut columns,
+                    [count; 3],
+                ));
+            },
+            &mut original,
+        );
+    }
+
+    /// Questions up to the mark's own row, a quarter of a beat apart: marked, and not.
+    fn before_the_mark(&mut self, name: &str, chart: &Chart, (order, arrange): Order) {
+        let mark = marked::make_mark(chart).mark;
+        let last = f64::from(mark.row) / 48.0;
+        let mut beats: Vec<_> = (0..2_000).map(|place| place as f64 / 4.0).filter(|beat| *beat <= last).collect();
+        arrange(&mut beats, &mut Random::new(1, "bench of the clock"));
+        let (fresh, count) = (Cursor::fresh(chart.offset, chart.global), beats.len());
+        let (mut times, mut others) = (vec![0.0; count], vec![0.0; count]);
+        self.beside(
+            &format!("lent_time_for_beat_checked_marked over {name}, {order}"),
+            count,
+            || {
+                let mut cursor = fresh;
+                for (beat, time) in black_box(&beats).iter().zip(black_box(&mut times)) {
+                    let chart = black_box(chart);
+                    *time =
+                        marked::lent_time_for_beat_checked_marked(&mut cursor, *black_box(&mark), chart, *beat).time;
+                }
+            },
+            "lent_time_for_beat_checked",
+            || {
+                let mut cursor = fresh;
+                for (beat, time) in black_box(&beats).iter().zip(black_box(&mut others)) {
+                    *time = clock::lent_time_for_beat_checked(&mut cursor, black_box(chart), *beat).time;
+                }
+            },
+        );
+    }
+}
+
+impl Bench {
+    /// Times from the first event to behind the last, evenly spread.
+    fn by_time(&mut self, name: &str, chart: &Chart, (order, arrange): Order) {
+        let last = clock::fresh_time_for_beat(chart, 520.0).time;
+        let mut times: Vec<_> = (0..2_000).map(|place| last * place as f64 / 2_000.0).collect();
+        arrange(&mut times, &mut Random::new(1, "bench of beat from time"));
+        let (timing, count) = (chart.original(), times.len());
+        assert_eq!(clock::check_timing(chart), 0);
+        let (mut beats, mut others) = (vec![0.0; count], vec![0.0; count]);
+        let mut original = || {
+            for (time, beat) in black_box(&times).iter().zip(black_box(&mut others)) {
+                *beat = get_beat_info_from_time(black_box(&timing), *time).beat;
+            }
+        };
+        type Question = fn(&Chart, f64) -> f64;
+        let forms: [(&str, Question); 2] = [
+            ("get_beat_info_from_time_checked", |chart, time| {
+                by_time::get_beat_info_from_time_checked(chart, time).beat
+            }),
+            ("get_beat_info_from_time, tests of the lists and all,", |chart, time| {
+                by_time::get_beat_info_from_time(chart, time).beat
+            }),
+        ];
+        for (form, ask) in forms {
+            self.line(
+                &format!("{form} over {name}, {order}"),
+                count,
+                || {
+                    for (time, beat) in black_box(&times).iter().zip(black_box(&mut beats)) {
+                        *beat = ask(black_box(chart), *time);
+                    }
+                },
+                &mut original,
+            );
+        }
+        let mut columns = by_time::Columns::new(count);
+        self.line(
+            &format!("get_beat_infos_from_times over {name}, {order}"),
+            count,
+            || {
+                black_box(by_time::get_beat_infos_from_times(
+                    black_box(chart),
+                    black_box(&times),
+                    &mut columns,
+                    [count; 5],
+                ));
+            },
+            &mut original,
+        );
+    }
+}
+
+impl Bench {
     /// Laying out beside the tests of the timing, which it has too; a question at the first beat, half way and behind all events, beside the clock's to a fresh cursor.
     fn bench_clock(&mut self, name: &str, chart: &Chart) {
         let most = bench_clock::most_events(chart);
@@ -527,6 +690,7 @@ impl Bench {
         assert_eq!(laid.number, 0);
         self.beside(
             &format!("lay_out_events of {name}, {} events laid", laid.count),
+            1,
             || {
                 black_box(bench_clock::lay_out_events(black_box(chart), &mut columns, rooms));
             },
@@ -540,6 +704,7 @@ impl Bench {
             assert_eq!((answer.number, answer.count), (0, clock::fresh_time_for_beat(chart, beat).count));
             self.beside(
                 &format!("bench_time_for_beat of {name}, {} events laid and {} passed", answer.laid, answer.count - 1),
+                1,
                 || {
                     black_box(bench_clock::bench_time_for_beat(black_box(chart), black_box(beat), &mut columns, rooms));
                 },

@@ -1,11 +1,13 @@
 //! compare SEED SECONDS: the port against the original, bit for bit; a NaN equals any NaN.
 
 use oracle::bench_clock;
+use oracle::by_time;
 use oracle::calls::{self, Call, Visit, called};
 use oracle::cases::{Cases, LAST_ROW, Work};
 use oracle::clock;
 use oracle::edits;
 use oracle::lookups;
+use oracle::marked;
 use oracle::numbers::Number;
 use oracle::processing;
 use oracle::random::Random;
@@ -28,6 +30,8 @@ fn main() -> ExitCode {
     processing::compare_all(work, &mut total);
     sm_stops::compare_all(work, &mut total);
     clock::compare_all(work, &mut total);
+    marked::compare_all(work, &mut total);
+    by_time::compare_all(work, &mut total);
     bench_clock::compare_all(work, &mut total);
     edits::compare_all(work, &mut total);
     speeds::compare_all(work, &mut total);

@@ -31,10 +31,13 @@ unfolding runNumber cursorRefusal temposOf
 the-number c =
     rw (← c .before .before .before .before .check-timing .ensures, ← c .before .before .before .room-number .ensures, ← c .before .before .refusal .ensures, ← c .before .lower-of .ensures) (c .lower-of2 .ensures)
 
+no-mark-requires : tie.Need-no-mark-requires
+no-mark-requires c κs = search needs
+
 ask-each-requires : tie.Need-ask-each-requires
 ask-each-requires c κs =
-    let a = c .before .before .before .before .before .before .before .before .before .before .before .before .before .before .before .before .before .before .before .before .before .args in
-    room-for-all (timing (a .tempo-beats .now) (a .tempo-values .now) (a .stop-beats .now) (a .stop-values .now) (a .delay-beats .now) (a .delay-values .now) (a .warp-beats .now) (a .warp-lengths .now)) (a .offset) (a .global) (a .cursor) (a .beats .now) (a .numbers .now) (a .times .now) (a .counts .now) (sym (the-number (c .before .before .before .before)) ∙ c .before .before .before .if1 .taken)
+    let a = c .before .before .before .before .before .before .before .before .before .before .before .before .before .before .before .before .before .before .before .before .before .before .args in
+    room-for-all (timing (a .tempo-beats .now) (a .tempo-values .now) (a .stop-beats .now) (a .stop-values .now) (a .delay-beats .now) (a .delay-values .now) (a .warp-beats .now) (a .warp-lengths .now)) (a .offset) (a .global) (a .cursor) (a .beats .now) (a .numbers .now) (a .times .now) (a .counts .now) (sym (the-number (c .before .before .before .before .before)) ∙ c .before .before .before .before .if1 .taken)
 
 same-length : tie.Need-same-length
 same-length c = search needs
@@ -47,8 +50,9 @@ same-length-3 c = search needs
 
 returns : tie.Need-returns
 returns c =
-    let a = c .before .before .before .before .before .before .before .before .before .before .before .before .before .before .before .before .before .before .before .before .before .before .before .before .before .before .before .before .args in
-    taken-run (timing (a .tempo-beats .now) (a .tempo-values .now) (a .stop-beats .now) (a .stop-values .now) (a .delay-beats .now) (a .delay-values .now) (a .warp-beats .now) (a .warp-lengths .now)) (a .offset) (a .global) (a .cursor) (a .beats .now) (a .numbers .now) (a .times .now) (a .counts .now) (c .before .before .before .before .before .before .ask-each .result) _ _ _ (sym (the-number (c .before .before .before .before .before .before .before .before .before .before .before)) ∙ c .before .before .before .before .before .before .before .before .before .before .if1 .taken) (c .before .before .before .before .before .before .ask-each .ensures)
+    let a = c .before .before .before .before .before .before .before .before .before .before .before .before .before .before .before .before .before .before .before .before .before .before .before .before .before .before .before .before .before .args in
+    let none = c .before .before .before .before .before .before .before .before .before .before .no-mark in
+    taken-run (timing (a .tempo-beats .now) (a .tempo-values .now) (a .stop-beats .now) (a .stop-values .now) (a .delay-beats .now) (a .delay-values .now) (a .warp-beats .now) (a .warp-lengths .now)) (a .offset) (a .global) (a .cursor) (a .beats .now) (a .numbers .now) (a .times .now) (a .counts .now) (none .result) (none .ensures) (c .before .before .before .before .before .before .ask-each .result) _ _ _ (sym (the-number (c .before .before .before .before .before .before .before .before .before .before .before .before)) ∙ c .before .before .before .before .before .before .before .before .before .before .before .if1 .taken) (c .before .before .before .before .before .before .ask-each .ensures)
 
 returns-2 : tie.Need-returns-2
 returns-2 c =
@@ -64,6 +68,7 @@ run-spec =
     refusal-requires
     lower-of-requires
     lower-of-requires-2
+    no-mark-requires
     ask-each-requires
     same-length
     same-length-2

@@ -1,16 +1,28 @@
--- What the loop of a run leaves: all beats asked. Definitions only.
+-- What the loop of a run leaves: all beats asked with a mark. Definitions only.
 use Prim.Native.Nat.{ℕ}
-use mathlib.Core.List.{List, map}
+use mathlib.Core.List.{List, [], _∷_, map}
 use mathlib.Core.Path.{_≡_}
 use lib.Ieee.{Float}
 use Rattle.order.specs.Order.{laid}
 use Rattle.chart.specs.Timing.{Timing}
-use Rattle.clock.specs.History.{answers, lastCursor, numberOf, timeOf, countOf}
+use Rattle.clock_walk.specs.declared.Mark.{Mark}
+use Rattle.clock.specs.Marked.{markedAsking}
+use Rattle.clock.specs.History.{numberOf, timeOf, countOf}
 use Rattle.clock.specs.declared.Cursor.{Cursor}
-use Rattle.clock_run.specs.Run.{runOf}
+use Rattle.clock.specs.declared.Answer.{Answer}
 
-pub record AllAsked (t : Timing) (offset global : Float) (c : Cursor) (beats : List Float) (last : Cursor) (numbersOld numbersNew : List ℕ) (timesOld timesNew : List Float) (countsOld countsNew : List ℕ) : Type 0 where
-  pub cursor : last ≡ lastCursor t offset global c (runOf beats)
-  pub numbersAre : numbersNew ≡ laid (map numberOf (answers t offset global c (runOf beats))) numbersOld
-  pub timesAre : timesNew ≡ laid (map timeOf (answers t offset global c (runOf beats))) timesOld
-  pub countsAre : countsNew ≡ laid (map countOf (answers t offset global c (runOf beats))) countsOld
+-- each beat is asked by the cursor that the one before it left
+unfoldable pub eachAsked : Mark → Timing → Float → Float → Cursor → List Float → List Answer
+eachAsked m t offset global c [] = []
+eachAsked m t offset global c (b ∷ beats) = markedAsking m t c offset global b ∷ eachAsked m t offset global (markedAsking m t c offset global b .cursor) beats
+
+-- the cursor after the last of them
+unfoldable pub lastAsked : Mark → Timing → Float → Float → Cursor → List Float → Cursor
+lastAsked m t offset global c [] = c
+lastAsked m t offset global c (b ∷ beats) = lastAsked m t offset global (markedAsking m t c offset global b .cursor) beats
+
+pub record AllAsked (m : Mark) (t : Timing) (offset global : Float) (c : Cursor) (beats : List Float) (last : Cursor) (numbersOld numbersNew : List ℕ) (timesOld timesNew : List Float) (countsOld countsNew : List ℕ) : Type 0 where
+  pub cursor : last ≡ lastAsked m t offset global c beats
+  pub numbersAre : numbersNew ≡ laid (map numberOf (eachAsked m t offset global c beats)) numbersOld
+  pub timesAre : timesNew ≡ laid (map timeOf (eachAsked m t offset global c beats)) timesOld
+  pub countsAre : countsNew ≡ laid (map countOf (eachAsked m t offset global c beats)) countsOld

@@ -49,6 +49,10 @@ unfoldable pub lookAhead : Timing → State → Outlook
 lookAhead t s =
     pick (eqb (length (t .tempoBeats)) 0) blind (lookOn (t .tempoBeats) (t .tempoValues) s (restUntil (t .stopBeats) (t .delayBeats) (t .warpBeats) s))
 
+-- a beat that is taken, beyond a mark's row
+unfoldable pub isBeyond : ℤ → Float → ℤ → Bool
+isBeyond mark beat asked = pick (ltZ mark asked) (eqb (beatNumber beat) 0) false
+
 -- a beat that is taken, at or behind the one asked last, and before a row that is known
 unfoldable pub isBefore : Bool → ℤ → ℤ → Float → ℤ → Bool
 isBefore known until last beat asked = pick (eqb (beatNumber beat) 0) (pick known (pick (ltZ asked last) false (ltZ asked until)) false) false
