@@ -1,4 +1,4 @@
-/* A chart through the C functions: assembly, the clock, with an end mark too, and the second one, the lookups, and stops for SM. Prints what it found, and ends with 1 where an answer is not the expected one. */
+/* A chart through the C functions: assembly, the clock, with an end mark too, beat from time, and the second clock, the lookups, and stops for SM. Prints what it found, and ends with 1 where an answer is not the expected one. */
 #include <stdio.h>
 #include <string.h>
 
@@ -133,6 +133,27 @@ int main(void) {
     refused = marrighentu_lent_time_for_beat_marked(&cursor, mark, CLOCK_COLUMNS(t), 17);
     expect(refused.number == MARRIGHENTU_NOT_RISING && refused.count == 0, "a question with a mark of other offsets");
     t->offset -= 0.5;
+
+    /* which beat it is at a second: before the warp, where it ends, in the stop, when that is over, and a second that is refused */
+    const double seconds[] = {1, 2, 4.5, 5, 1e300}, found_beats[] = {2, 12, 16, 16, 0};
+    const size_t over[] = {2, 4, 4, 5, 0};
+    double info_beats[5];
+    uint32_t info_numbers[5];
+    uint8_t freezes[5], delayed[5];
+    size_t info_counts[5];
+    ran = marrighentu_get_beat_infos_from_times(
+        CLOCK_COLUMNS(t), seconds, 5, info_numbers, 5, info_beats, 5, freezes, 5, delayed, 5, info_counts, 5);
+    expect(ran == MARRIGHENTU_TAKEN, "many seconds");
+    for (size_t i = 0; i < 5; i++) {
+        marrighentu_beat_info one = marrighentu_get_beat_info_from_time(CLOCK_COLUMNS(t), seconds[i]);
+        marrighentu_beat_info player = marrighentu_get_beat_info_from_time_checked(CLOCK_COLUMNS(t), seconds[i]);
+        expect(one.beat == found_beats[i] && player.beat == found_beats[i] && info_beats[i] == found_beats[i], "the beat of a second");
+        expect(one.is_in_freeze == (i == 2) && player.is_in_freeze == (i == 2) && freezes[i] == (i == 2), "in the stop");
+        expect(!one.is_in_delay && !player.is_in_delay && delayed[i] == 0, "in no delay");
+        expect(one.count == over[i] && player.count == over[i] && info_counts[i] == over[i], "the events that are over, and one");
+        expect(one.number == (i == 4 ? MARRIGHENTU_BAD_VALUE : MARRIGHENTU_TAKEN) && player.number == one.number && info_numbers[i] == one.number, "its number");
+        if (one.number == MARRIGHENTU_TAKEN) printf("at %g s it is beat %g%s\n", seconds[i], one.beat, one.is_in_freeze ? ", in a stop" : "");
+    }
 
     /* the events one by one, as the second clock has them: a tempo, a warp, its end, a stop */
     int32_t event_rows[5];

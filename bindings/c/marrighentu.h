@@ -45,7 +45,7 @@ enum marrighentu_refusal {
     MARRIGHENTU_TOO_LONG = 1,    /* a list has more than 1,024 entries, made warps included, or note data more than 2^20 bytes */
     MARRIGHENTU_UNEVEN = 2,      /* the columns of a list differ in length, or a flat list is odd */
     MARRIGHENTU_BAD_BEAT = 3,    /* a beat beyond 65,536 or a row beyond 3,145,728 on either side, or one that is not finite */
-    MARRIGHENTU_BAD_VALUE = 4,   /* a value, a unit or an offset beyond its limit */
+    MARRIGHENTU_BAD_VALUE = 4,   /* a value, a unit or an offset beyond its limit, or a second beyond 2^50 on either side or not finite */
     MARRIGHENTU_NOT_RISING = 5,  /* rows of a list do not rise strictly, the tempos do not start at beat 0, or scroll beats fall where notes are drawn; an end mark of another timing */
     MARRIGHENTU_FALLS = 6,       /* scrolls or speeds out of order, so that an entry has no place */
     MARRIGHENTU_NO_ROOM = 7,     /* a result is longer than its room */
@@ -127,6 +127,15 @@ typedef struct {
     uint32_t number;
     marrighentu_mark mark;
 } marrighentu_mark_made;
+
+/* A number, which beat it is at a time, whether a stop or a delay runs then, and the events that are over by then and one; after a refusal 0 and no. */
+typedef struct {
+    uint32_t number;
+    double beat;
+    bool is_in_freeze;
+    bool is_in_delay;
+    size_t count;
+} marrighentu_beat_info;
 
 /* A question's number to the second clock, its second, the events it passed and one, and how many events were laid out. */
 typedef struct {
@@ -593,6 +602,60 @@ marrighentu_made marrighentu_run_marked(
     double *times, size_t times_length,
     size_t *counts, size_t counts_length);
 
+/* ---- beat from time */
+
+/* Which beat is it at this second? Events are passed as long as they are over by then: each question walks from the start, and there is no cursor. While a stop
+ * or a delay runs, the beat is that entry's own, with its mark, and the entry is not among those passed; else it goes on from the last event by the tempo in
+ * force, in a single rounding, in a warp that never ends too. Pauses may be negative, so that time falls: the first event that has not come ends the walk.
+ * Everything is tested: the timing as marrighentu_check_timing tests it, and the second, with 4 for one that is not finite or beyond 2^50.
+ */
+marrighentu_beat_info marrighentu_get_beat_info_from_time(
+    const float *tempo_beats, size_t tempo_beats_length,
+    const float *tempo_values, size_t tempo_values_length,
+    const float *stop_beats, size_t stop_beats_length,
+    const float *stop_values, size_t stop_values_length,
+    const float *delay_beats, size_t delay_beats_length,
+    const float *delay_values, size_t delay_values_length,
+    const float *warp_beats, size_t warp_beats_length,
+    const float *warp_lengths, size_t warp_lengths_length,
+    double offset, double global_offset,
+    double time);
+
+/* The same for a timing that marrighentu_check_timing or marrighentu_make_mark took and that has not changed since: only the second is tested. This is the
+ * question for a player, once a frame. Over other lists it still returns and does nothing undefined.
+ */
+marrighentu_beat_info marrighentu_get_beat_info_from_time_checked(
+    const float *tempo_beats, size_t tempo_beats_length,
+    const float *tempo_values, size_t tempo_values_length,
+    const float *stop_beats, size_t stop_beats_length,
+    const float *stop_values, size_t stop_values_length,
+    const float *delay_beats, size_t delay_beats_length,
+    const float *delay_values, size_t delay_values_length,
+    const float *warp_beats, size_t warp_beats_length,
+    const float *warp_lengths, size_t warp_lengths_length,
+    double offset, double global_offset,
+    double time);
+
+/* Many seconds at once, in five columns: for each its number, its beat, 1 or 0 for a stop that runs and for a delay that runs, and its count. The timing is
+ * tested once. A second that is refused has number 4 and zeros, and the run is taken all the same; 7 where a column is shorter than the seconds.
+ */
+uint32_t marrighentu_get_beat_infos_from_times(
+    const float *tempo_beats, size_t tempo_beats_length,
+    const float *tempo_values, size_t tempo_values_length,
+    const float *stop_beats, size_t stop_beats_length,
+    const float *stop_values, size_t stop_values_length,
+    const float *delay_beats, size_t delay_beats_length,
+    const float *delay_values, size_t delay_values_length,
+    const float *warp_beats, size_t warp_beats_length,
+    const float *warp_lengths, size_t warp_lengths_length,
+    double offset, double global_offset,
+    const double *times, size_t times_length,
+    uint32_t *numbers, size_t numbers_length,
+    double *beats, size_t beats_length,
+    uint8_t *freezes, size_t freezes_length,
+    uint8_t *delays, size_t delays_length,
+    size_t *counts, size_t counts_length);
+
 /* ---- the second clock, for tests and for people who want to see what happens when
  *
  * It lays out all events of a timing as one list, in three columns that are lent for it, and answers by running down that list. For a game there is the
@@ -884,6 +947,9 @@ MARRIGHENTU_LAYOUT(sizeof(marrighentu_reply) == 24 && offsetof(marrighentu_reply
 MARRIGHENTU_LAYOUT(sizeof(marrighentu_made) == 72 && offsetof(marrighentu_made, cursor) == 8);
 MARRIGHENTU_LAYOUT(sizeof(marrighentu_mark) == 64 && offsetof(marrighentu_mark, row) == 56);
 MARRIGHENTU_LAYOUT(sizeof(marrighentu_mark_made) == 72 && offsetof(marrighentu_mark_made, mark) == 8);
+MARRIGHENTU_LAYOUT(sizeof(marrighentu_beat_info) == 32 && offsetof(marrighentu_beat_info, beat) == 8);
+MARRIGHENTU_LAYOUT(offsetof(marrighentu_beat_info, is_in_freeze) == 16 && offsetof(marrighentu_beat_info, is_in_delay) == 17);
+MARRIGHENTU_LAYOUT(offsetof(marrighentu_beat_info, count) == 24);
 MARRIGHENTU_LAYOUT(sizeof(marrighentu_bench_answer) == 32 && offsetof(marrighentu_bench_answer, time) == 8);
 MARRIGHENTU_LAYOUT(offsetof(marrighentu_bench_answer, count) == 16 && offsetof(marrighentu_bench_answer, laid) == 24);
 MARRIGHENTU_LAYOUT(sizeof(marrighentu_looked) == 8 && offsetof(marrighentu_looked, yes) == 4);

@@ -268,6 +268,11 @@ impl<'a> Walker<'a> {
 
     /// The row and rank of what comes next: the least row wins, then the lower rank. An end that is held at the last row that there is never comes.
     pub fn next(&self, asked: Option<i32>) -> Option<(i32, usize)> {
+        self.next_by(asked, [WARP_END, TEMPO, DELAY, ASKED, STOP, WARP])
+    }
+
+    /// The same by other places of the ranks on one row.
+    pub fn next_by(&self, asked: Option<i32>, places: [usize; 6]) -> Option<(i32, usize)> {
         let state = &self.state;
         let head = |list: usize, place: usize| {
             self.lists[list].0.get(place).map(|beat| probe::beat_to_note_row((*beat).into()))
@@ -281,7 +286,7 @@ impl<'a> Walker<'a> {
             head(WARPS, state.warps),
         ];
         let all = heads.iter().enumerate().filter_map(|(rank, row)| row.map(|row| (row, rank)));
-        all.filter(|(row, _)| *row < i32::MAX).min()
+        all.filter(|(row, _)| *row < i32::MAX).min_by_key(|(row, rank)| (*row, places[*rank]))
     }
 
     /// Beats a second by the tempo in force.

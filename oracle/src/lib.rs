@@ -19,6 +19,8 @@ use missing::{nps, parse, resolve_difficulty_label, stats, supported_stepstype_l
 pub mod assembly;
 #[cfg(feature = "port")]
 pub mod bench_clock;
+#[cfg(feature = "port")]
+pub mod by_time;
 pub mod calls;
 pub mod cases;
 pub mod charts;

@@ -206,6 +206,18 @@ fn timing(seen: &Seen) -> Vec<(&'static str, Json)> {
         ("fakes", columns(timing.fakes(), "beats")),
         ("beats", Json::List(asked.collect())),
     ];
+    if !seen.at.is_empty() {
+        let at = seen.at.iter().map(|(time, info)| {
+            Json::Fields(vec![
+                ("time", Json::number(*time)),
+                ("beat", Json::number(info.beat)),
+                ("freeze", Json::Truth(info.freeze)),
+                ("delay", Json::Truth(info.delay)),
+                ("steps", Json::count(info.steps)),
+            ])
+        });
+        fields.push(("at", Json::List(at.collect())));
+    }
     if let Some(events) = &seen.events {
         fields.push(("events", Json::List(events.iter().map(event).collect())));
     }

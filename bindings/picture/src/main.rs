@@ -68,6 +68,7 @@ fn run(wanted: &Wanted) -> Result<String, String> {
     let question = Question {
         chart,
         beats: &wanted.beats,
+        times: &wanted.times,
         events: wanted.events,
         notes: wanted.notes,
         global: wanted.global,

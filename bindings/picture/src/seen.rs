@@ -1,6 +1,6 @@
 //! What a machine sees of one chart: worked out once, and told as words, JSON or a picture.
 
-use marrighentu::{Event, Refusal, Timing, beat_to_note_row, note_row_to_beat};
+use marrighentu::{BeatInfo, Event, Refusal, Timing, beat_to_note_row, note_row_to_beat};
 use marrighentu_charts::{ChartFile, ChartText, Fault, Note};
 
 /// A beat that was asked.
@@ -38,6 +38,8 @@ pub struct Seen {
     pub own: bool,
     pub timing: Timing,
     pub asked: Vec<Asked>,
+    /// The seconds that were asked, each with which beat it is then.
+    pub at: Vec<(f64, BeatInfo)>,
     /// Where events were asked for.
     pub events: Option<Vec<Event>>,
     /// Where notes were asked for.
@@ -61,6 +63,11 @@ fn asked(timing: &Timing, beats: &[f64]) -> Result<Vec<Asked>, String> {
         })
     });
     answers.collect()
+}
+
+fn at(timing: &Timing, times: &[f64]) -> Result<Vec<(f64, BeatInfo)>, String> {
+    let answers = times.iter().zip(timing.beats_at(times));
+    answers.map(|(time, info)| Ok((*time, info.map_err(|refusal| format!("second {time}: {refusal}"))?))).collect()
 }
 
 /// The last row that is timed.
@@ -88,6 +95,7 @@ fn note_rows(timing: &Timing, notes: &[Note]) -> Result<Vec<NoteRow>, String> {
 pub struct Question<'a> {
     pub chart: Option<ChartText<'a>>,
     pub beats: &'a [f64],
+    pub times: &'a [f64],
     pub events: bool,
     pub notes: bool,
     pub global: f64,
@@ -121,6 +129,7 @@ pub fn see(file: &ChartFile, question: &Question<'_>) -> Result<Seen, String> {
         chart: question.chart.map(|chart| chart.number()),
         own: read.is_own(),
         asked: asked(&timing, question.beats).map_err(|why| format!(" {why}"))?,
+        at: at(&timing, question.times).map_err(|why| format!(" {why}"))?,
         timing,
         events,
         notes,

@@ -3,7 +3,7 @@
 use marrighentu::Format;
 
 pub const HELP: &str = "\
-chart-picture FILE [--list] [--chart N | --header] [--beats B,B,...] [--events] [--notes] [--json]
+chart-picture FILE [--list] [--chart N | --header] [--beats B,B,...] [--at S,S,...] [--events] [--notes] [--json]
               [--svg OUT] [--from B] [--to B] [--global SECONDS] [--format sm|ssc] [--pass-over]
 
 What a machine sees of an .sm or .ssc file: the timing lists of a chart as they are timed. FILE may be - for standard input.
@@ -12,6 +12,7 @@ What a machine sees of an .sm or .ssc file: the timing lists of a chart as they 
   --chart N    the chart with this number; else the first. It has its own timing, or else the whole file's
   --header     the whole file's timing
   --beats B,.. for each beat its row and time, and whether a note there is judged
+  --at S,..    for each second which beat it is then, whether a stop or a delay runs, and the steps to it
   --events     all events of the timing in the order in which they fall, the ends of warps among them; rows may fall too
   --notes      as --beats for each row with notes, and the notes themselves, lane by lane
   --json       all of it as JSON. Numbers of lists are f32 in few digits, times are f64
@@ -31,6 +32,7 @@ pub struct Wanted {
     pub chart: Option<usize>,
     pub header: bool,
     pub beats: Vec<f64>,
+    pub times: Vec<f64>,
     pub events: bool,
     pub notes: bool,
     pub json: bool,
@@ -64,6 +66,7 @@ pub fn wanted(words: Vec<String>) -> Result<Option<Wanted>, String> {
         chart: None,
         header: false,
         beats: Vec::new(),
+        times: Vec::new(),
         events: false,
         notes: false,
         json: false,
@@ -87,6 +90,7 @@ pub fn wanted(words: Vec<String>) -> Result<Option<Wanted>, String> {
             }
             "--header" => wanted.header = true,
             "--beats" => wanted.beats = behind()?.split(',').map(number).collect::<Result<_, _>>()?,
+            "--at" => wanted.times = behind()?.split(',').map(number).collect::<Result<_, _>>()?,
             "--events" => wanted.events = true,
             "--notes" => wanted.notes = true,
             "--json" => wanted.json = true,

@@ -1,7 +1,7 @@
 //! What is seen, in lines of words.
 
 use crate::seen::{NoteRow, Seen};
-use marrighentu::{Columns, Event, EventKind, SpeedUnit, Timing, note_row_to_beat};
+use marrighentu::{BeatInfo, Columns, Event, EventKind, SpeedUnit, Timing, note_row_to_beat};
 use marrighentu_charts::{ChartFile, ChartText};
 use std::fmt::Write;
 
@@ -56,7 +56,16 @@ fn drawn(timing: &Timing, displayed: Option<f64>) -> String {
     }
 }
 
-/// The lists, the events, the asked beats and the notes.
+/// What runs at a time, if time stands still then.
+fn running(info: &BeatInfo) -> &'static str {
+    match (info.freeze, info.delay) {
+        (true, _) => ", in a stop",
+        (false, true) => ", in a delay",
+        (false, false) => "",
+    }
+}
+
+/// The lists, the events, the asked beats and seconds, and the notes.
 pub fn seen(seen: &Seen) -> String {
     let mut out = String::new();
     lists(&mut out, &seen.timing);
@@ -72,6 +81,9 @@ pub fn seen(seen: &Seen) -> String {
         };
         let drawn = drawn(&seen.timing, asked.displayed);
         let _ = writeln!(out, "at      beat {} row {} {} s, {judged}{drawn}", asked.beat, asked.row, asked.time);
+    }
+    for (time, info) in &seen.at {
+        let _ = writeln!(out, "second  {time} beat {}{}, {} steps", info.beat, running(info), info.steps);
     }
     let rows = seen.notes.as_deref().unwrap_or(&[]);
     let count = rows.iter().flat_map(|row| &row.notes).map(|note| note.lane + 1).max().unwrap_or(0);

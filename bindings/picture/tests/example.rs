@@ -245,6 +245,42 @@ fn events_are_told_in_the_order_in_which_they_fall() {
 }
 
 #[test]
+fn seconds_have_their_beats() {
+    let told = said(&["example.ssc", "--at", "1.75,2.25,2.75,5.5,11.75,1000", "--beats", "4"]);
+    let seconds: Vec<&str> = told.lines().filter(|line| line.starts_with("second")).collect();
+    assert_eq!(
+        seconds,
+        [
+            "second  1.75 beat 3, 2 steps",
+            "second  2.25 beat 4, in a stop, 2 steps",
+            "second  2.75 beat 4, in a stop, 2 steps",
+            "second  5.5 beat 8, in a delay, 3 steps",
+            "second  11.75 beat 18, 7 steps",
+            "second  1000 beat 2978.75, 8 steps",
+        ]
+    );
+    // behind the beats
+    assert!(told.find("at      beat 4").unwrap() < told.find("second  1.75").unwrap());
+    let json = Json::read(&said(&["example.ssc", "--at", "2.25,5.5,-1", "--json"]));
+    let told: Vec<(f64, f64, &Json, &Json, f64)> = json
+        .field("at")
+        .list()
+        .iter()
+        .map(|at| {
+            let number = |name| at.field(name).number();
+            (number("time"), number("beat"), at.field("freeze"), at.field("delay"), number("steps"))
+        })
+        .collect();
+    let (yes, no) = (&Json::Truth(true), &Json::Truth(false));
+    assert_eq!(told, [(2.25, 4.0, yes, no, 2.0), (5.5, 8.0, no, yes, 3.0), (-1.0, -2.5, no, no, 1.0)]);
+    // the machine's offset counts, nothing is said where nothing is asked, and a second beyond the limit is refused
+    assert!(said(&["example.ssc", "--at", "1.5", "--global", "0.25"]).contains("second  1.5 beat 3.5, 2 steps"));
+    assert!(!said(&["example.ssc"]).contains("second") && !said(&["example.ssc", "--json"]).contains("\"at\":"));
+    assert!(refused(&["example.ssc", "--at", "1,1e300"]).contains("(refusal 4)"));
+    assert!(said(&["--help"]).contains("--at"));
+}
+
+#[test]
 fn json_says_all_of_it() {
     let json = Json::read(&said(&["dozens.ssc", "--chart", "2", "--notes", "--beats", "121,0.1", "--json"]));
     assert_eq!((json.field("format").text(), json.field("title").text()), ("ssc", "Some dozens"));
@@ -377,6 +413,8 @@ fn bad_words_are_told() {
         &["--svg"],
         &["a.sm", "--format", "osu"],
         &["a.sm", "--beats", "x"],
+        &["a.sm", "--at", "soon"],
+        &["a.sm", "--at"],
         &["a.sm", "--loud"],
         &["example.ssc", "--chart", "0"],
         &["example.ssc", "--chart", "one"],

@@ -58,6 +58,17 @@ pub struct BenchAnswer {
     pub laid: usize,
 }
 
+/// Which beat it is at a time.
+#[derive(Clone, Copy, Debug)]
+#[repr(C)]
+pub struct BeatInfo {
+    pub number: u32,
+    pub beat: f64,
+    pub is_in_freeze: bool,
+    pub is_in_delay: bool,
+    pub count: usize,
+}
+
 /// A number and a cursor: what a new cursor answers.
 #[derive(Clone, Copy, Debug)]
 #[repr(C)]
@@ -227,6 +238,29 @@ calls! {
         room times: f64,
         room counts: usize,
     ) -> u32 = "marrighentu_lent_run_marked";
+    fn get_beat_info_from_time_checked(
+        list tempos: f32,
+        list stops: f32,
+        list delays: f32,
+        list warps: f32,
+        value offset: f64,
+        value global: f64,
+        value time: f64,
+    ) -> BeatInfo = "marrighentu_get_beat_info_from_time_checked";
+    fn get_beat_infos_from_times(
+        list tempos: f32,
+        list stops: f32,
+        list delays: f32,
+        list warps: f32,
+        value offset: f64,
+        value global: f64,
+        slice times: f64,
+        room numbers: u32,
+        room beats: f64,
+        room freezes: u8,
+        room delay_marks: u8,
+        room counts: usize,
+    ) -> u32 = "marrighentu_get_beat_infos_from_times";
     fn lay_out_events(
         list tempos: f32,
         list stops: f32,
@@ -330,6 +364,8 @@ const _: () = {
     assert!(size_of::<Reply>() == 24 && offset_of!(Reply, time) == 8 && offset_of!(Reply, count) == 16);
     assert!(size_of::<BenchAnswer>() == 32 && offset_of!(BenchAnswer, time) == 8);
     assert!(offset_of!(BenchAnswer, count) == 16 && offset_of!(BenchAnswer, laid) == 24);
+    assert!(size_of::<BeatInfo>() == 32 && offset_of!(BeatInfo, beat) == 8 && offset_of!(BeatInfo, is_in_freeze) == 16);
+    assert!(offset_of!(BeatInfo, is_in_delay) == 17 && offset_of!(BeatInfo, count) == 24);
     assert!(size_of::<Numbered>() == 72 && offset_of!(Numbered, cursor) == 8);
     assert!(size_of::<Looked>() == 8 && offset_of!(Looked, yes) == 4);
     assert!(size_of::<Outcome>() == 16 && offset_of!(Outcome, count) == 8);

@@ -21,6 +21,7 @@
 
 #![deny(missing_docs)]
 
+mod by_time;
 mod cursor;
 mod events;
 mod ffi;
@@ -28,6 +29,7 @@ mod lists;
 mod refusal;
 mod timing;
 
+pub use by_time::BeatInfo;
 pub use cursor::{Answer, Cursor, CursorState};
 pub use events::{BenchAnswer, Event, EventKind};
 pub use lists::{Chart, Columns, Entries, Format, Lists, Speed, SpeedUnit};

@@ -27,7 +27,7 @@ pub enum Refusal {
     Uneven = 2,
     /// A beat lies beyond 65,536 on either side, or is not finite; or a row lies beyond 3,145,728.
     BadBeat = 3,
-    /// A tempo, a length, a unit or an offset is beyond its limit.
+    /// A tempo, a length, a unit or an offset is beyond its limit; or a time lies beyond 2^50 seconds on either side, or is not finite.
     BadValue = 4,
     /// The rows of a list do not rise strictly, or the tempos do not start at beat 0; where notes are to be drawn, the beats of the scrolls fall.
     NotRising = 5,
@@ -115,7 +115,7 @@ impl fmt::Display for Refusal {
             Refusal::TooLong => "a list has more than 1,024 entries, made warps included",
             Refusal::Uneven => "the columns of a list differ in length",
             Refusal::BadBeat => "a beat is not within -65,536 to 65,536, or a row not within -3,145,728 to 3,145,728",
-            Refusal::BadValue => "a tempo, a length, a unit or an offset is beyond its limit",
+            Refusal::BadValue => "a tempo, a length, a unit, an offset or a time is beyond its limit",
             Refusal::NotRising => "the rows of a list do not rise strictly, or the tempos do not start at beat 0",
             Refusal::Falls => "scrolls or speeds are out of order, so that an entry has no place",
             Refusal::NoRoom => "a result is longer than its room",

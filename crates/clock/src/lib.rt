@@ -55,7 +55,8 @@ pub struct Made {
     pub cursor: Cursor,
 }
 
-fn fresh_state(offset: f64, global: f64) -> State
+// The state that a walk of a timing begins with: nothing passed, on row 0, the time less both offsets.
+pub fn fresh_state(offset: f64, global: f64) -> State
     ensures { λ r. ⌜ r ≡ freshState offset global ⌝ }
 {
     State {
@@ -122,7 +123,8 @@ fn tempos_of(given: usize) -> usize
     given
 }
 
-fn either<'a>(first: bool, one: &'a [f32], other: &'a [f32]) -> &'a [f32]
+// One of two columns.
+pub fn either<'a>(first: bool, one: &'a [f32], other: &'a [f32]) -> &'a [f32]
     ensures { λ r. ⌜ now r ≡ pick first (now (one .entry)) (now (other .entry)) ⌝ }
 {
     if first {

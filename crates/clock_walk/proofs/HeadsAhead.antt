@@ -176,9 +176,9 @@ module _ (h : Heads) where
     unfolding aheadOf
     tempo-found = rw (tempo-least, far)
 
-    -- the asked beat may be on its row
-    pub tempo-due : (r : ℤ) → ltZ r (h .tempo) ≡ false → dueOf r (aheadOf h) ≡ Passes tempoOf
-    tempo-due r up-to = rw (tempo-found, first-up-to r tempoOf refl up-to)
+  -- the asked beat may be on its row
+  pub tempo-due : aheadOf h ≡ Found tempoOf → (r : ℤ) → ltZ r (h .tempo) ≡ false → dueOf r (aheadOf h) ≡ Passes tempoOf
+  tempo-due e r up-to = rw (e, first-up-to r tempoOf refl up-to)
 
 -- ---- the heads after an event
 arrived-heads : (t : Timing) (s : State) (at : ℤ) (time number : Float) (k : Event) → let s′ = arrived s at time number k in

@@ -20,3 +20,4 @@ pub mod HeadsAhead
 pub mod LaterBeats
 pub mod PlacesWithin
 pub mod OneTempo
+pub mod OverByATime

@@ -4,6 +4,7 @@ pub mod Passing
 pub mod Course
 pub mod Walk
 pub mod EndMark
+pub mod ByTime
 pub mod Quiet
 pub mod Soon
 pub mod Heads

@@ -1,10 +1,10 @@
 // The walk through the events of a timing, up to an asked row.
 use chart::State;
 ghost use mathlib.Core.Path.{_≡_};
-ghost use mathlib.Core.Bool.{true};
+ghost use mathlib.Core.Bool.{true, false};
 ghost use Prim.Native.Nat.{_<_, _^_};
 ghost use lib.ListN.{length, getD};
-ghost use lib.Ieee.{nan};
+ghost use lib.Ieee.{nan, lt};
 ghost use Rattle.ieee.specs.Constants.{sixty};
 ghost use Rattle.chart.specs.Timing.{timing};
 ghost use Rattle.clock_walk.specs.Events.{goesFirst, goesBefore, dueOf};
@@ -14,9 +14,11 @@ ghost use Rattle.clock_walk.specs.inside.CanMove.{CanMove};
 ghost use Rattle.clock_walk.specs.Quiet.{rowAt, endRow, notBefore, isLater, isNextLater, onlyTempos};
 ghost use Rattle.clock_walk.specs.Soon.{quietAt, tempoPassed, rowAfter, soonOf};
 ghost use Rattle.clock_walk.specs.declared.Event.the-variants.{Tempo};
+ghost use Rattle.clock_walk.specs.declared.Ahead.the-variants.{Found};
 ghost use Rattle.clock_walk.specs.declared.Due.the-variants.{Passes};
 ghost use Rattle.clock_walk.specs.Walk.{walk};
 ghost use Rattle.clock_walk.specs.EndMark.{greaterRow, endMark};
+ghost use Rattle.clock_walk.specs.ByTime.{stillRuns, pauseOf, walkBy};
 
 // What a walk passes, in the order in which events of one row come; the asked beat comes between a delay and a stop.
 pub enum Event {
@@ -229,13 +231,10 @@ fn goes_before(next: Next, asked: i32) -> bool
     goes_first(kind)
 }
 
-// True only where a tempo is due: no other head is looked at twice.
-fn is_tempo_due(heads: Heads, asked: i32) -> bool
-    ensures { λ r. ⌜ (r ≡ true → dueOf asked (aheadOf heads) ≡ Passes (record { row = heads .tempo; kind = Tempo })) ⌝ }
+// True only where a tempo is ahead and alone on its row, as most events of many charts are: no other head is looked at twice.
+fn is_tempo_ahead(heads: Heads) -> bool
+    ensures { λ r. ⌜ (r ≡ true → aheadOf heads ≡ Found (record { row = heads .tempo; kind = Tempo })) ⌝ }
 {
-    if asked < heads.tempo {
-        return false;
-    }
     if heads.tempo < heads.stop {
         if heads.tempo < heads.delay {
             if heads.tempo < heads.warp {
@@ -246,6 +245,16 @@ fn is_tempo_due(heads: Heads, asked: i32) -> bool
         return false;
     }
     false
+}
+
+// True only where such a tempo is due.
+fn is_tempo_due(heads: Heads, asked: i32) -> bool
+    ensures { λ r. ⌜ (r ≡ true → dueOf asked (aheadOf heads) ≡ Passes (record { row = heads .tempo; kind = Tempo })) ⌝ }
+{
+    if asked < heads.tempo {
+        return false;
+    }
+    is_tempo_ahead(heads)
 }
 
 // What is due: an event that goes before the asked beat, or the beat.
@@ -262,7 +271,7 @@ fn find_due(heads: Heads, asked: i32) -> Due
 // ---- time
 
 // A number of a list, and a NaN beyond its end.
-fn read_at(values: &[f32], place: usize) -> f64
+pub fn read_at(values: &[f32], place: usize) -> f64
     ensures { λ r. ⌜ r ≡ getD (now (values .entry)) place nan ⌝ }
 {
     if place < values.len() {
@@ -311,7 +320,7 @@ fn get_bpm_for_row(row: i32, tempo_beats: &[f32], tempo_values: &[f32]) -> f64
 }
 
 // The tempo that a walk begins with where none is passed yet.
-fn early_tempo(state: State, tempo_beats: &[f32], tempo_values: &[f32]) -> f64
+pub fn early_tempo(state: State, tempo_beats: &[f32], tempo_values: &[f32]) -> f64
     ensures { λ r. ⌜ r ≡ earlyTempo (now («tempo_beats» .entry)) (now («tempo_values» .entry)) state ⌝ }
 {
     let place = state.tempos;
@@ -739,5 +748,145 @@ pub fn walk_all(
             warp_beats,
         );
         greatest = greater_of(greatest, next.row);
+    }
+}
+
+// ---- the walk to a time
+
+// The pause that a walk stopped in.
+pub enum Pausing {
+    InDelay,
+    InFreeze,
+    NoPause,
+}
+
+// The state after the last event passed, how many were passed, the pause that runs there and the tempo in force.
+pub struct ByTime {
+    pub state: State,
+    pub passed: usize,
+    pub pause: Pausing,
+    pub tempo: f64,
+}
+
+// Whether an event that came at a time and brings a number is a pause that is not over.
+fn still_runs(elapsed: f64, time: f64, number: f64, kind: Event) -> bool
+    ensures { λ r. ⌜ r ≡ stillRuns elapsed time number kind ⌝ }
+{
+    match kind {
+        Event::WarpEnd => false,
+        Event::Tempo => false,
+        Event::Delay => elapsed < time + number,
+        Event::Stop => elapsed < time + number,
+        Event::Warp => false,
+    }
+}
+
+fn pause_of(kind: Event) -> Pausing
+    ensures { λ r. ⌜ r ≡ pauseOf kind ⌝ }
+{
+    match kind {
+        Event::WarpEnd => Pausing::NoPause,
+        Event::Tempo => Pausing::NoPause,
+        Event::Delay => Pausing::InDelay,
+        Event::Stop => Pausing::InFreeze,
+        Event::Warp => Pausing::NoPause,
+    }
+}
+
+// True only where a tempo is ahead, alone on its row, and has come by a time.
+fn is_tempo_over(state: State, heads: Heads, elapsed: f64, early: f64, tempo_values: &[f32]) -> bool
+    ensures { λ r. ⌜ (r ≡ true → (aheadOf heads ≡ Found (record { row = heads .tempo; kind = Tempo })) × (lt elapsed (timeAt early (now («tempo_values» .entry)) state (heads .tempo)) ≡ false)) ⌝ }
+{
+    if is_tempo_ahead(heads) {
+        let later = elapsed < time_at(state, heads.tempo, early, tempo_values);
+        return !later;
+    }
+    false
+}
+
+// From a state on, every event that is over by a time; early is the tempo before any is passed. Tempos have a branch of their own, as in `walk_to`.
+pub fn walk_by(
+    start: State,
+    elapsed: f64,
+    early: f64,
+    tempo_beats: &[f32],
+    tempo_values: &[f32],
+    stop_beats: &[f32],
+    stop_values: &[f32],
+    delay_beats: &[f32],
+    delay_values: &[f32],
+    warp_beats: &[f32],
+    warp_lengths: &[f32],
+) -> ByTime
+    ensures { λ r.
+        let t = timing «tempo_beats».entry.now «tempo_values».entry.now «stop_beats».entry.now «stop_values».entry.now
+        «delay_beats».entry.now «delay_values».entry.now «warp_beats».entry.now «warp_lengths».entry.now in
+        ⌜ r ≡ walkBy elapsed early t start ⌝ }
+{
+    let mut state = start;
+    let mut heads = heads_of(start, tempo_beats, stop_beats, delay_beats, warp_beats);
+    let mut passed: usize = 0;
+    loop {
+        if is_tempo_over(state, heads, elapsed, early, tempo_values) {
+            let tempo = Next {
+                row: heads.tempo,
+                kind: Event::Tempo,
+            };
+            let time = time_at(state, heads.tempo, early, tempo_values);
+            state = pass_event(state, tempo, time, 0.0);
+            heads.tempo = row_at(tempo_beats, state.tempos);
+            passed = passed + 1;
+            continue;
+        }
+        let found = find_ahead(heads);
+        let Ahead::Found(next) = found else {
+            let tempo = tempo_in_force(early, tempo_values, state.tempos);
+            return ByTime {
+                state,
+                passed,
+                pause: Pausing::NoPause,
+                tempo,
+            };
+        };
+        let time = time_at(state, next.row, early, tempo_values);
+        if elapsed < time {
+            let tempo = tempo_in_force(early, tempo_values, state.tempos);
+            return ByTime {
+                state,
+                passed,
+                pause: Pausing::NoPause,
+                tempo,
+            };
+        }
+        let kind = next.kind;
+        let number = number_of(
+            state,
+            kind,
+            stop_values,
+            delay_values,
+            warp_beats,
+            warp_lengths,
+        );
+        if still_runs(elapsed, time, number, kind) {
+            let tempo = tempo_in_force(early, tempo_values, state.tempos);
+            let pause = pause_of(kind);
+            return ByTime {
+                state,
+                passed,
+                pause,
+                tempo,
+            };
+        }
+        state = pass_event(state, next, time, number);
+        heads = heads_after(
+            heads,
+            kind,
+            state,
+            tempo_beats,
+            stop_beats,
+            delay_beats,
+            warp_beats,
+        );
+        passed = passed + 1;
     }
 }

@@ -1078,6 +1078,60 @@ fn replay_run(words: &[u64], floats: &[f32], numbers: &[f64], at: usize) -> Repl
     }
 }
 
+// ---- beat from time
+
+// Many times at once, in five columns.
+fn replay_times(words: &[u64], floats: &[f32], numbers: &[f64], at: usize) -> Replayed {
+    let tempo_beats_at = further(at, 1);
+    let tempo_values_at = behind(words, tempo_beats_at);
+    let stop_beats_at = behind(words, tempo_values_at);
+    let stop_values_at = behind(words, stop_beats_at);
+    let delay_beats_at = behind(words, stop_values_at);
+    let delay_values_at = behind(words, delay_beats_at);
+    let warp_beats_at = behind(words, delay_values_at);
+    let warp_lengths_at = behind(words, warp_beats_at);
+    let times_at = behind(words, warp_lengths_at);
+    let numbers_at = behind(words, times_at);
+    let beats_at = behind(words, numbers_at);
+    let freezes_at = behind(words, beats_at);
+    let delays_at = behind(words, freezes_at);
+    let counts_at = behind(words, delays_at);
+    let answer_at = behind(words, counts_at);
+    let mut numbers_room = [77u32; ROOM];
+    let mut beats_room = [1.5; ROOM];
+    let mut freezes_room = [77u8; ROOM];
+    let mut delays_room = [77u8; ROOM];
+    let mut counts_room = [77usize; ROOM];
+    let number = clock_by_time::get_beat_infos_from_times(
+        f32_column(floats, words, tempo_beats_at),
+        f32_column(floats, words, tempo_values_at),
+        f32_column(floats, words, stop_beats_at),
+        f32_column(floats, words, stop_values_at),
+        f32_column(floats, words, delay_beats_at),
+        f32_column(floats, words, delay_values_at),
+        f32_column(floats, words, warp_beats_at),
+        f32_column(floats, words, warp_lengths_at),
+        ieee_patterns::f64_of_bits(word_at(words, answer_at)),
+        ieee_patterns::f64_of_bits(word_at(words, further(answer_at, 1))),
+        f64_column(numbers, words, times_at),
+        &mut numbers_room,
+        &mut beats_room,
+        &mut freezes_room,
+        &mut delays_room,
+        &mut counts_room,
+    );
+    let mut same = is_u32(number, word_at(words, further(answer_at, 2)));
+    same = both(same, same_u32s(words, numbers_at, &numbers_room));
+    same = both(same, same_f64s(words, beats_at, &beats_room));
+    same = both(same, same_bytes(words, freezes_at, &freezes_room));
+    same = both(same, same_bytes(words, delays_at, &delays_room));
+    same = both(same, same_counts(words, counts_at, &counts_room));
+    Replayed {
+        same: same,
+        next: further(answer_at, 3),
+    }
+}
+
 // ---- notes
 
 // A position, and why there is none.
@@ -1345,6 +1399,7 @@ fn replay_case(
         15 => replay_tempo_text(words, numbers, at),
         16 => replay_tempo_text_f32(words, floats, at),
         17 => replay_number_text(words, at),
+        18 => replay_times(words, floats, numbers, at),
         _ => Replayed {
             same: false,
             next: words.len(),

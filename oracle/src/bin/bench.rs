@@ -2,6 +2,7 @@
 
 use oracle::assembly;
 use oracle::bench_clock;
+use oracle::by_time;
 use oracle::calls::{self, Call, Visit};
 use oracle::cases::Cases;
 use oracle::charts;
@@ -16,7 +17,8 @@ use oracle::speeds::{self, Columns as SpeedColumns};
 use oracle::tempo_text::{self, MOST_ENTRY_BYTES, Width};
 use oracle::tidying::{self, Rows, Scrolls, Tempos, Tidying};
 use oracle::timing::{
-    compute_row_to_beat, convert_warps_and_delays_to_sm_stops, get_displayed_beat, get_time_for_beat, probe,
+    compute_row_to_beat, convert_warps_and_delays_to_sm_stops, get_beat_info_from_time, get_displayed_beat,
+    get_time_for_beat, probe,
 };
 use oracle::timings::{Chart, DELAYS, STOPS, TEMPOS, WARPS};
 use std::hint::black_box;
@@ -91,6 +93,12 @@ fn main() {
     println!("nanoseconds a question of 2,000 before the mark; beside the port's own question without a mark");
     for (name, chart) in [("a typical chart", chart([50, 30, 10, 10])), ("1,000 tempos", chart([1_000, 0, 0, 0]))] {
         ASKED.iter().for_each(|order| bench.before_the_mark(name, &chart, *order));
+    }
+    println!(
+        "nanoseconds a time of 2,000, from the start each, but in a run, which goes on where times rise and tests the timing once"
+    );
+    for (name, chart) in [("a typical chart", chart([50, 30, 10, 10])), ("1,000 tempos", chart([1_000, 0, 0, 0]))] {
+        ASKED[..1].iter().chain(&ASKED[2..]).for_each(|order| bench.by_time(name, &chart, *order));
     }
     println!(
         "nanoseconds a call of the port's two clocks; each call tests the timing, and a question to the bench clock lays all events out first"
@@ -626,6 +634,58 @@ impl Bench {
                     *time = clock::lent_time_for_beat_checked(&mut cursor, black_box(chart), *beat).time;
                 }
             },
+        );
+    }
+}
+
+impl Bench {
+    /// Times from the first event to behind the last, evenly spread.
+    fn by_time(&mut self, name: &str, chart: &Chart, (order, arrange): Order) {
+        let last = clock::fresh_time_for_beat(chart, 520.0).time;
+        let mut times: Vec<_> = (0..2_000).map(|place| last * place as f64 / 2_000.0).collect();
+        arrange(&mut times, &mut Random::new(1, "bench of beat from time"));
+        let (timing, count) = (chart.original(), times.len());
+        assert_eq!(clock::check_timing(chart), 0);
+        let (mut beats, mut others) = (vec![0.0; count], vec![0.0; count]);
+        let mut original = || {
+            for (time, beat) in black_box(&times).iter().zip(black_box(&mut others)) {
+                *beat = get_beat_info_from_time(black_box(&timing), *time).beat;
+            }
+        };
+        type Question = fn(&Chart, f64) -> f64;
+        let forms: [(&str, Question); 2] = [
+            ("get_beat_info_from_time_checked", |chart, time| {
+                by_time::get_beat_info_from_time_checked(chart, time).beat
+            }),
+            ("get_beat_info_from_time, tests of the lists and all,", |chart, time| {
+                by_time::get_beat_info_from_time(chart, time).beat
+            }),
+        ];
+        for (form, ask) in forms {
+            self.line(
+                &format!("{form} over {name}, {order}"),
+                count,
+                || {
+                    for (time, beat) in black_box(&times).iter().zip(black_box(&mut beats)) {
+                        *beat = ask(black_box(chart), *time);
+                    }
+                },
+                &mut original,
+            );
+        }
+        let mut columns = by_time::Columns::new(count);
+        self.line(
+            &format!("get_beat_infos_from_times over {name}, {order}"),
+            count,
+            || {
+                black_box(by_time::get_beat_infos_from_times(
+                    black_box(chart),
+                    black_box(&times),
+                    &mut columns,
+                    [count; 5],
+                ));
+            },
+            &mut original,
         );
     }
 }

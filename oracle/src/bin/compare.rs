@@ -1,6 +1,7 @@
 //! compare SEED SECONDS: the port against the original, bit for bit; a NaN equals any NaN.
 
 use oracle::bench_clock;
+use oracle::by_time;
 use oracle::calls::{self, Call, Visit, called};
 use oracle::cases::{Cases, LAST_ROW, Work};
 use oracle::clock;
@@ -30,6 +31,7 @@ fn main() -> ExitCode {
     sm_stops::compare_all(work, &mut total);
     clock::compare_all(work, &mut total);
     marked::compare_all(work, &mut total);
+    by_time::compare_all(work, &mut total);
     bench_clock::compare_all(work, &mut total);
     edits::compare_all(work, &mut total);
     speeds::compare_all(work, &mut total);

@@ -1,6 +1,6 @@
 //! list_vectors: the original's answers to a sample of lists, charts and timings, for the program `replay_lists`.
 
-use oracle::{clock, lookups, notes, processing, sm_stops, speeds, stored, tempo_text, tidying};
+use oracle::{by_time, clock, lookups, notes, processing, sm_stops, speeds, stored, tempo_text, tidying};
 
 fn main() {
     let mut cases = Vec::new();
@@ -12,5 +12,6 @@ fn main() {
     clock::stored_cases(&mut cases);
     notes::stored_cases(&mut cases);
     tempo_text::stored_cases(&mut cases);
+    by_time::stored_cases(&mut cases);
     stored::print(&cases);
 }

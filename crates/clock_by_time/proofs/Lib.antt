@@ -1,0 +1,4 @@
+pub mod WalkedFresh
+pub mod LaterTimes
+pub mod InfoOutcome
+pub mod OneOutcome

@@ -1,0 +1,3 @@
+pub mod BeatAt
+pub mod ManyTimes
+pub mod inside

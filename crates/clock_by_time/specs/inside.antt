@@ -1,0 +1,2 @@
+pub mod AllTimes
+pub mod OnTheWay

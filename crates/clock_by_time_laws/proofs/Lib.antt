@@ -1,0 +1,3 @@
+pub mod AtMostOneRound
+pub mod FarWarpEnd
+pub mod AskedBack

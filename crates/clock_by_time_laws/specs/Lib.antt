@@ -1,0 +1,2 @@
+pub mod OneRound
+pub mod AskedBack

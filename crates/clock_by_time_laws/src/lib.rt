@@ -1,0 +1,1 @@
+// What a reader expects of the beat of a time. It has no code.
