@@ -15,6 +15,7 @@ ghost use Rattle.limits.specs.Numbers.{miss};
 ghost use Rattle.columns.specs.Each.{laidEach};
 ghost use Rattle.columns.specs.Laying.{LaidPair};
 ghost use Rattle.tidy_rows.specs.RowTidying.{rowsNumber};
+ghost use Rattle.tidy_tempos.specs.inside.Keeping.{fallsTo};
 ghost use Rattle.assembly_rows.specs.AssembledRows.{changeBy, narrowedFront, eachByItself, EachLaid, RowsAssembled, RowsUntested, rowsFit};
 ghost use Rattle.limits.specs.Neighbours.{everyTwo, notFalling};
 
@@ -196,7 +197,7 @@ pub fn lay_narrowed(
     }
 }
 
-// ---- the order of beats: a loop that counts what fails has no branch
+// ---- the order of beats: a loop that counts what fails has no branch, and one that ends at what fails costs little where that is early
 
 fn not_below(beat: f32, next: f32) -> usize
     ensures { λ r. ⌜ r ≡ miss (λ (e : Float × Float). lt (e .0) (e .1)) (beat, next) ⌝ }
@@ -217,17 +218,23 @@ pub fn rise(beats: &[f32]) -> bool
     fail == 0
 }
 
-// Whether each beat is above the next.
-fn fall(beats: &[f32]) -> bool
-    ensures { λ r. ⌜ r ≡ everyTwo (λ (beat next : Float). lt next beat) beats.entry.now ⌝ }
+// Whether each beat is below the one before it. A list that rises early is told by few beats.
+fn falls_throughout(beats: &[f32]) -> bool
+    ensures { λ r. ⌜ r ≡ everyTwo fallsTo beats.entry.now ⌝ }
 {
-    let mut fail: usize = 0;
     let mut i = 0;
-    while i + 1 < beats.len() {
-        fail += not_below(beats[i + 1], beats[i]);
-        i += 1;
+    while i < beats.len() {
+        let next = i + 1;
+        if next < beats.len() {
+            if beats[next] < beats[i] {
+                i = next;
+                continue;
+            }
+            return false;
+        }
+        return true;
     }
-    fail == 0
+    true
 }
 
 fn above(beat: f64, next: f64) -> usize
@@ -402,10 +409,10 @@ fn lay_turned(
 // Whether quantised beats fall, of a list that is taken: the assembled list is then what is given, turned round.
 fn falls_and_taken(beats: &[f64], values: &[f64], quantised: &[f32]) -> bool
     ensures { λ r.
-        let falls = everyTwo (λ (beat next : Float). lt next beat) quantised.entry.now in
-        ⌜ r ≡ pick falls (eqb (rowsNumber beats.entry.now values.entry.now) 0) false ⌝ }
+        let tests = rowsNumber beats.entry.now values.entry.now in
+        ⌜ r ≡ pick (everyTwo fallsTo quantised.entry.now) (eqb tests 0) false ⌝ }
 {
-    if fall(quantised) {
+    if falls_throughout(quantised) {
         return limits::list_number(Kind::Beat, Kind::Value, beats, values) == limits::TAKEN;
     }
     false
