@@ -1,6 +1,7 @@
 pub mod InRowOrder
 pub mod QuantizedTaken
 pub mod RisingRows
+pub mod FallingRows
 pub mod NarrowedFront
 pub mod Outcomes
 pub mod WrittenRises

@@ -1,10 +1,11 @@
--- A list that is not tested first is laid each by itself or assembled, and where it is taken both are the same. Assumes nothing.
+-- A list that is not tested first is laid each by itself or assembled, turned round where its beats fall, and where it is taken both are the same. Assumes nothing.
 use Prim.Native.Nat.{_≤_, _<_}
 use mathlib.Core.Path.{_≡_, refl, sym, ap, _∙_}
 use mathlib.Core.Bool.{Bool, true, false}
-use mathlib.Core.List.{List, map}
+use mathlib.Core.List.{List, map, reverse}
 use native.Mathlib.Omega.{arith}
-use borrow.Author.Tests.{eq-eqb, ne-eqb, le-leb, lt-leb}
+use borrow.Author.Tests.{eq-eqb, ne-eqb, le-leb, lt-leb, eqb-true}
+use lib.Dec.{eqb}
 use lib.ListN.{length, length-map}
 use lib.Ieee.{Float, lt}
 use Rattle.picks.specs.Pick.{pick}
@@ -15,12 +16,15 @@ use Rattle.limits.specs.Numbers.{rangeOf}
 use Rattle.limits.specs.Refusals.{listNumber}
 use Rattle.limits.specs.Neighbours.{everyTwo}
 use Rattle.limits.proofs.ListTaken.{list-taken}
+use Rattle.order.proofs.OrderedList.{both}
 use Rattle.columns.specs.declared.Outcome.{Outcome}
 use Rattle.columns.specs.Laying.{refusedBy, LaidPair}
 use Rattle.tidy_rows.specs.RowTidying.{rowsNumber}
+use Rattle.tidy_tempos.specs.inside.Keeping.{fallsTo}
 use Rattle.assembly_rows.specs.AssembledRows.{changeBy, assembledRows, assembledNumber, eachByItself, EachLaid, byItself, RowsAssembled, RowsUntested}
 use Rattle.assembly_rows.proofs.QuantizedTaken.{quantized-taken}
 use Rattle.assembly_rows.proofs.RisingRows.{rising-list}
+use Rattle.assembly_rows.proofs.FallingRows.{falling-list}
 use Rattle.assembly_rows.proofs.Outcomes.{refused-as, long-number}
 
 module _ (beats values : List Float) where
@@ -58,6 +62,16 @@ module _ (beats values : List Float) where
       rising {quantised} even few e h p =
           rw (by-itself even few ∙ sym (ap (everyTwo lt) e) ∙ h)
           (rw (eq-eqb (length (map quantized beats)) (length values) (length-map beats quantized ∙ even)) at (rw e at p))
+
+      -- where they fall, of a taken list
+      pub falling : {quantised : List Float} → length beats ≡ length values → length beats ≤ 1024 → quantised ≡ map quantized beats → everyTwo lt quantised ≡ false
+          → pick (everyTwo fallsTo quantised) (eqb (rowsNumber beats values) 0) false ≡ true
+          → LaidPair 0 (reverse (eachByItself whole quantised values)) outcome beatsOld beatsNew valuesOld valuesNew → RowsUntested whole beats values outcome beatsOld beatsNew valuesOld valuesNew
+      falling {quantised} even few e h t p =
+          let both-so = both (λ (x : Float). 0) (everyTwo fallsTo quantised) (eqb (rowsNumber beats values) 0) t in
+          let passes = eqb-true (rowsNumber beats values) 0 (both-so .1) in
+          not-rising even few (ap (everyTwo lt) (sym e) ∙ h)
+          (rw (quantized-taken beats values whole passes, falling-list whole beats values passes (ap (everyTwo fallsTo) (sym e) ∙ both-so .0)) (rw e at p))
 
       -- of a taken list
       module _ (h : rowsNumber beats values ≡ 0) where

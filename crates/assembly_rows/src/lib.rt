@@ -2,15 +2,21 @@
 use columns::Outcome;
 use limits::Kind;
 ghost use mathlib.Core.Path.{_≡_};
+ghost use mathlib.Core.Bool.{false};
+ghost use mathlib.Core.List.{reverse};
 ghost use Prim.Native.Nat.{_≤_, _<_};
+ghost use lib.Dec.{eqb};
 ghost use lib.ListN.{length, take};
 ghost use lib.Ieee.{Float, lt};
 ghost use Rattle.ieee.specs.Narrowing.{narrow};
+ghost use Rattle.picks.specs.Pick.{pick};
 ghost use Rattle.rows.specs.Rows.{quantized, quantized32};
 ghost use Rattle.limits.specs.Numbers.{miss};
 ghost use Rattle.columns.specs.Each.{laidEach};
 ghost use Rattle.columns.specs.Laying.{LaidPair};
-ghost use Rattle.assembly_rows.specs.AssembledRows.{changeBy, narrowedFront, EachLaid, RowsAssembled, RowsUntested, rowsFit};
+ghost use Rattle.tidy_rows.specs.RowTidying.{rowsNumber};
+ghost use Rattle.tidy_tempos.specs.inside.Keeping.{fallsTo};
+ghost use Rattle.assembly_rows.specs.AssembledRows.{changeBy, narrowedFront, eachByItself, EachLaid, RowsAssembled, RowsUntested, rowsFit};
 ghost use Rattle.limits.specs.Neighbours.{everyTwo, notFalling};
 
 // ---- numbers
@@ -191,7 +197,7 @@ pub fn lay_narrowed(
     }
 }
 
-// ---- the order of beats: a loop that counts what fails has no branch
+// ---- the order of beats: a loop that counts what fails has no branch, and one that ends at what fails costs little where that is early
 
 fn not_below(beat: f32, next: f32) -> usize
     ensures { λ r. ⌜ r ≡ miss (λ (e : Float × Float). lt (e .0) (e .1)) (beat, next) ⌝ }
@@ -210,6 +216,25 @@ pub fn rise(beats: &[f32]) -> bool
         i += 1;
     }
     fail == 0
+}
+
+// Whether each beat is below the one before it. A list that rises early is told by few beats.
+fn falls_throughout(beats: &[f32]) -> bool
+    ensures { λ r. ⌜ r ≡ everyTwo fallsTo beats.entry.now ⌝ }
+{
+    let mut i = 0;
+    while i < beats.len() {
+        let next = i + 1;
+        if next < beats.len() {
+            if beats[next] < beats[i] {
+                i = next;
+                continue;
+            }
+            return false;
+        }
+        return true;
+    }
+    true
 }
 
 fn above(beat: f64, next: f64) -> usize
@@ -335,7 +360,7 @@ fn assemble_any(
     assemble_many(beats, values, whole, out_beats, out_values)
 }
 
-// ---- lists of one length: where quantised beats rise they are written as they are, and so is each value. No number is tested
+// ---- lists of one length: where quantised beats rise each number is written by itself, and none is tested; where they fall, of a list that is taken, the same turned round
 
 // Quantised beats over the front of one room, and each value by itself, as f32, over the front of the other: 2 where they are not as many, 7 where they do not fit.
 pub fn lay_each(
@@ -362,6 +387,37 @@ pub fn lay_each(
     }
 }
 
+// The same of as many values as beats, the last first: both fronts are turned round in their place.
+fn lay_turned(
+    quantised: &[f32],
+    values: &[f64],
+    whole: bool,
+    out_beats: &mut [f32],
+    out_values: &mut [f32],
+) -> Outcome
+    requires { ⌜ length quantised.now ≡ length values.now ⌝ }
+    ensures { λ r.
+        let turned = reverse (eachByItself whole quantised.entry.now values.entry.now) in
+        ⌜ LaidPair 0 turned r «out_beats».entry.now «out_beats».exit.now «out_values».entry.now «out_values».exit.now ⌝ }
+{
+    let outcome = lay_each(quantised, values, whole, out_beats, out_values);
+    columns::turn(&mut out_beats[..outcome.count]);
+    columns::turn(&mut out_values[..outcome.count]);
+    outcome
+}
+
+// Whether quantised beats fall, of a list that is taken: the assembled list is then what is given, turned round.
+fn falls_and_taken(beats: &[f64], values: &[f64], quantised: &[f32]) -> bool
+    ensures { λ r.
+        let tests = rowsNumber beats.entry.now values.entry.now in
+        ⌜ r ≡ pick (everyTwo fallsTo quantised.entry.now) (eqb tests 0) false ⌝ }
+{
+    if falls_throughout(quantised) {
+        return limits::list_number(Kind::Beat, Kind::Value, beats, values) == limits::TAKEN;
+    }
+    false
+}
+
 fn assemble_even(
     beats: &[f64],
     values: &[f64],
@@ -376,6 +432,9 @@ fn assemble_even(
     quantize_column_f32(beats, quantised);
     if rise(quantised) {
         return lay_each(quantised, values, whole, out_beats, out_values);
+    }
+    if falls_and_taken(beats, values, quantised) {
+        return lay_turned(quantised, values, whole, out_beats, out_values);
     }
     assemble_any(beats, values, whole, out_beats, out_values)
 }

@@ -8,3 +8,5 @@ pub mod KeptLaid
 pub mod AllKept
 pub mod EachTurned
 pub mod TurnedLaid
+pub mod TurnedInPlace
+pub mod FrontsTurned

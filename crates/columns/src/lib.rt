@@ -53,3 +53,18 @@ pub fn copy_turned(from: &[f64], to: &mut [f64])
         i += 1;
     }
 }
+
+// Turns a column round in its place.
+pub fn turn(column: &mut [f32])
+    ensures { λ _. ⌜ column.exit.now ≡ reverse column.entry.now ⌝ }
+{
+    let n = column.len();
+    let mut i = 0;
+    while i < n / 2 {
+        let other = n - 1 - i;
+        let number = column[i];
+        column[i] = column[other];
+        column[other] = number;
+        i += 1;
+    }
+}

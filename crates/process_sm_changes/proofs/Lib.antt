@@ -5,4 +5,3 @@ pub mod Outcomes
 pub mod EachStays
 pub mod OrderSoFar
 pub mod OneOutcome
-pub mod TurnedInPlace
