@@ -12,49 +12,19 @@ Inv-loop words column found size same₀ i₀ same i = i ≤ length found
 abbrev μ-loop : tie.MeasureT-loop
 μ-loop words column found size same₀ i₀ same i = length found - i
 
-size-at-requires : tie.Need-size-at-requires Inv-loop μ-loop
-size-at-requires c κs = search needs
-
-loop-holds : tie.Need-loop-holds Inv-loop μ-loop
-loop-holds c = search needs
-
-entry-or-requires : tie.Need-entry-or-requires Inv-loop μ-loop
-entry-or-requires c κs = search needs
-
-mul-both : tie.Need-mul-both Inv-loop μ-loop
-mul-both c = search needs
-
-shared-slice-read-both : tie.Need-shared-slice-read-both Inv-loop μ-loop
-shared-slice-read-both c = search needs
-
-both-requires : tie.Need-both-requires Inv-loop μ-loop
-both-requires c κs = search needs
-
-add-i : tie.Need-add-i Inv-loop μ-loop
-add-i c = search needs
-
-loop-less : tie.Need-loop-less Inv-loop μ-loop
-loop-less c = omega arith
-
-loop-again : tie.Need-loop-again Inv-loop μ-loop
-loop-again c = search needs
-
-returns : tie.Need-returns Inv-loop μ-loop
-returns c = search needs
-
 pub same-counts-spec : {M : Type 1} → statement M
 same-counts-spec =
     tie.close
     (tie.spec
     Inv-loop
     μ-loop
-    size-at-requires
-    loop-holds
-    entry-or-requires
-    mul-both
-    shared-slice-read-both
-    both-requires
-    add-i
-    loop-less
-    loop-again
-    returns)
+    (λ c κs. search needs)
+    (λ c. search needs)
+    (λ c κs. search needs)
+    (λ c. search needs)
+    (λ c. search needs)
+    (λ c κs. search needs)
+    (λ c. search needs)
+    (λ c. omega arith)
+    (λ c. search needs)
+    (λ c. search needs))
