@@ -11,6 +11,7 @@ ghost use lib.ListN.{length};
 ghost use Rattle.picks.specs.Pick.{pick};
 ghost use Rattle.limits.specs.Numbers.{rangeOf, inRange, every, rowIn};
 ghost use Rattle.rows.specs.RowKey.{rowKey};
+ghost use Rattle.lookup_tests.specs.LookupLists.{listColumns, warpLists, lookupLists};
 ghost use Rattle.lookup_tests.specs.Refused.{rowsRise, warpNumber, fakeNumber, judgableNumber};
 ghost use Rattle.lookup.specs.Lookups.{isPaused, isWarped, isFake, isJudgable, askedRow, looked, byte, Judged};
 ghost use Rattle.lookup.specs.inside.Finding.{Usable, AllUsable, Split, Between, keyBefore, keyAfter, Stands, PlaceStands, spanCovers, startOf, warpEnd, fakeEnd, Holds, HeldStands, AllStand};
@@ -241,7 +242,10 @@ fn is_unpaused(
 ) -> bool
     requires { ⌜ Usable (now «stop_beats») (now «stop_values») × PlaceStands (now «stop_beats») stops × Split key (now «stop_beats») (stops .count) ⌝ }
     requires { ⌜ Usable (now «delay_beats») (now «delay_values») × PlaceStands (now «delay_beats») delays × Split key (now «delay_beats») (delays .count) ⌝ }
-    ensures { λ r. ⌜ r ≡ pick (isPaused key (now («stop_beats» .entry)) (now («stop_values» .entry))) false (not (isPaused key (now («delay_beats» .entry)) (now («delay_values» .entry)))) ⌝ }
+    ensures { λ r.
+        let stopped = isPaused key «stop_beats».entry.now «stop_values».entry.now in
+        let delayed = isPaused key «delay_beats».entry.now «delay_values».entry.now in
+        ⌜ r ≡ pick stopped false (not delayed) ⌝ }
 {
     if is_paused(stop_beats, stop_values, stops, key) {
         return false;
@@ -262,8 +266,14 @@ fn warped_after(
     n: usize,
     row: i32,
 ) -> bool
-    requires { ⌜ Usable (now «stop_beats») (now «stop_values») × Usable (now «delay_beats») (now «delay_values») × Usable (now «warp_beats») (now «warp_lengths») × Split (rowKey row) (now «warp_beats») n ⌝ }
-    ensures { λ r. ⌜ r ≡ isWarped (now («stop_beats» .entry)) (now («stop_values» .entry)) (now («delay_beats» .entry)) (now («delay_values» .entry)) (now («warp_beats» .entry)) (now («warp_lengths» .entry)) row ⌝ }
+    requires { ⌜ Usable «stop_beats».now «stop_values».now × Usable «delay_beats».now «delay_values».now
+        × Usable «warp_beats».now «warp_lengths».now × Split (rowKey row) «warp_beats».now n ⌝ }
+    ensures { λ r.
+        let lists = warpLists
+        «stop_beats».entry.now «stop_values».entry.now
+        «delay_beats».entry.now «delay_values».entry.now
+        «warp_beats».entry.now «warp_lengths».entry.now in
+        ⌜ r ≡ isWarped lists row ⌝ }
 {
     let key = rows::key_of_row(row);
     if covers(
@@ -287,7 +297,7 @@ fn warped_after(
 // Whether a row is fake, where the fakes at or before it are counted.
 fn fake_after(fake_beats: &[f32], fake_lengths: &[f32], n: usize, row: i32) -> bool
     requires { ⌜ Usable (now «fake_beats») (now «fake_lengths») × Split (rowKey row) (now «fake_beats») n ⌝ }
-    ensures { λ r. ⌜ r ≡ isFake (now («fake_beats» .entry)) (now («fake_lengths» .entry)) row ⌝ }
+    ensures { λ r. ⌜ r ≡ isFake (listColumns «fake_beats».entry.now «fake_lengths».entry.now) row ⌝ }
 {
     covers(
         start_of(fake_beats, n),
@@ -309,9 +319,20 @@ fn judgable_after(
     fakes: usize,
     row: i32,
 ) -> bool
-    requires { ⌜ AllUsable (now «stop_beats») (now «stop_values») (now «delay_beats») (now «delay_values») (now «warp_beats») (now «warp_lengths») (now «fake_beats») (now «fake_lengths») ⌝ }
+    requires { let lists = lookupLists
+        «stop_beats».now «stop_values».now
+        «delay_beats».now «delay_values».now
+        «warp_beats».now «warp_lengths».now
+        «fake_beats».now «fake_lengths».now in
+        ⌜ AllUsable lists ⌝ }
     requires { ⌜ Split (rowKey row) (now «warp_beats») warps × Split (rowKey row) (now «fake_beats») fakes ⌝ }
-    ensures { λ r. ⌜ r ≡ isJudgable (now («stop_beats» .entry)) (now («stop_values» .entry)) (now («delay_beats» .entry)) (now («delay_values» .entry)) (now («warp_beats» .entry)) (now («warp_lengths» .entry)) (now («fake_beats» .entry)) (now («fake_lengths» .entry)) row ⌝ }
+    ensures { λ r.
+        let lists = lookupLists
+        «stop_beats».entry.now «stop_values».entry.now
+        «delay_beats».entry.now «delay_values».entry.now
+        «warp_beats».entry.now «warp_lengths».entry.now
+        «fake_beats».entry.now «fake_lengths».entry.now in
+        ⌜ r ≡ isJudgable lists row ⌝ }
 {
     if warped_after(
         stop_beats,
@@ -347,7 +368,12 @@ fn look_up_warp(
     allowed: bool,
     row: i32,
 ) -> Looked
-    ensures { λ r. ⌜ r ≡ looked (warpNumber (now («stop_beats» .entry)) (now («stop_values» .entry)) (now («delay_beats» .entry)) (now («delay_values» .entry)) (now («warp_beats» .entry)) (now («warp_lengths» .entry)) allowed) (isWarped (now («stop_beats» .entry)) (now («stop_values» .entry)) (now («delay_beats» .entry)) (now («delay_values» .entry)) (now («warp_beats» .entry)) (now («warp_lengths» .entry)) row) ⌝ }
+    ensures { λ r.
+        let lists = warpLists
+        «stop_beats».entry.now «stop_values».entry.now
+        «delay_beats».entry.now «delay_values».entry.now
+        «warp_beats».entry.now «warp_lengths».entry.now in
+        ⌜ r ≡ looked (warpNumber lists allowed) (isWarped lists row) ⌝ }
 {
     let number = lookup_tests::warp_number(
         stop_beats,
@@ -382,7 +408,9 @@ fn look_up_warp(
 }
 
 fn look_up_fake(fake_beats: &[f32], fake_lengths: &[f32], allowed: bool, row: i32) -> Looked
-    ensures { λ r. ⌜ r ≡ looked (fakeNumber (now («fake_beats» .entry)) (now («fake_lengths» .entry)) allowed) (isFake (now («fake_beats» .entry)) (now («fake_lengths» .entry)) row) ⌝ }
+    ensures { λ r.
+        let fakes = listColumns «fake_beats».entry.now «fake_lengths».entry.now in
+        ⌜ r ≡ looked (fakeNumber fakes allowed) (isFake fakes row) ⌝ }
 {
     let number = lookup_tests::fake_number(fake_beats, fake_lengths, allowed);
     if number != limits::TAKEN {
@@ -411,7 +439,13 @@ fn look_up_judgable(
     allowed: bool,
     row: i32,
 ) -> Looked
-    ensures { λ r. ⌜ r ≡ looked (judgableNumber (now («stop_beats» .entry)) (now («stop_values» .entry)) (now («delay_beats» .entry)) (now («delay_values» .entry)) (now («warp_beats» .entry)) (now («warp_lengths» .entry)) (now («fake_beats» .entry)) (now («fake_lengths» .entry)) allowed) (isJudgable (now («stop_beats» .entry)) (now («stop_values» .entry)) (now («delay_beats» .entry)) (now («delay_values» .entry)) (now («warp_beats» .entry)) (now («warp_lengths» .entry)) (now («fake_beats» .entry)) (now («fake_lengths» .entry)) row) ⌝ }
+    ensures { λ r.
+        let lists = lookupLists
+        «stop_beats».entry.now «stop_values».entry.now
+        «delay_beats».entry.now «delay_values».entry.now
+        «warp_beats».entry.now «warp_lengths».entry.now
+        «fake_beats».entry.now «fake_lengths».entry.now in
+        ⌜ r ≡ looked (judgableNumber lists allowed) (isJudgable lists row) ⌝ }
 {
     let number = lookup_tests::judgable_number(
         stop_beats,
@@ -469,7 +503,12 @@ pub fn is_warp_at_row(
     warp_lengths: &[f32],
     row: i32,
 ) -> Looked
-    ensures { λ r. ⌜ r ≡ looked (warpNumber (now («stop_beats» .entry)) (now («stop_values» .entry)) (now («delay_beats» .entry)) (now («delay_values» .entry)) (now («warp_beats» .entry)) (now («warp_lengths» .entry)) (rowIn row)) (isWarped (now («stop_beats» .entry)) (now («stop_values» .entry)) (now («delay_beats» .entry)) (now («delay_values» .entry)) (now («warp_beats» .entry)) (now («warp_lengths» .entry)) row) ⌝ }
+    ensures { λ r.
+        let lists = warpLists
+        «stop_beats».entry.now «stop_values».entry.now
+        «delay_beats».entry.now «delay_values».entry.now
+        «warp_beats».entry.now «warp_lengths».entry.now in
+        ⌜ r ≡ looked (warpNumber lists (rowIn row)) (isWarped lists row) ⌝ }
 {
     look_up_warp(
         stop_beats,
@@ -493,7 +532,12 @@ pub fn is_warp_at_beat(
     warp_lengths: &[f32],
     beat: f64,
 ) -> Looked
-    ensures { λ r. ⌜ r ≡ looked (warpNumber (now («stop_beats» .entry)) (now («stop_values» .entry)) (now («delay_beats» .entry)) (now («delay_values» .entry)) (now («warp_beats» .entry)) (now («warp_lengths» .entry)) (inRange (rangeOf Kind.Beat) beat)) (isWarped (now («stop_beats» .entry)) (now («stop_values» .entry)) (now («delay_beats» .entry)) (now («delay_values» .entry)) (now («warp_beats» .entry)) (now («warp_lengths» .entry)) (askedRow beat)) ⌝ }
+    ensures { λ r.
+        let lists = warpLists
+        «stop_beats».entry.now «stop_values».entry.now
+        «delay_beats».entry.now «delay_values».entry.now
+        «warp_beats».entry.now «warp_lengths».entry.now in
+        ⌜ r ≡ looked (warpNumber lists (inRange (rangeOf Kind.Beat) beat)) (isWarped lists (askedRow beat)) ⌝ }
 {
     look_up_warp(
         stop_beats,
@@ -509,14 +553,18 @@ pub fn is_warp_at_beat(
 
 // Whether a row is fake: the last fake at or before it reaches beyond it.
 pub fn is_fake_at_row(fake_beats: &[f32], fake_lengths: &[f32], row: i32) -> Looked
-    ensures { λ r. ⌜ r ≡ looked (fakeNumber (now («fake_beats» .entry)) (now («fake_lengths» .entry)) (rowIn row)) (isFake (now («fake_beats» .entry)) (now («fake_lengths» .entry)) row) ⌝ }
+    ensures { λ r.
+        let fakes = listColumns «fake_beats».entry.now «fake_lengths».entry.now in
+        ⌜ r ≡ looked (fakeNumber fakes (rowIn row)) (isFake fakes row) ⌝ }
 {
     look_up_fake(fake_beats, fake_lengths, limits::row_taken(row), row)
 }
 
 // Whether the row of a beat is fake.
 pub fn is_fake_at_beat(fake_beats: &[f32], fake_lengths: &[f32], beat: f64) -> Looked
-    ensures { λ r. ⌜ r ≡ looked (fakeNumber (now («fake_beats» .entry)) (now («fake_lengths» .entry)) (inRange (rangeOf Kind.Beat) beat)) (isFake (now («fake_beats» .entry)) (now («fake_lengths» .entry)) (askedRow beat)) ⌝ }
+    ensures { λ r.
+        let fakes = listColumns «fake_beats».entry.now «fake_lengths».entry.now in
+        ⌜ r ≡ looked (fakeNumber fakes (inRange (rangeOf Kind.Beat) beat)) (isFake fakes (askedRow beat)) ⌝ }
 {
     look_up_fake(
         fake_beats,
@@ -538,7 +586,13 @@ pub fn is_judgable_at_row(
     fake_lengths: &[f32],
     row: i32,
 ) -> Looked
-    ensures { λ r. ⌜ r ≡ looked (judgableNumber (now («stop_beats» .entry)) (now («stop_values» .entry)) (now («delay_beats» .entry)) (now («delay_values» .entry)) (now («warp_beats» .entry)) (now («warp_lengths» .entry)) (now («fake_beats» .entry)) (now («fake_lengths» .entry)) (rowIn row)) (isJudgable (now («stop_beats» .entry)) (now («stop_values» .entry)) (now («delay_beats» .entry)) (now («delay_values» .entry)) (now («warp_beats» .entry)) (now («warp_lengths» .entry)) (now («fake_beats» .entry)) (now («fake_lengths» .entry)) row) ⌝ }
+    ensures { λ r.
+        let lists = lookupLists
+        «stop_beats».entry.now «stop_values».entry.now
+        «delay_beats».entry.now «delay_values».entry.now
+        «warp_beats».entry.now «warp_lengths».entry.now
+        «fake_beats».entry.now «fake_lengths».entry.now in
+        ⌜ r ≡ looked (judgableNumber lists (rowIn row)) (isJudgable lists row) ⌝ }
 {
     look_up_judgable(
         stop_beats,
@@ -566,7 +620,13 @@ pub fn is_judgable_at_beat(
     fake_lengths: &[f32],
     beat: f64,
 ) -> Looked
-    ensures { λ r. ⌜ r ≡ looked (judgableNumber (now («stop_beats» .entry)) (now («stop_values» .entry)) (now («delay_beats» .entry)) (now («delay_values» .entry)) (now («warp_beats» .entry)) (now («warp_lengths» .entry)) (now («fake_beats» .entry)) (now («fake_lengths» .entry)) (inRange (rangeOf Kind.Beat) beat)) (isJudgable (now («stop_beats» .entry)) (now («stop_values» .entry)) (now («delay_beats» .entry)) (now («delay_values» .entry)) (now («warp_beats» .entry)) (now («warp_lengths» .entry)) (now («fake_beats» .entry)) (now («fake_lengths» .entry)) (askedRow beat)) ⌝ }
+    ensures { λ r.
+        let lists = lookupLists
+        «stop_beats».entry.now «stop_values».entry.now
+        «delay_beats».entry.now «delay_values».entry.now
+        «warp_beats».entry.now «warp_lengths».entry.now
+        «fake_beats».entry.now «fake_lengths».entry.now in
+        ⌜ r ≡ looked (judgableNumber lists (inRange (rangeOf Kind.Beat) beat)) (isJudgable lists (askedRow beat)) ⌝ }
 {
     look_up_judgable(
         stop_beats,
@@ -720,8 +780,19 @@ fn first_cursor(
     fake_beats: &[f32],
     fake_lengths: &[f32],
 ) -> Cursor
-    requires { ⌜ AllUsable (now «stop_beats») (now «stop_values») (now «delay_beats») (now «delay_values») (now «warp_beats») (now «warp_lengths») (now «fake_beats») (now «fake_lengths») ⌝ }
-    ensures { λ r. ⌜ AllStand (now («stop_beats» .entry)) (now («delay_beats» .entry)) (now («warp_beats» .entry)) (now («warp_lengths» .entry)) (now («fake_beats» .entry)) (now («fake_lengths» .entry)) r ⌝ }
+    requires { let lists = lookupLists
+        «stop_beats».now «stop_values».now
+        «delay_beats».now «delay_values».now
+        «warp_beats».now «warp_lengths».now
+        «fake_beats».now «fake_lengths».now in
+        ⌜ AllUsable lists ⌝ }
+    ensures { λ r.
+        let lists = lookupLists
+        «stop_beats».entry.now «stop_values».entry.now
+        «delay_beats».entry.now «delay_values».entry.now
+        «warp_beats».entry.now «warp_lengths».entry.now
+        «fake_beats».entry.now «fake_lengths».entry.now in
+        ⌜ AllStand lists r ⌝ }
 {
     let warps = place_after(warp_beats, 0);
     let fakes = place_after(fake_beats, 0);
@@ -758,9 +829,19 @@ fn judge(
     cursor: Cursor,
     row: i32,
 ) -> Cursor
-    requires { ⌜ AllUsable (now «stop_beats») (now «stop_values») (now «delay_beats») (now «delay_values») (now «warp_beats») (now «warp_lengths») (now «fake_beats») (now «fake_lengths») ⌝ }
-    requires { ⌜ AllStand (now «stop_beats») (now «delay_beats») (now «warp_beats») (now «warp_lengths») (now «fake_beats») (now «fake_lengths») cursor ⌝ }
-    ensures { λ r. ⌜ AllStand (now («stop_beats» .entry)) (now («delay_beats» .entry)) (now («warp_beats» .entry)) (now («warp_lengths» .entry)) (now («fake_beats» .entry)) (now («fake_lengths» .entry)) r × (r .answer ≡ byte (isJudgable (now («stop_beats» .entry)) (now («stop_values» .entry)) (now («delay_beats» .entry)) (now («delay_values» .entry)) (now («warp_beats» .entry)) (now («warp_lengths» .entry)) (now («fake_beats» .entry)) (now («fake_lengths» .entry)) row)) ⌝ }
+    requires { let lists = lookupLists
+        «stop_beats».now «stop_values».now
+        «delay_beats».now «delay_values».now
+        «warp_beats».now «warp_lengths».now
+        «fake_beats».now «fake_lengths».now in
+        ⌜ AllUsable lists × AllStand lists cursor ⌝ }
+    ensures { λ r.
+        let lists = lookupLists
+        «stop_beats».entry.now «stop_values».entry.now
+        «delay_beats».entry.now «delay_values».entry.now
+        «warp_beats».entry.now «warp_lengths».entry.now
+        «fake_beats».entry.now «fake_lengths».entry.now in
+        ⌜ AllStand lists r × (r .answer ≡ byte (isJudgable lists row)) ⌝ }
 {
     let key = rows::key_of_row(row);
     let at = rows::note_row_to_beat_f32(row);
@@ -840,9 +921,20 @@ fn judge_rows(
     rows: &[i32],
     out: &mut [u8],
 )
-    requires { ⌜ AllUsable (now «stop_beats») (now «stop_values») (now «delay_beats») (now «delay_values») (now «warp_beats») (now «warp_lengths») (now «fake_beats») (now «fake_lengths») ⌝ }
+    requires { let lists = lookupLists
+        «stop_beats».now «stop_values».now
+        «delay_beats».now «delay_values».now
+        «warp_beats».now «warp_lengths».now
+        «fake_beats».now «fake_lengths».now in
+        ⌜ AllUsable lists ⌝ }
     requires { ⌜ length (now rows) ≤ length (now out) ⌝ }
-    ensures { λ _. ⌜ now (out .exit) ≡ laidEach (λ (asked : ℤ). byte (isJudgable (now («stop_beats» .entry)) (now («stop_values» .entry)) (now («delay_beats» .entry)) (now («delay_values» .entry)) (now («warp_beats» .entry)) (now («warp_lengths» .entry)) (now («fake_beats» .entry)) (now («fake_lengths» .entry)) asked)) (now (rows .entry)) (now (out .entry)) ⌝ }
+    ensures { λ _.
+        let lists = lookupLists
+        «stop_beats».entry.now «stop_values».entry.now
+        «delay_beats».entry.now «delay_values».entry.now
+        «warp_beats».entry.now «warp_lengths».entry.now
+        «fake_beats».entry.now «fake_lengths».entry.now in
+        ⌜ out.exit.now ≡ laidEach (λ (asked : ℤ). byte (isJudgable lists asked)) rows.entry.now out.entry.now ⌝ }
 {
     let mut cursor = first_cursor(
         stop_beats,
@@ -887,7 +979,13 @@ pub fn judgable_rows(
     rows: &[i32],
     out: &mut [u8],
 ) -> Outcome
-    ensures { λ r. ⌜ Judged (judgableNumber (now («stop_beats» .entry)) (now («stop_values» .entry)) (now («delay_beats» .entry)) (now («delay_values» .entry)) (now («warp_beats» .entry)) (now («warp_lengths» .entry)) (now («fake_beats» .entry)) (now («fake_lengths» .entry)) (every rowIn (now (rows .entry)))) (isJudgable (now («stop_beats» .entry)) (now («stop_values» .entry)) (now («delay_beats» .entry)) (now («delay_values» .entry)) (now («warp_beats» .entry)) (now («warp_lengths» .entry)) (now («fake_beats» .entry)) (now («fake_lengths» .entry))) (now (rows .entry)) r (now (out .entry)) (now (out .exit)) ⌝ }
+    ensures { λ r.
+        let lists = lookupLists
+        «stop_beats».entry.now «stop_values».entry.now
+        «delay_beats».entry.now «delay_values».entry.now
+        «warp_beats».entry.now «warp_lengths».entry.now
+        «fake_beats».entry.now «fake_lengths».entry.now in
+        ⌜ Judged (judgableNumber lists (every rowIn rows.entry.now)) (isJudgable lists) rows.entry.now r out.entry.now out.exit.now ⌝ }
 {
     let number = lookup_tests::judgable_number(
         stop_beats,

@@ -10,7 +10,7 @@ ghost use lib.ListN.{length, getD};
 ghost use Prim.Native.Nat.{_≤_, _<_};
 ghost use Rattle.rows.specs.RowKey.{rowKey};
 ghost use Rattle.limits.specs.Numbers.{rangeOf, inRange, rowIn};
-ghost use Rattle.lookup.specs.Lookups.{keyOf, ofLast, warpCovers, fakeCovers, askedRow, looked, askedNumber, judgableNumber};
+ghost use Rattle.lookup.specs.Lookups.{listColumns, warpLists, lookupLists, keyOf, ofLast, warpCovers, fakeCovers, askedRow, looked, askedNumber, judgableNumber};
 ghost use Rattle.lookup_checked.specs.Checked.{isOnRow, lastCovers, lastPauses, unpausedBy, fakeBy, warpedBy, judgableBy, atRow};
 
 // ---- the test of the lists
@@ -27,11 +27,13 @@ pub fn check_lookups(
     fake_beats: &[f32],
     fake_lengths: &[f32],
 ) -> u32
-    ensures { λ r. ⌜ r ≡ judgableNumber
-        (now («stop_beats» .entry)) (now («stop_values» .entry))
-        (now («delay_beats» .entry)) (now («delay_values» .entry))
-        (now («warp_beats» .entry)) (now («warp_lengths» .entry))
-        (now («fake_beats» .entry)) (now («fake_lengths» .entry)) true ⌝ }
+    ensures { λ r.
+        let lists = lookupLists
+        «stop_beats».entry.now «stop_values».entry.now
+        «delay_beats».entry.now «delay_values».entry.now
+        «warp_beats».entry.now «warp_lengths».entry.now
+        «fake_beats».entry.now «fake_lengths».entry.now in
+        ⌜ r ≡ judgableNumber lists true ⌝ }
 {
     lookup_tests::judgable_number(
         stop_beats,
@@ -208,7 +210,10 @@ fn is_unpaused(
     row: i32,
 ) -> bool
     requires { ⌜ rowIn row ≡ true ⌝ }
-    ensures { λ r. ⌜ r ≡ unpausedBy (now («stop_beats» .entry)) (now («stop_values» .entry)) (now («delay_beats» .entry)) (now («delay_values» .entry)) at (rowKey row) ⌝ }
+    ensures { λ r.
+        let stops = listColumns «stop_beats».entry.now «stop_values».entry.now in
+        let delays = listColumns «delay_beats».entry.now «delay_values».entry.now in
+        ⌜ r ≡ unpausedBy stops delays at (rowKey row) ⌝ }
 {
     if is_paused(
         stop_beats,
@@ -251,10 +256,12 @@ pub fn is_warp_at_row_checked(
     warp_lengths: &[f32],
     row: i32,
 ) -> Looked
-    ensures { λ r. ⌜ r ≡ looked (askedNumber (rowIn row)) (atRow (warpedBy
-        (now («stop_beats» .entry)) (now («stop_values» .entry))
-        (now («delay_beats» .entry)) (now («delay_values» .entry))
-        (now («warp_beats» .entry)) (now («warp_lengths» .entry))) row) ⌝ }
+    ensures { λ r.
+        let lists = warpLists
+        «stop_beats».entry.now «stop_values».entry.now
+        «delay_beats».entry.now «delay_values».entry.now
+        «warp_beats».entry.now «warp_lengths».entry.now in
+        ⌜ r ≡ looked (askedNumber (rowIn row)) (atRow (warpedBy lists) row) ⌝ }
 {
     if limits::row_taken(row) {
         let at = beat_of_row(row);
@@ -289,10 +296,12 @@ pub fn is_warp_at_beat_checked(
     warp_lengths: &[f32],
     beat: f64,
 ) -> Looked
-    ensures { λ r. ⌜ r ≡ looked (askedNumber (inRange (rangeOf Kind.Beat) beat)) (atRow (warpedBy
-        (now («stop_beats» .entry)) (now («stop_values» .entry))
-        (now («delay_beats» .entry)) (now («delay_values» .entry))
-        (now («warp_beats» .entry)) (now («warp_lengths» .entry))) (askedRow beat)) ⌝ }
+    ensures { λ r.
+        let lists = warpLists
+        «stop_beats».entry.now «stop_values».entry.now
+        «delay_beats».entry.now «delay_values».entry.now
+        «warp_beats».entry.now «warp_lengths».entry.now in
+        ⌜ r ≡ looked (askedNumber (inRange (rangeOf Kind.Beat) beat)) (atRow (warpedBy lists) (askedRow beat)) ⌝ }
 {
     if limits::taken(Kind::Beat, beat) {
         let row = lookup::asked_row(beat);
@@ -320,7 +329,9 @@ pub fn is_warp_at_beat_checked(
 
 // Whether a row is fake.
 pub fn is_fake_at_row_checked(fake_beats: &[f32], fake_lengths: &[f32], row: i32) -> Looked
-    ensures { λ r. ⌜ r ≡ looked (askedNumber (rowIn row)) (atRow (fakeBy (now («fake_beats» .entry)) (now («fake_lengths» .entry))) row) ⌝ }
+    ensures { λ r.
+        let fakes = listColumns «fake_beats».entry.now «fake_lengths».entry.now in
+        ⌜ r ≡ looked (askedNumber (rowIn row)) (atRow (fakeBy fakes) row) ⌝ }
 {
     if limits::row_taken(row) {
         let at = beat_of_row(row);
@@ -335,7 +346,9 @@ pub fn is_fake_at_row_checked(fake_beats: &[f32], fake_lengths: &[f32], row: i32
 
 // Whether the row of a beat is fake.
 pub fn is_fake_at_beat_checked(fake_beats: &[f32], fake_lengths: &[f32], beat: f64) -> Looked
-    ensures { λ r. ⌜ r ≡ looked (askedNumber (inRange (rangeOf Kind.Beat) beat)) (atRow (fakeBy (now («fake_beats» .entry)) (now («fake_lengths» .entry))) (askedRow beat)) ⌝ }
+    ensures { λ r.
+        let fakes = listColumns «fake_beats».entry.now «fake_lengths».entry.now in
+        ⌜ r ≡ looked (askedNumber (inRange (rangeOf Kind.Beat) beat)) (atRow (fakeBy fakes) (askedRow beat)) ⌝ }
 {
     if limits::taken(Kind::Beat, beat) {
         let row = lookup::asked_row(beat);
@@ -361,11 +374,13 @@ pub fn is_judgable_at_row_checked(
     fake_lengths: &[f32],
     row: i32,
 ) -> Looked
-    ensures { λ r. ⌜ r ≡ looked (askedNumber (rowIn row)) (atRow (judgableBy
-        (now («stop_beats» .entry)) (now («stop_values» .entry))
-        (now («delay_beats» .entry)) (now («delay_values» .entry))
-        (now («warp_beats» .entry)) (now («warp_lengths» .entry))
-        (now («fake_beats» .entry)) (now («fake_lengths» .entry))) row) ⌝ }
+    ensures { λ r.
+        let lists = lookupLists
+        «stop_beats».entry.now «stop_values».entry.now
+        «delay_beats».entry.now «delay_values».entry.now
+        «warp_beats».entry.now «warp_lengths».entry.now
+        «fake_beats».entry.now «fake_lengths».entry.now in
+        ⌜ r ≡ looked (askedNumber (rowIn row)) (atRow (judgableBy lists) row) ⌝ }
 {
     if limits::row_taken(row) {
         let at = beat_of_row(row);
@@ -401,11 +416,13 @@ pub fn is_judgable_at_beat_checked(
     fake_lengths: &[f32],
     beat: f64,
 ) -> Looked
-    ensures { λ r. ⌜ r ≡ looked (askedNumber (inRange (rangeOf Kind.Beat) beat)) (atRow (judgableBy
-        (now («stop_beats» .entry)) (now («stop_values» .entry))
-        (now («delay_beats» .entry)) (now («delay_values» .entry))
-        (now («warp_beats» .entry)) (now («warp_lengths» .entry))
-        (now («fake_beats» .entry)) (now («fake_lengths» .entry))) (askedRow beat)) ⌝ }
+    ensures { λ r.
+        let lists = lookupLists
+        «stop_beats».entry.now «stop_values».entry.now
+        «delay_beats».entry.now «delay_values».entry.now
+        «warp_beats».entry.now «warp_lengths».entry.now
+        «fake_beats».entry.now «fake_lengths».entry.now in
+        ⌜ r ≡ looked (askedNumber (inRange (rangeOf Kind.Beat) beat)) (atRow (judgableBy lists) (askedRow beat)) ⌝ }
 {
     if limits::taken(Kind::Beat, beat) {
         let row = lookup::asked_row(beat);

@@ -2,6 +2,7 @@
 use limits::Kind;
 ghost use mathlib.Core.Path.{_≡_};
 ghost use Rattle.limits.specs.Numbers.{rangeOf, every, miss, rowIn};
+ghost use Rattle.lookup_tests.specs.LookupLists.{listColumns, warpLists, lookupLists};
 ghost use Rattle.lookup_tests.specs.Refused.{keyOf, rowsRise, risingNumber, askedNumber, warpNumber, fakeNumber, judgableNumber};
 ghost use Rattle.lookup_tests.specs.inside.CountNotAbove.{countNotAbove};
 
@@ -71,7 +72,12 @@ pub fn warp_number(
     warp_lengths: &[f32],
     allowed: bool,
 ) -> u32
-    ensures { λ r. ⌜ r ≡ warpNumber (now («stop_beats» .entry)) (now («stop_values» .entry)) (now («delay_beats» .entry)) (now («delay_values» .entry)) (now («warp_beats» .entry)) (now («warp_lengths» .entry)) allowed ⌝ }
+    ensures { λ r.
+        let lists = warpLists
+        «stop_beats».entry.now «stop_values».entry.now
+        «delay_beats».entry.now «delay_values».entry.now
+        «warp_beats».entry.now «warp_lengths».entry.now in
+        ⌜ r ≡ warpNumber lists allowed ⌝ }
 {
     let stops = rising_number(Kind::Pause, stop_beats, stop_values);
     let delays = rising_number(Kind::Pause, delay_beats, delay_values);
@@ -84,7 +90,7 @@ pub fn warp_number(
 
 // The same of a question about fakes.
 pub fn fake_number(fake_beats: &[f32], fake_lengths: &[f32], allowed: bool) -> u32
-    ensures { λ r. ⌜ r ≡ fakeNumber (now («fake_beats» .entry)) (now («fake_lengths» .entry)) allowed ⌝ }
+    ensures { λ r. ⌜ r ≡ fakeNumber (listColumns «fake_beats».entry.now «fake_lengths».entry.now) allowed ⌝ }
 {
     limits::lower_of(
         rising_number(Kind::Value, fake_beats, fake_lengths),
@@ -104,7 +110,13 @@ pub fn judgable_number(
     fake_lengths: &[f32],
     allowed: bool,
 ) -> u32
-    ensures { λ r. ⌜ r ≡ judgableNumber (now («stop_beats» .entry)) (now («stop_values» .entry)) (now («delay_beats» .entry)) (now («delay_values» .entry)) (now («warp_beats» .entry)) (now («warp_lengths» .entry)) (now («fake_beats» .entry)) (now («fake_lengths» .entry)) allowed ⌝ }
+    ensures { λ r.
+        let lists = lookupLists
+        «stop_beats».entry.now «stop_values».entry.now
+        «delay_beats».entry.now «delay_values».entry.now
+        «warp_beats».entry.now «warp_lengths».entry.now
+        «fake_beats».entry.now «fake_lengths».entry.now in
+        ⌜ r ≡ judgableNumber lists allowed ⌝ }
 {
     limits::lower_of(
         warp_number(

@@ -7,7 +7,7 @@ use lib.Ieee.{Float, binary32, binary64, neg}
 use Rattle.rows.specs.Rows.{row}
 use Rattle.tidy_rows.specs.RowTidying.{tidyRows}
 use Rattle.tidy_tempos.specs.TempoTidying.{tidyTempos}
-use Rattle.lookup.specs.Lookups.{isWarped, askedRow}
+use Rattle.lookup.specs.Lookups.{warpLists, isWarped, askedRow}
 use Rattle.stops_for_sm.specs.Merging.{sources, mergedStops, atFirst}
 use Rattle.played.specs.Charts.{stopped, warped, asked}
 use Rattle.tidy_scrolls.specs.ScrollTidying.{tidyScrolls, scrollsNumber}
@@ -34,7 +34,7 @@ pub record Examples : Type 0 where
   pub tempos-of-one-beat : tidyTempos (wholeFloat 1 ∷ wholeFloat 1 ∷ []) (wholeFloat 150 ∷ wholeFloat 160 ∷ []) ≡ (wholeFloat 0, wholeFloat 160) ∷ []
   pub tempos-that-change : tidyTempos (wholeFloat 0 ∷ wholeFloat 4 ∷ wholeFloat 8 ∷ []) (wholeFloat 120 ∷ wholeFloat 120 ∷ wholeFloat 60 ∷ []) ≡ (wholeFloat 0, wholeFloat 120) ∷ (wholeFloat 8, wholeFloat 60) ∷ []
   -- lookups: of two warps only the later is tested, though the earlier covers the beat
-  pub later-warp-tested : isWarped [] [] [] [] (wholeFloat 0 ∷ wholeFloat 4 ∷ []) (wholeFloat 8 ∷ wholeFloat 1 ∷ []) (askedRow (wholeFloat 6)) ≡ false
+  pub later-warp-tested : isWarped (warpLists [] [] [] [] (wholeFloat 0 ∷ wholeFloat 4 ∷ []) (wholeFloat 8 ∷ wholeFloat 1 ∷ [])) (askedRow (wholeFloat 6)) ≡ false
   -- SM stops: a warp takes away just what a stop on its beat would last
   pub warp-for-stop : mergedStops (sources (wholeFloat 0 ∷ []) (wholeFloat 120 ∷ []) (wholeFloat 4 ∷ wholeFloat 1 ∷ []) [] [] (wholeFloat 4 ∷ []) (wholeFloat 2 ∷ [])) atFirst ≡ []
   -- the clock: number, time and count of a beat that a stop is on, and of the next; of a beat within a warp, and of one behind it

@@ -64,35 +64,36 @@ some-paused key (beat ∷ beats) (value ∷ values) (suc place) h k e l = go (eq
     go false s r = r
 
 -- ---- warped: the last warp covers the row, and it is not paused
-module _ (stopBeats stopValues delayBeats delayValues warpBeats warpLengths fakeBeats fakeLengths : List Float) (asked : ℤ) where
+module _ (lists : WarpLists) (asked : ℤ) where
   pub record Warped : Type 0 where
-    pub covered : inWarp stopBeats stopValues delayBeats delayValues warpBeats warpLengths asked ≡ true
-    pub noStop : isPaused (rowKey asked) stopBeats stopValues ≡ false
-    pub noDelay : isPaused (rowKey asked) delayBeats delayValues ≡ false
+    pub covered : inWarp lists asked ≡ true
+    pub noStop : isPaused (rowKey asked) (lists .stops .beats) (lists .stops .values) ≡ false
+    pub noDelay : isPaused (rowKey asked) (lists .delays .beats) (lists .delays .values) ≡ false
 
-  pub warped-means : isWarped stopBeats stopValues delayBeats delayValues warpBeats warpLengths asked ≡ true → Warped
+  pub warped-means : isWarped lists asked ≡ true → Warped
   unfolding isWarped
-  warped-means h = go (inWarp stopBeats stopValues delayBeats delayValues warpBeats warpLengths asked) (isPaused (rowKey asked) stopBeats stopValues) (isPaused (rowKey asked) delayBeats delayValues) refl refl refl h
+  warped-means h = go (inWarp lists asked) (isPaused (rowKey asked) (lists .stops .beats) (lists .stops .values)) (isPaused (rowKey asked) (lists .delays .beats) (lists .delays .values)) refl refl refl h
     where
-      go : (w s d : Bool) → inWarp stopBeats stopValues delayBeats delayValues warpBeats warpLengths asked ≡ w → isPaused (rowKey asked) stopBeats stopValues ≡ s → isPaused (rowKey asked) delayBeats delayValues ≡ d
+      go : (w s d : Bool) → inWarp lists asked ≡ w → isPaused (rowKey asked) (lists .stops .beats) (lists .stops .values) ≡ s → isPaused (rowKey asked) (lists .delays .beats) (lists .delays .values) ≡ d
           → pick w (pick s false (not d)) false ≡ true → Warped
       go true false false a b c k = record { covered = a; noStop = b; noDelay = c }
       go true false true a b c k = never k
       go true true d a b c k = never k
       go false s d a b c k = never k
 
-  pub warped-so : Warped → isWarped stopBeats stopValues delayBeats delayValues warpBeats warpLengths asked ≡ true
+  pub warped-so : Warped → isWarped lists asked ≡ true
   unfolding isWarped
   warped-so p = rw (p .covered, p .noStop, p .noDelay)
 
-  -- ---- judgable: neither
-  pub judgable-means : isJudgable stopBeats stopValues delayBeats delayValues warpBeats warpLengths fakeBeats fakeLengths asked ≡ true
-      → (isWarped stopBeats stopValues delayBeats delayValues warpBeats warpLengths asked ≡ false) × (isFake fakeBeats fakeLengths asked ≡ false)
+-- ---- judgable: neither
+module _ (lists : LookupLists) (asked : ℤ) where
+  pub judgable-means : isJudgable lists asked ≡ true
+      → (isWarped (butFakes lists) asked ≡ false) × (isFake (lists .fakes) asked ≡ false)
   unfolding isJudgable
-  judgable-means h = go (isWarped stopBeats stopValues delayBeats delayValues warpBeats warpLengths asked) (isFake fakeBeats fakeLengths asked) refl refl h
+  judgable-means h = go (isWarped (butFakes lists) asked) (isFake (lists .fakes) asked) refl refl h
     where
-      go : (w f : Bool) → isWarped stopBeats stopValues delayBeats delayValues warpBeats warpLengths asked ≡ w → isFake fakeBeats fakeLengths asked ≡ f → pick w false (not f) ≡ true
-          → (isWarped stopBeats stopValues delayBeats delayValues warpBeats warpLengths asked ≡ false) × (isFake fakeBeats fakeLengths asked ≡ false)
+      go : (w f : Bool) → isWarped (butFakes lists) asked ≡ w → isFake (lists .fakes) asked ≡ f → pick w false (not f) ≡ true
+          → (isWarped (butFakes lists) asked ≡ false) × (isFake (lists .fakes) asked ≡ false)
       go false false a b k = (a, b)
       go false true a b k = never k
       go true f a b k = never k
