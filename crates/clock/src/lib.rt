@@ -146,7 +146,10 @@ fn walk_filled(
     warp_beats: &[f32],
     warp_lengths: &[f32],
 ) -> Walked
-    ensures is { λ r. ⌜ r ≡ walk (filled (timing (now («tempo_beats» .entry)) (now («tempo_values» .entry)) (now («stop_beats» .entry)) (now («stop_values» .entry)) (now («delay_beats» .entry)) (now («delay_values» .entry)) (now («warp_beats» .entry)) (now («warp_lengths» .entry)))) row begin ⌝ }
+    ensures is { λ r.
+        let t = timing «tempo_beats».entry.now «tempo_values».entry.now «stop_beats».entry.now «stop_values».entry.now
+        «delay_beats».entry.now «delay_values».entry.now «warp_beats».entry.now «warp_lengths».entry.now in
+        ⌜ r ≡ walk (filled t) row begin ⌝ }
     ensures few { λ r. ⌜ r .passed + 1 < 2 ^ 64 ⌝ }
 {
     let none = tempo_beats.len() == 0;
@@ -463,7 +466,10 @@ impl Cursor {
         offset: f64,
         global: f64,
     ) -> Walked
-        ensures is { λ r. ⌜ r ≡ walk (filled (timing (now («tempo_beats» .entry)) (now («tempo_values» .entry)) (now («stop_beats» .entry)) (now («stop_values» .entry)) (now («delay_beats» .entry)) (now («delay_values» .entry)) (now («warp_beats» .entry)) (now («warp_lengths» .entry)))) row (beginning self row offset global) ⌝ }
+        ensures is { λ r.
+        let t = timing «tempo_beats».entry.now «tempo_values».entry.now «stop_beats».entry.now «stop_values».entry.now
+        «delay_beats».entry.now «delay_values».entry.now «warp_beats».entry.now «warp_lengths».entry.now in
+        ⌜ r ≡ walk (filled t) row (beginning self row offset global) ⌝ }
         ensures few { λ r. ⌜ r .passed + 1 < 2 ^ 64 ⌝ }
     {
         let begin = self.begin(row, offset, global);
@@ -514,7 +520,7 @@ impl Cursor {
         delay_beats: &[f32],
         warp_beats: &[f32],
     ) -> bool
-        ensures { λ r. ⌜ (r ≡ true → (ltZ row (self .asked) ≡ false) × (eqb (length (now («tempo_beats» .entry))) 0 ≡ false) × (eqb (self .state .tempos) 0 ≡ false) × (onlyTempos (now («stop_beats» .entry)) (now («delay_beats» .entry)) (now («warp_beats» .entry)) (self .state) row ≡ true) × (cursorNumber (pick (eqb (length (now («tempo_beats» .entry))) 0) 1 (length (now («tempo_beats» .entry)))) (length (now («stop_beats» .entry))) (length (now («delay_beats» .entry))) (length (now («warp_beats» .entry))) (self .state) (self .asked) ≡ 0)) ⌝ }
+        ensures { λ r. ⌜ (r ≡ true → (ltZ row (self .asked) ≡ false) × (eqb (length «tempo_beats».entry.now) 0 ≡ false) × (eqb (self .state .tempos) 0 ≡ false) × (onlyTempos «stop_beats».entry.now «delay_beats».entry.now «warp_beats».entry.now (self .state) row ≡ true) × (cursorNumber (pick (eqb (length «tempo_beats».entry.now) 0) 1 (length «tempo_beats».entry.now)) (length «stop_beats».entry.now) (length «delay_beats».entry.now) (length «warp_beats».entry.now) (self .state) (self .asked) ≡ 0)) ⌝ }
     {
         if row < self.asked {
             return false;
@@ -537,11 +543,11 @@ impl Cursor {
         warp_beats: &[f32],
     ) -> Soon
         ensures { λ r.
-            let tempos = now («tempo_beats» .entry) in
-            let stops = now («stop_beats» .entry) in
-            let delays = now («delay_beats» .entry) in
-            let warps = now («warp_beats» .entry) in
-            ⌜ (r .whole ≡ true → (ltZ row (self .asked) ≡ false) × (eqb (length tempos) 0 ≡ false) × (eqb (self .state .tempos) 0 ≡ false) × (onlyTempos stops delays warps (self .state) row ≡ true) × (cursorNumber (pick (eqb (length tempos) 0) 1 (length tempos)) (length stops) (length delays) (length warps) (self .state) (self .asked) ≡ 0) × (r ≡ soonOf tempos (now («tempo_values» .entry)) (self .state) row)) ⌝ }
+            let tempos = «tempo_beats».entry.now in
+            let stops = «stop_beats».entry.now in
+            let delays = «delay_beats».entry.now in
+            let warps = «warp_beats».entry.now in
+            ⌜ (r .whole ≡ true → (ltZ row (self .asked) ≡ false) × (eqb (length tempos) 0 ≡ false) × (eqb (self .state .tempos) 0 ≡ false) × (onlyTempos stops delays warps (self .state) row ≡ true) × (cursorNumber (pick (eqb (length tempos) 0) 1 (length tempos)) (length stops) (length delays) (length warps) (self .state) (self .asked) ≡ 0) × (r ≡ soonOf tempos «tempo_values».entry.now (self .state) row)) ⌝ }
     {
         let state = self.state;
         if self.is_near(row, tempo_beats, stop_beats, delay_beats, warp_beats) {
@@ -570,7 +576,10 @@ impl Cursor {
         global: f64,
         beat: f64,
     ) -> Answer
-        ensures { λ r. ⌜ r ≡ asking (timing (now («tempo_beats» .entry)) (now («tempo_values» .entry)) (now («stop_beats» .entry)) (now («stop_values» .entry)) (now («delay_beats» .entry)) (now («delay_values» .entry)) (now («warp_beats» .entry)) (now («warp_lengths» .entry))) self offset global beat ⌝ }
+        ensures { λ r.
+        let t = timing «tempo_beats».entry.now «tempo_values».entry.now «stop_beats».entry.now «stop_values».entry.now
+        «delay_beats».entry.now «delay_values».entry.now «warp_beats».entry.now «warp_lengths».entry.now in
+        ⌜ r ≡ asking t self offset global beat ⌝ }
     {
         let number = clock_tests::beat_number(beat);
         if number == limits::TAKEN {
@@ -604,7 +613,7 @@ impl Cursor {
         delay_beats: &[f32],
         warp_beats: &[f32],
     ) -> u32
-        ensures { λ r. ⌜ r ≡ cursorNumber (pick (eqb (length (now («tempo_beats» .entry))) 0) 1 (length (now («tempo_beats» .entry)))) (length (now («stop_beats» .entry))) (length (now («delay_beats» .entry))) (length (now («warp_beats» .entry))) (self .state) (self .asked) ⌝ }
+        ensures { λ r. ⌜ r ≡ cursorNumber (pick (eqb (length «tempo_beats».entry.now) 0) 1 (length «tempo_beats».entry.now)) (length «stop_beats».entry.now) (length «delay_beats».entry.now) (length «warp_beats».entry.now) (self .state) (self .asked) ⌝ }
     {
         let tempos = tempos_of(tempo_beats.len());
         let state = self.state;
@@ -634,7 +643,10 @@ impl Cursor {
         global: f64,
         beat: f64,
     ) -> Answer
-        ensures { λ r. ⌜ r ≡ playerQuestion (timing (now («tempo_beats» .entry)) (now («tempo_values» .entry)) (now («stop_beats» .entry)) (now («stop_values» .entry)) (now («delay_beats» .entry)) (now («delay_values» .entry)) (now («warp_beats» .entry)) (now («warp_lengths» .entry))) self offset global beat ⌝ }
+        ensures { λ r.
+        let t = timing «tempo_beats».entry.now «tempo_values».entry.now «stop_beats».entry.now «stop_values».entry.now
+        «delay_beats».entry.now «delay_values».entry.now «warp_beats».entry.now «warp_lengths».entry.now in
+        ⌜ r ≡ playerQuestion t self offset global beat ⌝ }
     {
         let asked = clock_tests::beat_number(beat);
         if asked != limits::TAKEN {
@@ -694,7 +706,10 @@ impl Cursor {
         global: f64,
         beat: f64,
     ) -> Answer
-        ensures { λ r. ⌜ r ≡ question (timing (now («tempo_beats» .entry)) (now («tempo_values» .entry)) (now («stop_beats» .entry)) (now («stop_values» .entry)) (now («delay_beats» .entry)) (now («delay_values» .entry)) (now («warp_beats» .entry)) (now («warp_lengths» .entry))) self offset global beat ⌝ }
+        ensures { λ r.
+        let t = timing «tempo_beats».entry.now «tempo_values».entry.now «stop_beats».entry.now «stop_values».entry.now
+        «delay_beats».entry.now «delay_values».entry.now «warp_beats».entry.now «warp_lengths».entry.now in
+        ⌜ r ≡ question t self offset global beat ⌝ }
     {
         let timing = clock_tests::check_timing(
             tempo_beats,
@@ -901,7 +916,10 @@ pub fn get_time_for_beat(
     global: f64,
     beat: f64,
 ) -> Answer
-    ensures { λ r. ⌜ r ≡ question (timing (now («tempo_beats» .entry)) (now («tempo_values» .entry)) (now («stop_beats» .entry)) (now («stop_values» .entry)) (now («delay_beats» .entry)) (now («delay_values» .entry)) (now («warp_beats» .entry)) (now («warp_lengths» .entry))) (freshCursor offset global) offset global beat ⌝ }
+    ensures { λ r.
+        let t = timing «tempo_beats».entry.now «tempo_values».entry.now «stop_beats».entry.now «stop_values».entry.now
+        «delay_beats».entry.now «delay_values».entry.now «warp_beats».entry.now «warp_lengths».entry.now in
+        ⌜ r ≡ question t (freshCursor offset global) offset global beat ⌝ }
 {
     let cursor = fresh_cursor(offset, global);
     cursor.time_for_beat(

@@ -30,7 +30,10 @@ pub extern "C" fn marrighentu_lent_time_for_beat(
     global: f64,
     beat: f64,
 ) -> Reply
-    ensures { λ r. ⌜ (r ≡ replyOf (question (timing (now («tempo_beats» .entry)) (now («tempo_values» .entry)) (now («stop_beats» .entry)) (now («stop_values» .entry)) (now («delay_beats» .entry)) (now («delay_values» .entry)) (now («warp_beats» .entry)) (now («warp_lengths» .entry))) (now (cursor .entry)) offset global beat)) × (now (cursor .exit) ≡ question (timing (now («tempo_beats» .entry)) (now («tempo_values» .entry)) (now («stop_beats» .entry)) (now («stop_values» .entry)) (now («delay_beats» .entry)) (now («delay_values» .entry)) (now («warp_beats» .entry)) (now («warp_lengths» .entry))) (now (cursor .entry)) offset global beat .cursor) ⌝ }
+    ensures { λ r.
+        let t = timing «tempo_beats».entry.now «tempo_values».entry.now «stop_beats».entry.now «stop_values».entry.now
+        «delay_beats».entry.now «delay_values».entry.now «warp_beats».entry.now «warp_lengths».entry.now in
+        ⌜ (r ≡ replyOf (question t cursor.entry.now offset global beat)) × (cursor.exit.now ≡ question t cursor.entry.now offset global beat .cursor) ⌝ }
 {
     let answer = (*cursor).time_for_beat(
         tempo_beats,
@@ -69,7 +72,10 @@ pub extern "C" fn marrighentu_lent_time_for_beat_checked(
     global: f64,
     beat: f64,
 ) -> Reply
-    ensures { λ r. ⌜ (r ≡ replyOf (playerQuestion (timing (now («tempo_beats» .entry)) (now («tempo_values» .entry)) (now («stop_beats» .entry)) (now («stop_values» .entry)) (now («delay_beats» .entry)) (now («delay_values» .entry)) (now («warp_beats» .entry)) (now («warp_lengths» .entry))) (now (cursor .entry)) offset global beat)) × (now (cursor .exit) ≡ playerQuestion (timing (now («tempo_beats» .entry)) (now («tempo_values» .entry)) (now («stop_beats» .entry)) (now («stop_values» .entry)) (now («delay_beats» .entry)) (now («delay_values» .entry)) (now («warp_beats» .entry)) (now («warp_lengths» .entry))) (now (cursor .entry)) offset global beat .cursor) ⌝ }
+    ensures { λ r.
+        let t = timing «tempo_beats».entry.now «tempo_values».entry.now «stop_beats».entry.now «stop_values».entry.now
+        «delay_beats».entry.now «delay_values».entry.now «warp_beats».entry.now «warp_lengths».entry.now in
+        ⌜ (r ≡ replyOf (playerQuestion t cursor.entry.now offset global beat)) × (cursor.exit.now ≡ playerQuestion t cursor.entry.now offset global beat .cursor) ⌝ }
 {
     let answer = (*cursor).time_for_beat_checked(
         tempo_beats,
@@ -111,7 +117,10 @@ pub extern "C" fn marrighentu_lent_run(
     times: &mut [f64],
     counts: &mut [usize],
 ) -> u32
-    ensures { λ r. ⌜ RunLaid (timing (now («tempo_beats» .entry)) (now («tempo_values» .entry)) (now («stop_beats» .entry)) (now («stop_values» .entry)) (now («delay_beats» .entry)) (now («delay_values» .entry)) (now («warp_beats» .entry)) (now («warp_lengths» .entry))) offset global (now (cursor .entry)) (now (beats .entry)) (record { cursor = now (cursor .exit); number = r }) (now (numbers .entry)) (now (numbers .exit)) (now (times .entry)) (now (times .exit)) (now (counts .entry)) (now (counts .exit)) ⌝ }
+    ensures { λ r.
+        let t = timing «tempo_beats».entry.now «tempo_values».entry.now «stop_beats».entry.now «stop_values».entry.now
+        «delay_beats».entry.now «delay_values».entry.now «warp_beats».entry.now «warp_lengths».entry.now in
+        ⌜ RunLaid t offset global cursor.entry.now beats.entry.now (record { cursor = cursor.exit.now; number = r }) numbers.entry.now numbers.exit.now times.entry.now times.exit.now counts.entry.now counts.exit.now ⌝ }
 {
     let ran = clock_run::run(
         *cursor,

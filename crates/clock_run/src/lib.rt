@@ -107,7 +107,10 @@ fn look_ahead(
     warp_beats: &[f32],
     warp_lengths: &[f32],
 ) -> Outlook
-    ensures { λ r. ⌜ r ≡ lookAhead (timing (now («tempo_beats» .entry)) (now («tempo_values» .entry)) (now («stop_beats» .entry)) (now («stop_values» .entry)) (now («delay_beats» .entry)) (now («delay_values» .entry)) (now («warp_beats» .entry)) (now («warp_lengths» .entry))) state ⌝ }
+    ensures { λ r.
+        let t = timing «tempo_beats».entry.now «tempo_values».entry.now «stop_beats».entry.now «stop_values».entry.now
+        «delay_beats».entry.now «delay_values».entry.now «warp_beats».entry.now «warp_lengths».entry.now in
+        ⌜ r ≡ lookAhead t state ⌝ }
 {
     if tempo_beats.len() == 0 {
         return Outlook {
@@ -331,7 +334,10 @@ pub fn run(
     times: &mut [f64],
     counts: &mut [usize],
 ) -> Ran
-    ensures { λ r. ⌜ RunLaid (timing (now («tempo_beats» .entry)) (now («tempo_values» .entry)) (now («stop_beats» .entry)) (now («stop_values» .entry)) (now («delay_beats» .entry)) (now («delay_values» .entry)) (now («warp_beats» .entry)) (now («warp_lengths» .entry))) offset global cursor (now (beats .entry)) r (now (numbers .entry)) (now (numbers .exit)) (now (times .entry)) (now (times .exit)) (now (counts .entry)) (now (counts .exit)) ⌝ }
+    ensures { λ r.
+        let t = timing «tempo_beats».entry.now «tempo_values».entry.now «stop_beats».entry.now «stop_values».entry.now
+        «delay_beats».entry.now «delay_values».entry.now «warp_beats».entry.now «warp_lengths».entry.now in
+        ⌜ RunLaid t offset global cursor beats.entry.now r numbers.entry.now numbers.exit.now times.entry.now times.exit.now counts.entry.now counts.exit.now ⌝ }
 {
     let timing = clock_tests::check_timing(
         tempo_beats,

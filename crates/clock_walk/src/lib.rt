@@ -111,7 +111,7 @@ pub fn heads_after(
     delay_beats: &[f32],
     warp_beats: &[f32],
 ) -> Heads
-    ensures { λ r. ⌜ r ≡ headsAfter (now («tempo_beats» .entry)) (now («stop_beats» .entry)) (now («delay_beats» .entry)) (now («warp_beats» .entry)) heads state kind ⌝ }
+    ensures { λ r. ⌜ r ≡ headsAfter «tempo_beats».entry.now «stop_beats».entry.now «delay_beats».entry.now «warp_beats».entry.now heads state kind ⌝ }
 {
     match kind {
         Event::WarpEnd => Heads {
@@ -432,7 +432,7 @@ pub fn number_of(
     warp_beats: &[f32],
     warp_lengths: &[f32],
 ) -> f64
-    ensures { λ r. ⌜ r ≡ brings (now («stop_values» .entry)) (now («delay_values» .entry)) (now («warp_beats» .entry)) (now («warp_lengths» .entry)) state kind ⌝ }
+    ensures { λ r. ⌜ r ≡ brings «stop_values».entry.now «delay_values».entry.now «warp_beats».entry.now «warp_lengths».entry.now state kind ⌝ }
 {
     match kind {
         Event::WarpEnd => 0.0,
@@ -629,7 +629,10 @@ pub fn walk_to(
     warp_beats: &[f32],
     warp_lengths: &[f32],
 ) -> Walked
-    ensures { λ r. ⌜ r ≡ walk (timing (now («tempo_beats» .entry)) (now («tempo_values» .entry)) (now («stop_beats» .entry)) (now («stop_values» .entry)) (now («delay_beats» .entry)) (now («delay_values» .entry)) (now («warp_beats» .entry)) (now («warp_lengths» .entry))) asked start ⌝ }
+    ensures { λ r.
+        let t = timing «tempo_beats».entry.now «tempo_values».entry.now «stop_beats».entry.now «stop_values».entry.now
+        «delay_beats».entry.now «delay_values».entry.now «warp_beats».entry.now «warp_lengths».entry.now in
+        ⌜ r ≡ walk t asked start ⌝ }
 {
     let early = early_tempo(start, tempo_beats, tempo_values);
     let mut state = start;
@@ -795,7 +798,7 @@ fn pause_of(kind: Event) -> Pausing
 
 // True only where a tempo is ahead, alone on its row, and has come by a time.
 fn is_tempo_over(state: State, heads: Heads, elapsed: f64, early: f64, tempo_values: &[f32]) -> bool
-    ensures { λ r. ⌜ (r ≡ true → (aheadOf heads ≡ Found (record { row = heads .tempo; kind = Tempo })) × (lt elapsed (timeAt early (now («tempo_values» .entry)) state (heads .tempo)) ≡ false)) ⌝ }
+    ensures { λ r. ⌜ (r ≡ true → (aheadOf heads ≡ Found (record { row = heads .tempo; kind = Tempo })) × (lt elapsed (timeAt early «tempo_values».entry.now state (heads .tempo)) ≡ false)) ⌝ }
 {
     if is_tempo_ahead(heads) {
         let later = elapsed < time_at(state, heads.tempo, early, tempo_values);

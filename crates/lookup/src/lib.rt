@@ -269,9 +269,7 @@ fn warped_after(
     requires { ⌜ Usable «stop_beats».now «stop_values».now × Usable «delay_beats».now «delay_values».now
         × Usable «warp_beats».now «warp_lengths».now × Split (rowKey row) «warp_beats».now n ⌝ }
     ensures { λ r.
-        let lists = warpLists
-        «stop_beats».entry.now «stop_values».entry.now
-        «delay_beats».entry.now «delay_values».entry.now
+        let lists = warpLists «stop_beats».entry.now «stop_values».entry.now «delay_beats».entry.now «delay_values».entry.now
         «warp_beats».entry.now «warp_lengths».entry.now in
         ⌜ r ≡ isWarped lists row ⌝ }
 {
@@ -319,19 +317,13 @@ fn judgable_after(
     fakes: usize,
     row: i32,
 ) -> bool
-    requires { let lists = lookupLists
-        «stop_beats».now «stop_values».now
-        «delay_beats».now «delay_values».now
-        «warp_beats».now «warp_lengths».now
-        «fake_beats».now «fake_lengths».now in
+    requires { let lists = lookupLists «stop_beats».now «stop_values».now «delay_beats».now «delay_values».now
+        «warp_beats».now «warp_lengths».now «fake_beats».now «fake_lengths».now in
         ⌜ AllUsable lists ⌝ }
     requires { ⌜ Split (rowKey row) (now «warp_beats») warps × Split (rowKey row) (now «fake_beats») fakes ⌝ }
     ensures { λ r.
-        let lists = lookupLists
-        «stop_beats».entry.now «stop_values».entry.now
-        «delay_beats».entry.now «delay_values».entry.now
-        «warp_beats».entry.now «warp_lengths».entry.now
-        «fake_beats».entry.now «fake_lengths».entry.now in
+        let lists = lookupLists «stop_beats».entry.now «stop_values».entry.now «delay_beats».entry.now «delay_values».entry.now
+        «warp_beats».entry.now «warp_lengths».entry.now «fake_beats».entry.now «fake_lengths».entry.now in
         ⌜ r ≡ isJudgable lists row ⌝ }
 {
     if warped_after(
@@ -369,9 +361,7 @@ fn look_up_warp(
     row: i32,
 ) -> Looked
     ensures { λ r.
-        let lists = warpLists
-        «stop_beats».entry.now «stop_values».entry.now
-        «delay_beats».entry.now «delay_values».entry.now
+        let lists = warpLists «stop_beats».entry.now «stop_values».entry.now «delay_beats».entry.now «delay_values».entry.now
         «warp_beats».entry.now «warp_lengths».entry.now in
         ⌜ r ≡ looked (warpNumber lists allowed) (isWarped lists row) ⌝ }
 {
@@ -440,11 +430,8 @@ fn look_up_judgable(
     row: i32,
 ) -> Looked
     ensures { λ r.
-        let lists = lookupLists
-        «stop_beats».entry.now «stop_values».entry.now
-        «delay_beats».entry.now «delay_values».entry.now
-        «warp_beats».entry.now «warp_lengths».entry.now
-        «fake_beats».entry.now «fake_lengths».entry.now in
+        let lists = lookupLists «stop_beats».entry.now «stop_values».entry.now «delay_beats».entry.now «delay_values».entry.now
+        «warp_beats».entry.now «warp_lengths».entry.now «fake_beats».entry.now «fake_lengths».entry.now in
         ⌜ r ≡ looked (judgableNumber lists allowed) (isJudgable lists row) ⌝ }
 {
     let number = lookup_tests::judgable_number(
@@ -504,9 +491,7 @@ pub fn is_warp_at_row(
     row: i32,
 ) -> Looked
     ensures { λ r.
-        let lists = warpLists
-        «stop_beats».entry.now «stop_values».entry.now
-        «delay_beats».entry.now «delay_values».entry.now
+        let lists = warpLists «stop_beats».entry.now «stop_values».entry.now «delay_beats».entry.now «delay_values».entry.now
         «warp_beats».entry.now «warp_lengths».entry.now in
         ⌜ r ≡ looked (warpNumber lists (rowIn row)) (isWarped lists row) ⌝ }
 {
@@ -533,9 +518,7 @@ pub fn is_warp_at_beat(
     beat: f64,
 ) -> Looked
     ensures { λ r.
-        let lists = warpLists
-        «stop_beats».entry.now «stop_values».entry.now
-        «delay_beats».entry.now «delay_values».entry.now
+        let lists = warpLists «stop_beats».entry.now «stop_values».entry.now «delay_beats».entry.now «delay_values».entry.now
         «warp_beats».entry.now «warp_lengths».entry.now in
         ⌜ r ≡ looked (warpNumber lists (inRange (rangeOf Kind.Beat) beat)) (isWarped lists (askedRow beat)) ⌝ }
 {
@@ -587,11 +570,8 @@ pub fn is_judgable_at_row(
     row: i32,
 ) -> Looked
     ensures { λ r.
-        let lists = lookupLists
-        «stop_beats».entry.now «stop_values».entry.now
-        «delay_beats».entry.now «delay_values».entry.now
-        «warp_beats».entry.now «warp_lengths».entry.now
-        «fake_beats».entry.now «fake_lengths».entry.now in
+        let lists = lookupLists «stop_beats».entry.now «stop_values».entry.now «delay_beats».entry.now «delay_values».entry.now
+        «warp_beats».entry.now «warp_lengths».entry.now «fake_beats».entry.now «fake_lengths».entry.now in
         ⌜ r ≡ looked (judgableNumber lists (rowIn row)) (isJudgable lists row) ⌝ }
 {
     look_up_judgable(
@@ -621,11 +601,8 @@ pub fn is_judgable_at_beat(
     beat: f64,
 ) -> Looked
     ensures { λ r.
-        let lists = lookupLists
-        «stop_beats».entry.now «stop_values».entry.now
-        «delay_beats».entry.now «delay_values».entry.now
-        «warp_beats».entry.now «warp_lengths».entry.now
-        «fake_beats».entry.now «fake_lengths».entry.now in
+        let lists = lookupLists «stop_beats».entry.now «stop_values».entry.now «delay_beats».entry.now «delay_values».entry.now
+        «warp_beats».entry.now «warp_lengths».entry.now «fake_beats».entry.now «fake_lengths».entry.now in
         ⌜ r ≡ looked (judgableNumber lists (inRange (rangeOf Kind.Beat) beat)) (isJudgable lists (askedRow beat)) ⌝ }
 {
     look_up_judgable(
@@ -780,18 +757,12 @@ fn first_cursor(
     fake_beats: &[f32],
     fake_lengths: &[f32],
 ) -> Cursor
-    requires { let lists = lookupLists
-        «stop_beats».now «stop_values».now
-        «delay_beats».now «delay_values».now
-        «warp_beats».now «warp_lengths».now
-        «fake_beats».now «fake_lengths».now in
+    requires { let lists = lookupLists «stop_beats».now «stop_values».now «delay_beats».now «delay_values».now
+        «warp_beats».now «warp_lengths».now «fake_beats».now «fake_lengths».now in
         ⌜ AllUsable lists ⌝ }
     ensures { λ r.
-        let lists = lookupLists
-        «stop_beats».entry.now «stop_values».entry.now
-        «delay_beats».entry.now «delay_values».entry.now
-        «warp_beats».entry.now «warp_lengths».entry.now
-        «fake_beats».entry.now «fake_lengths».entry.now in
+        let lists = lookupLists «stop_beats».entry.now «stop_values».entry.now «delay_beats».entry.now «delay_values».entry.now
+        «warp_beats».entry.now «warp_lengths».entry.now «fake_beats».entry.now «fake_lengths».entry.now in
         ⌜ AllStand lists r ⌝ }
 {
     let warps = place_after(warp_beats, 0);
@@ -829,18 +800,12 @@ fn judge(
     cursor: Cursor,
     row: i32,
 ) -> Cursor
-    requires { let lists = lookupLists
-        «stop_beats».now «stop_values».now
-        «delay_beats».now «delay_values».now
-        «warp_beats».now «warp_lengths».now
-        «fake_beats».now «fake_lengths».now in
+    requires { let lists = lookupLists «stop_beats».now «stop_values».now «delay_beats».now «delay_values».now
+        «warp_beats».now «warp_lengths».now «fake_beats».now «fake_lengths».now in
         ⌜ AllUsable lists × AllStand lists cursor ⌝ }
     ensures { λ r.
-        let lists = lookupLists
-        «stop_beats».entry.now «stop_values».entry.now
-        «delay_beats».entry.now «delay_values».entry.now
-        «warp_beats».entry.now «warp_lengths».entry.now
-        «fake_beats».entry.now «fake_lengths».entry.now in
+        let lists = lookupLists «stop_beats».entry.now «stop_values».entry.now «delay_beats».entry.now «delay_values».entry.now
+        «warp_beats».entry.now «warp_lengths».entry.now «fake_beats».entry.now «fake_lengths».entry.now in
         ⌜ AllStand lists r × (r .answer ≡ byte (isJudgable lists row)) ⌝ }
 {
     let key = rows::key_of_row(row);
@@ -921,19 +886,13 @@ fn judge_rows(
     rows: &[i32],
     out: &mut [u8],
 )
-    requires { let lists = lookupLists
-        «stop_beats».now «stop_values».now
-        «delay_beats».now «delay_values».now
-        «warp_beats».now «warp_lengths».now
-        «fake_beats».now «fake_lengths».now in
+    requires { let lists = lookupLists «stop_beats».now «stop_values».now «delay_beats».now «delay_values».now
+        «warp_beats».now «warp_lengths».now «fake_beats».now «fake_lengths».now in
         ⌜ AllUsable lists ⌝ }
     requires { ⌜ length (now rows) ≤ length (now out) ⌝ }
     ensures { λ _.
-        let lists = lookupLists
-        «stop_beats».entry.now «stop_values».entry.now
-        «delay_beats».entry.now «delay_values».entry.now
-        «warp_beats».entry.now «warp_lengths».entry.now
-        «fake_beats».entry.now «fake_lengths».entry.now in
+        let lists = lookupLists «stop_beats».entry.now «stop_values».entry.now «delay_beats».entry.now «delay_values».entry.now
+        «warp_beats».entry.now «warp_lengths».entry.now «fake_beats».entry.now «fake_lengths».entry.now in
         ⌜ out.exit.now ≡ laidEach (λ (asked : ℤ). byte (isJudgable lists asked)) rows.entry.now out.entry.now ⌝ }
 {
     let mut cursor = first_cursor(
@@ -980,11 +939,8 @@ pub fn judgable_rows(
     out: &mut [u8],
 ) -> Outcome
     ensures { λ r.
-        let lists = lookupLists
-        «stop_beats».entry.now «stop_values».entry.now
-        «delay_beats».entry.now «delay_values».entry.now
-        «warp_beats».entry.now «warp_lengths».entry.now
-        «fake_beats».entry.now «fake_lengths».entry.now in
+        let lists = lookupLists «stop_beats».entry.now «stop_values».entry.now «delay_beats».entry.now «delay_values».entry.now
+        «warp_beats».entry.now «warp_lengths».entry.now «fake_beats».entry.now «fake_lengths».entry.now in
         ⌜ Judged (judgableNumber lists (every rowIn rows.entry.now)) (isJudgable lists) rows.entry.now r out.entry.now out.exit.now ⌝ }
 {
     let number = lookup_tests::judgable_number(

@@ -28,11 +28,8 @@ pub fn check_lookups(
     fake_lengths: &[f32],
 ) -> u32
     ensures { λ r.
-        let lists = lookupLists
-        «stop_beats».entry.now «stop_values».entry.now
-        «delay_beats».entry.now «delay_values».entry.now
-        «warp_beats».entry.now «warp_lengths».entry.now
-        «fake_beats».entry.now «fake_lengths».entry.now in
+        let lists = lookupLists «stop_beats».entry.now «stop_values».entry.now «delay_beats».entry.now «delay_values».entry.now
+        «warp_beats».entry.now «warp_lengths».entry.now «fake_beats».entry.now «fake_lengths».entry.now in
         ⌜ r ≡ judgableNumber lists true ⌝ }
 {
     lookup_tests::judgable_number(
@@ -257,9 +254,7 @@ pub fn is_warp_at_row_checked(
     row: i32,
 ) -> Looked
     ensures { λ r.
-        let lists = warpLists
-        «stop_beats».entry.now «stop_values».entry.now
-        «delay_beats».entry.now «delay_values».entry.now
+        let lists = warpLists «stop_beats».entry.now «stop_values».entry.now «delay_beats».entry.now «delay_values».entry.now
         «warp_beats».entry.now «warp_lengths».entry.now in
         ⌜ r ≡ looked (askedNumber (rowIn row)) (atRow (warpedBy lists) row) ⌝ }
 {
@@ -297,9 +292,7 @@ pub fn is_warp_at_beat_checked(
     beat: f64,
 ) -> Looked
     ensures { λ r.
-        let lists = warpLists
-        «stop_beats».entry.now «stop_values».entry.now
-        «delay_beats».entry.now «delay_values».entry.now
+        let lists = warpLists «stop_beats».entry.now «stop_values».entry.now «delay_beats».entry.now «delay_values».entry.now
         «warp_beats».entry.now «warp_lengths».entry.now in
         ⌜ r ≡ looked (askedNumber (inRange (rangeOf Kind.Beat) beat)) (atRow (warpedBy lists) (askedRow beat)) ⌝ }
 {
@@ -375,11 +368,8 @@ pub fn is_judgable_at_row_checked(
     row: i32,
 ) -> Looked
     ensures { λ r.
-        let lists = lookupLists
-        «stop_beats».entry.now «stop_values».entry.now
-        «delay_beats».entry.now «delay_values».entry.now
-        «warp_beats».entry.now «warp_lengths».entry.now
-        «fake_beats».entry.now «fake_lengths».entry.now in
+        let lists = lookupLists «stop_beats».entry.now «stop_values».entry.now «delay_beats».entry.now «delay_values».entry.now
+        «warp_beats».entry.now «warp_lengths».entry.now «fake_beats».entry.now «fake_lengths».entry.now in
         ⌜ r ≡ looked (askedNumber (rowIn row)) (atRow (judgableBy lists) row) ⌝ }
 {
     if limits::row_taken(row) {
@@ -417,11 +407,8 @@ pub fn is_judgable_at_beat_checked(
     beat: f64,
 ) -> Looked
     ensures { λ r.
-        let lists = lookupLists
-        «stop_beats».entry.now «stop_values».entry.now
-        «delay_beats».entry.now «delay_values».entry.now
-        «warp_beats».entry.now «warp_lengths».entry.now
-        «fake_beats».entry.now «fake_lengths».entry.now in
+        let lists = lookupLists «stop_beats».entry.now «stop_values».entry.now «delay_beats».entry.now «delay_values».entry.now
+        «warp_beats».entry.now «warp_lengths».entry.now «fake_beats».entry.now «fake_lengths».entry.now in
         ⌜ r ≡ looked (askedNumber (inRange (rangeOf Kind.Beat) beat)) (atRow (judgableBy lists) (askedRow beat)) ⌝ }
 {
     if limits::taken(Kind::Beat, beat) {

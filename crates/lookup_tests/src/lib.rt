@@ -73,9 +73,7 @@ pub fn warp_number(
     allowed: bool,
 ) -> u32
     ensures { λ r.
-        let lists = warpLists
-        «stop_beats».entry.now «stop_values».entry.now
-        «delay_beats».entry.now «delay_values».entry.now
+        let lists = warpLists «stop_beats».entry.now «stop_values».entry.now «delay_beats».entry.now «delay_values».entry.now
         «warp_beats».entry.now «warp_lengths».entry.now in
         ⌜ r ≡ warpNumber lists allowed ⌝ }
 {
@@ -111,11 +109,8 @@ pub fn judgable_number(
     allowed: bool,
 ) -> u32
     ensures { λ r.
-        let lists = lookupLists
-        «stop_beats».entry.now «stop_values».entry.now
-        «delay_beats».entry.now «delay_values».entry.now
-        «warp_beats».entry.now «warp_lengths».entry.now
-        «fake_beats».entry.now «fake_lengths».entry.now in
+        let lists = lookupLists «stop_beats».entry.now «stop_values».entry.now «delay_beats».entry.now «delay_values».entry.now
+        «warp_beats».entry.now «warp_lengths».entry.now «fake_beats».entry.now «fake_lengths».entry.now in
         ⌜ r ≡ judgableNumber lists allowed ⌝ }
 {
     limits::lower_of(

@@ -242,7 +242,7 @@ pub fn get_displayed_beat_checked(
 // The searches come first, all of them, and what they find waits in the column of numbers: what is made of it then is at hand when a test depends on it.
 fn count_each(scroll_beats: &[f32], beats: &[f64], numbers: &mut [u32])
     requires { ⌜ (length (now «scroll_beats») ≤ mostEntries) × (length (now beats) ≤ length (now numbers)) ⌝ }
-    ensures { λ _. ⌜ now (numbers .exit) ≡ laidEach (λ (beat : Float). foundUpTo beat (now («scroll_beats» .entry))) (now (beats .entry)) (now (numbers .entry)) ⌝ }
+    ensures { λ _. ⌜ numbers.exit.now ≡ laidEach (λ (beat : Float). foundUpTo beat «scroll_beats».entry.now) beats.entry.now numbers.entry.now ⌝ }
 {
     let mut i = 0;
     while i < beats.len() {
@@ -259,7 +259,7 @@ fn answer_behind(
     count: usize,
     beat: f64,
 ) -> Displayed
-    ensures { λ r. ⌜ r ≡ displayed (beatNumber beat) (behindScrolls (now («scroll_beats» .entry)) (now («scroll_ratios» .entry)) (now (prefix .entry)) count beat) ⌝ }
+    ensures { λ r. ⌜ r ≡ displayed (beatNumber beat) (behindScrolls «scroll_beats».entry.now «scroll_ratios».entry.now prefix.entry.now count beat) ⌝ }
 {
     let number = clock_tests::beat_number(beat);
     if number == limits::TAKEN {
@@ -283,10 +283,10 @@ fn answer_each(
     numbers: &mut [u32],
     positions: &mut [f64],
 )
-    requires { ⌜ (length (now beats) ≤ length (now numbers)) × (length (now beats) ≤ length (now positions)) × ((i : ℕ) → i < length (now beats) → getD (now numbers) i 0 ≡ foundUpTo (getD (now beats) i nan) (now «scroll_beats»)) ⌝ }
+    requires { ⌜ (length beats.now ≤ length numbers.now) × (length beats.now ≤ length positions.now) × ((i : ℕ) → i < length beats.now → getD numbers.now i 0 ≡ foundUpTo (getD beats.now i nan) «scroll_beats».now) ⌝ }
     ensures { λ _. ⌜
-        (now (numbers .exit) ≡ laidEach (λ (beat : Float). checkedAt (now («scroll_beats» .entry)) (now («scroll_ratios» .entry)) (now (prefix .entry)) beat .number) (now (beats .entry)) (now (numbers .entry)))
-        × (now (positions .exit) ≡ laidEach (λ (beat : Float). checkedAt (now («scroll_beats» .entry)) (now («scroll_ratios» .entry)) (now (prefix .entry)) beat .beat) (now (beats .entry)) (now (positions .entry))) ⌝ }
+        (numbers.exit.now ≡ laidEach (λ (beat : Float). checkedAt «scroll_beats».entry.now «scroll_ratios».entry.now prefix.entry.now beat .number) beats.entry.now numbers.entry.now)
+        × (positions.exit.now ≡ laidEach (λ (beat : Float). checkedAt «scroll_beats».entry.now «scroll_ratios».entry.now prefix.entry.now beat .beat) beats.entry.now positions.entry.now) ⌝ }
 {
     let mut i = 0;
     while i < beats.len() {
@@ -307,8 +307,8 @@ fn show_by(
     numbers: &mut [u32],
     positions: &mut [f64],
 )
-    requires { ⌜ (scrollColumnsNumber (now «scroll_beats») (now «scroll_ratios») ≡ 0) × (length (now «scroll_beats») ≤ length (now prefix)) × (length (now beats) ≤ length (now numbers)) × (length (now beats) ≤ length (now positions)) ⌝ }
-    ensures { λ _. ⌜ AllDisplayed (now («scroll_beats» .entry)) (now («scroll_ratios» .entry)) (now (beats .entry)) (now (numbers .entry)) (now (numbers .exit)) (now (positions .entry)) (now (positions .exit)) ⌝ }
+    requires { ⌜ (scrollColumnsNumber «scroll_beats».now «scroll_ratios».now ≡ 0) × (length «scroll_beats».now ≤ length prefix.now) × (length beats.now ≤ length numbers.now) × (length beats.now ≤ length positions.now) ⌝ }
+    ensures { λ _. ⌜ AllDisplayed «scroll_beats».entry.now «scroll_ratios».entry.now beats.entry.now numbers.entry.now numbers.exit.now positions.entry.now positions.exit.now ⌝ }
 {
     lay_prefix(scroll_beats, scroll_ratios, prefix);
     count_each(scroll_beats, beats, numbers);
@@ -329,8 +329,8 @@ fn show_all(
     numbers: &mut [u32],
     positions: &mut [f64],
 )
-    requires { ⌜ (scrollColumnsNumber (now «scroll_beats») (now «scroll_ratios») ≡ 0) × (length (now beats) ≤ length (now numbers)) × (length (now beats) ≤ length (now positions)) ⌝ }
-    ensures { λ _. ⌜ AllDisplayed (now («scroll_beats» .entry)) (now («scroll_ratios» .entry)) (now (beats .entry)) (now (numbers .entry)) (now (numbers .exit)) (now (positions .entry)) (now (positions .exit)) ⌝ }
+    requires { ⌜ (scrollColumnsNumber «scroll_beats».now «scroll_ratios».now ≡ 0) × (length beats.now ≤ length numbers.now) × (length beats.now ≤ length positions.now) ⌝ }
+    ensures { λ _. ⌜ AllDisplayed «scroll_beats».entry.now «scroll_ratios».entry.now beats.entry.now numbers.entry.now numbers.exit.now positions.entry.now positions.exit.now ⌝ }
 {
     let n = scroll_beats.len();
     let mut prefix = [0.0; limits::MOST_ENTRIES];
@@ -353,7 +353,7 @@ pub fn get_displayed_beats(
     numbers: &mut [u32],
     positions: &mut [f64],
 ) -> Outcome
-    ensures { λ r. ⌜ BeatsDisplayed (now («scroll_beats» .entry)) (now («scroll_ratios» .entry)) (now (beats .entry)) r (now (numbers .entry)) (now (numbers .exit)) (now (positions .entry)) (now (positions .exit)) ⌝ }
+    ensures { λ r. ⌜ BeatsDisplayed «scroll_beats».entry.now «scroll_ratios».entry.now beats.entry.now r numbers.entry.now numbers.exit.now positions.entry.now positions.exit.now ⌝ }
 {
     let number = scroll_columns_number(scroll_beats, scroll_ratios);
     if number != limits::TAKEN {
