@@ -23,7 +23,9 @@ ghost use Rattle.clock_walk.specs.Quiet.{onlyTempos};
 ghost use Rattle.clock_walk.specs.Soon.{quietAt, soonOf};
 ghost use Rattle.clock_walk.specs.Walk.{walk};
 ghost use Rattle.clock.specs.Question.{freshState, freshCursor, made, filled, beginning, answered, refusedWith, asking, playerQuestion, question};
-ghost use Rattle.clock.specs.Marked.{markOf, noMark, markMade, sameBits, sameRow, samePlaces, sameWarp, sameMark, markedTimingNumber, markedAsking, markedPlayerQuestion, markedQuestion};
+ghost use Rattle.clock.specs.inside.QuickWay.{PastTempo, NearRow};
+ghost use Rattle.clock.specs.Marked.{markOf, noMark, markMade, sameBits, sameRow, samePlaces, sameWarp, sameMark, markedTimingNumber};
+ghost use Rattle.clock.specs.Marked.{markedAsking, markedPlayerQuestion, markedQuestion};
 
 // How far the questions so far have come, and the row asked last.
 #[repr(C)]
@@ -467,9 +469,9 @@ impl Cursor {
         global: f64,
     ) -> Walked
         ensures is { λ r.
-        let t = timing «tempo_beats».entry.now «tempo_values».entry.now «stop_beats».entry.now «stop_values».entry.now
-        «delay_beats».entry.now «delay_values».entry.now «warp_beats».entry.now «warp_lengths».entry.now in
-        ⌜ r ≡ walk (filled t) row (beginning self row offset global) ⌝ }
+            let t = timing «tempo_beats».entry.now «tempo_values».entry.now «stop_beats».entry.now «stop_values».entry.now
+            «delay_beats».entry.now «delay_values».entry.now «warp_beats».entry.now «warp_lengths».entry.now in
+            ⌜ r ≡ walk (filled t) row (beginning self row offset global) ⌝ }
         ensures few { λ r. ⌜ r .passed + 1 < 2 ^ 64 ⌝ }
     {
         let begin = self.begin(row, offset, global);
@@ -489,7 +491,7 @@ impl Cursor {
 
     // True only where the cursor has passed a tempo of so many and its rows are from 0 on, and its numbers, but for its places in the other lists, are not refused.
     fn is_past_tempo(self, tempos: usize) -> bool
-        ensures { λ r. ⌜ (r ≡ true → (ltZ (self .asked) (pos 0) ≡ false) × (ltZ (self .state .row) (pos 0) ≡ false) × (ltZ (pos 3145728) (self .state .row) ≡ false) × (eqb (self .state .tempos) 0 ≡ false) × (self .state .tempos ≤ tempos) × (timeAndEndIn (self .state .time) (self .state .end) ≡ true)) ⌝ }
+        ensures { λ r. ⌜ (r ≡ true → PastTempo self tempos) ⌝ }
     {
         if self.asked < 0 {
             return false;
@@ -520,7 +522,8 @@ impl Cursor {
         delay_beats: &[f32],
         warp_beats: &[f32],
     ) -> bool
-        ensures { λ r. ⌜ (r ≡ true → (ltZ row (self .asked) ≡ false) × (eqb (length «tempo_beats».entry.now) 0 ≡ false) × (eqb (self .state .tempos) 0 ≡ false) × (onlyTempos «stop_beats».entry.now «delay_beats».entry.now «warp_beats».entry.now (self .state) row ≡ true) × (cursorNumber (pick (eqb (length «tempo_beats».entry.now) 0) 1 (length «tempo_beats».entry.now)) (length «stop_beats».entry.now) (length «delay_beats».entry.now) (length «warp_beats».entry.now) (self .state) (self .asked) ≡ 0)) ⌝ }
+        ensures { λ r.
+            ⌜ (r ≡ true → NearRow self row «tempo_beats».entry.now «stop_beats».entry.now «delay_beats».entry.now «warp_beats».entry.now) ⌝ }
     {
         if row < self.asked {
             return false;
@@ -543,11 +546,8 @@ impl Cursor {
         warp_beats: &[f32],
     ) -> Soon
         ensures { λ r.
-            let tempos = «tempo_beats».entry.now in
-            let stops = «stop_beats».entry.now in
-            let delays = «delay_beats».entry.now in
-            let warps = «warp_beats».entry.now in
-            ⌜ (r .whole ≡ true → (ltZ row (self .asked) ≡ false) × (eqb (length tempos) 0 ≡ false) × (eqb (self .state .tempos) 0 ≡ false) × (onlyTempos stops delays warps (self .state) row ≡ true) × (cursorNumber (pick (eqb (length tempos) 0) 1 (length tempos)) (length stops) (length delays) (length warps) (self .state) (self .asked) ≡ 0) × (r ≡ soonOf tempos «tempo_values».entry.now (self .state) row)) ⌝ }
+            let near = NearRow self row «tempo_beats».entry.now «stop_beats».entry.now «delay_beats».entry.now «warp_beats».entry.now in
+            ⌜ (r .whole ≡ true → near × (r ≡ soonOf «tempo_beats».entry.now «tempo_values».entry.now (self .state) row)) ⌝ }
     {
         let state = self.state;
         if self.is_near(row, tempo_beats, stop_beats, delay_beats, warp_beats) {
@@ -577,9 +577,9 @@ impl Cursor {
         beat: f64,
     ) -> Answer
         ensures { λ r.
-        let t = timing «tempo_beats».entry.now «tempo_values».entry.now «stop_beats».entry.now «stop_values».entry.now
-        «delay_beats».entry.now «delay_values».entry.now «warp_beats».entry.now «warp_lengths».entry.now in
-        ⌜ r ≡ asking t self offset global beat ⌝ }
+            let t = timing «tempo_beats».entry.now «tempo_values».entry.now «stop_beats».entry.now «stop_values».entry.now
+            «delay_beats».entry.now «delay_values».entry.now «warp_beats».entry.now «warp_lengths».entry.now in
+            ⌜ r ≡ asking t self offset global beat ⌝ }
     {
         let number = clock_tests::beat_number(beat);
         if number == limits::TAKEN {
@@ -613,7 +613,10 @@ impl Cursor {
         delay_beats: &[f32],
         warp_beats: &[f32],
     ) -> u32
-        ensures { λ r. ⌜ r ≡ cursorNumber (pick (eqb (length «tempo_beats».entry.now) 0) 1 (length «tempo_beats».entry.now)) (length «stop_beats».entry.now) (length «delay_beats».entry.now) (length «warp_beats».entry.now) (self .state) (self .asked) ⌝ }
+        ensures { λ r.
+            let tempos = length «tempo_beats».entry.now in
+            ⌜ r ≡ cursorNumber (pick (eqb tempos 0) 1 tempos) (length «stop_beats».entry.now) (length «delay_beats».entry.now) (length «warp_beats».entry.now)
+            (self .state) (self .asked) ⌝ }
     {
         let tempos = tempos_of(tempo_beats.len());
         let state = self.state;
@@ -644,9 +647,9 @@ impl Cursor {
         beat: f64,
     ) -> Answer
         ensures { λ r.
-        let t = timing «tempo_beats».entry.now «tempo_values».entry.now «stop_beats».entry.now «stop_values».entry.now
-        «delay_beats».entry.now «delay_values».entry.now «warp_beats».entry.now «warp_lengths».entry.now in
-        ⌜ r ≡ playerQuestion t self offset global beat ⌝ }
+            let t = timing «tempo_beats».entry.now «tempo_values».entry.now «stop_beats».entry.now «stop_values».entry.now
+            «delay_beats».entry.now «delay_values».entry.now «warp_beats».entry.now «warp_lengths».entry.now in
+            ⌜ r ≡ playerQuestion t self offset global beat ⌝ }
     {
         let asked = clock_tests::beat_number(beat);
         if asked != limits::TAKEN {
@@ -707,9 +710,9 @@ impl Cursor {
         beat: f64,
     ) -> Answer
         ensures { λ r.
-        let t = timing «tempo_beats».entry.now «tempo_values».entry.now «stop_beats».entry.now «stop_values».entry.now
-        «delay_beats».entry.now «delay_values».entry.now «warp_beats».entry.now «warp_lengths».entry.now in
-        ⌜ r ≡ question t self offset global beat ⌝ }
+            let t = timing «tempo_beats».entry.now «tempo_values».entry.now «stop_beats».entry.now «stop_values».entry.now
+            «delay_beats».entry.now «delay_values».entry.now «warp_beats».entry.now «warp_lengths».entry.now in
+            ⌜ r ≡ question t self offset global beat ⌝ }
     {
         let timing = clock_tests::check_timing(
             tempo_beats,

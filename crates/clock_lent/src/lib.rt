@@ -3,7 +3,7 @@ use clock::Cursor;
 ghost use mathlib.Core.Path.{_≡_};
 ghost use Rattle.chart.specs.Timing.{timing};
 ghost use Rattle.clock.specs.Question.{playerQuestion, question};
-ghost use Rattle.clock_run.specs.Run.{RunLaid};
+ghost use Rattle.clock_run.specs.Run.{runColumns, RunLaid};
 ghost use Rattle.clock_lent.specs.Reply.{replyOf};
 
 // A question's number, its time, and the events passed and one. The cursor for the next question is in the place that was lent.
@@ -33,7 +33,8 @@ pub extern "C" fn marrighentu_lent_time_for_beat(
     ensures { λ r.
         let t = timing «tempo_beats».entry.now «tempo_values».entry.now «stop_beats».entry.now «stop_values».entry.now
         «delay_beats».entry.now «delay_values».entry.now «warp_beats».entry.now «warp_lengths».entry.now in
-        ⌜ (r ≡ replyOf (question t cursor.entry.now offset global beat)) × (cursor.exit.now ≡ question t cursor.entry.now offset global beat .cursor) ⌝ }
+        let answer = question t cursor.entry.now offset global beat in
+        ⌜ (r ≡ replyOf answer) × (cursor.exit.now ≡ answer .cursor) ⌝ }
 {
     let answer = (*cursor).time_for_beat(
         tempo_beats,
@@ -75,7 +76,8 @@ pub extern "C" fn marrighentu_lent_time_for_beat_checked(
     ensures { λ r.
         let t = timing «tempo_beats».entry.now «tempo_values».entry.now «stop_beats».entry.now «stop_values».entry.now
         «delay_beats».entry.now «delay_values».entry.now «warp_beats».entry.now «warp_lengths».entry.now in
-        ⌜ (r ≡ replyOf (playerQuestion t cursor.entry.now offset global beat)) × (cursor.exit.now ≡ playerQuestion t cursor.entry.now offset global beat .cursor) ⌝ }
+        let answer = playerQuestion t cursor.entry.now offset global beat in
+        ⌜ (r ≡ replyOf answer) × (cursor.exit.now ≡ answer .cursor) ⌝ }
 {
     let answer = (*cursor).time_for_beat_checked(
         tempo_beats,
@@ -120,7 +122,9 @@ pub extern "C" fn marrighentu_lent_run(
     ensures { λ r.
         let t = timing «tempo_beats».entry.now «tempo_values».entry.now «stop_beats».entry.now «stop_values».entry.now
         «delay_beats».entry.now «delay_values».entry.now «warp_beats».entry.now «warp_lengths».entry.now in
-        ⌜ RunLaid t offset global cursor.entry.now beats.entry.now (record { cursor = cursor.exit.now; number = r }) numbers.entry.now numbers.exit.now times.entry.now times.exit.now counts.entry.now counts.exit.now ⌝ }
+        let old = runColumns numbers.entry.now times.entry.now counts.entry.now in
+        let new = runColumns numbers.exit.now times.exit.now counts.exit.now in
+        ⌜ RunLaid t offset global cursor.entry.now beats.entry.now (record { cursor = cursor.exit.now; number = r }) old new ⌝ }
 {
     let ran = clock_run::run(
         *cursor,

@@ -7,7 +7,7 @@ ghost use mathlib.Core.Path.{_≡_};
 ghost use Prim.Native.Nat.{_≤_};
 ghost use lib.ListN.{length};
 ghost use Rattle.chart.specs.Timing.{timing};
-ghost use Rattle.clock_run.specs.Run.{runRoomNumber, RunLaid};
+ghost use Rattle.clock_run.specs.Run.{runRoomNumber, runColumns, RunLaid};
 ghost use Rattle.clock_run.specs.MarkedRun.{MarkedRunLaid};
 ghost use Rattle.clock_run.specs.inside.Asked.{AllAsked};
 ghost use Rattle.clock_run.specs.inside.Outlook.{lesserRow, restUntil, lookOn, lookAhead, isBeyond, isBefore, quietTime, soonBefore};
@@ -222,11 +222,13 @@ fn ask_each(
     times: &mut [f64],
     counts: &mut [usize],
 ) -> Cursor
-    requires { ⌜ (length (now beats) ≤ length (now numbers)) × (length (now beats) ≤ length (now times)) × (length (now beats) ≤ length (now counts)) ⌝ }
+    requires { ⌜ (length beats.now ≤ length numbers.now) × (length beats.now ≤ length times.now) × (length beats.now ≤ length counts.now) ⌝ }
     ensures { λ r.
         let t = timing «tempo_beats».entry.now «tempo_values».entry.now «stop_beats».entry.now «stop_values».entry.now
         «delay_beats».entry.now «delay_values».entry.now «warp_beats».entry.now «warp_lengths».entry.now in
-        ⌜ AllAsked mark t offset global cursor beats.entry.now r numbers.entry.now numbers.exit.now times.entry.now times.exit.now counts.entry.now counts.exit.now ⌝ }
+        let old = runColumns numbers.entry.now times.entry.now counts.entry.now in
+        let new = runColumns numbers.exit.now times.exit.now counts.exit.now in
+        ⌜ AllAsked mark t offset global cursor beats.entry.now r old new ⌝ }
 {
     let beyond = clock::rate_beyond(mark, tempo_beats, tempo_values);
     let mut at = cursor;
@@ -337,7 +339,9 @@ pub fn run(
     ensures { λ r.
         let t = timing «tempo_beats».entry.now «tempo_values».entry.now «stop_beats».entry.now «stop_values».entry.now
         «delay_beats».entry.now «delay_values».entry.now «warp_beats».entry.now «warp_lengths».entry.now in
-        ⌜ RunLaid t offset global cursor beats.entry.now r numbers.entry.now numbers.exit.now times.entry.now times.exit.now counts.entry.now counts.exit.now ⌝ }
+        let old = runColumns numbers.entry.now times.entry.now counts.entry.now in
+        let new = runColumns numbers.exit.now times.exit.now counts.exit.now in
+        ⌜ RunLaid t offset global cursor beats.entry.now r old new ⌝ }
 {
     let timing = clock_tests::check_timing(
         tempo_beats,
@@ -408,7 +412,9 @@ pub fn run_marked(
     ensures { λ r.
         let t = timing «tempo_beats».entry.now «tempo_values».entry.now «stop_beats».entry.now «stop_values».entry.now
         «delay_beats».entry.now «delay_values».entry.now «warp_beats».entry.now «warp_lengths».entry.now in
-        ⌜ MarkedRunLaid mark t offset global cursor beats.entry.now r numbers.entry.now numbers.exit.now times.entry.now times.exit.now counts.entry.now counts.exit.now ⌝ }
+        let old = runColumns numbers.entry.now times.entry.now counts.entry.now in
+        let new = runColumns numbers.exit.now times.exit.now counts.exit.now in
+        ⌜ MarkedRunLaid mark t offset global cursor beats.entry.now r old new ⌝ }
 {
     let marked = clock::check_marked_timing(
         mark,

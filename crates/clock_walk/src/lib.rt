@@ -9,7 +9,8 @@ ghost use Rattle.ieee.specs.Constants.{sixty};
 ghost use Rattle.chart.specs.Timing.{timing};
 ghost use Rattle.clock_walk.specs.Events.{goesFirst, goesBefore, dueOf};
 ghost use Rattle.clock_walk.specs.Heads.{headsOf, headsAfter, soonerHead, leastHead, aheadOf};
-ghost use Rattle.clock_walk.specs.Passing.{tempoAt, earlyTempo, inForce, timeTo, timeAt, larger, afterWarpEnd, afterTempo, afterDelay, afterStop, afterWarp, brings, eventPassed, firstOr, lastUpTo};
+ghost use Rattle.clock_walk.specs.Passing.{tempoAt, earlyTempo, inForce, timeTo, timeAt, larger, firstOr, lastUpTo};
+ghost use Rattle.clock_walk.specs.Passing.{afterWarpEnd, afterTempo, afterDelay, afterStop, afterWarp, brings, eventPassed};
 ghost use Rattle.clock_walk.specs.inside.CanMove.{CanMove};
 ghost use Rattle.clock_walk.specs.Quiet.{rowAt, endRow, notBefore, isLater, isNextLater, onlyTempos};
 ghost use Rattle.clock_walk.specs.Soon.{quietAt, tempoPassed, rowAfter, soonOf};
@@ -85,7 +86,7 @@ pub fn heads_of(
     delay_beats: &[f32],
     warp_beats: &[f32],
 ) -> Heads
-    ensures { λ r. ⌜ r ≡ headsOf (now («tempo_beats» .entry)) (now («stop_beats» .entry)) (now («delay_beats» .entry)) (now («warp_beats» .entry)) state ⌝ }
+    ensures { λ r. ⌜ r ≡ headsOf «tempo_beats».entry.now «stop_beats».entry.now «delay_beats».entry.now «warp_beats».entry.now state ⌝ }
 {
     let end = end_row(state.warping, state.end);
     let tempo = row_at(tempo_beats, state.tempos);
@@ -798,7 +799,9 @@ fn pause_of(kind: Event) -> Pausing
 
 // True only where a tempo is ahead, alone on its row, and has come by a time.
 fn is_tempo_over(state: State, heads: Heads, elapsed: f64, early: f64, tempo_values: &[f32]) -> bool
-    ensures { λ r. ⌜ (r ≡ true → (aheadOf heads ≡ Found (record { row = heads .tempo; kind = Tempo })) × (lt elapsed (timeAt early «tempo_values».entry.now state (heads .tempo)) ≡ false)) ⌝ }
+    ensures { λ r.
+        let next = Found (record { row = heads .tempo; kind = Tempo }) in
+        ⌜ (r ≡ true → (aheadOf heads ≡ next) × (lt elapsed (timeAt early «tempo_values».entry.now state (heads .tempo)) ≡ false)) ⌝ }
 {
     if is_tempo_ahead(heads) {
         let later = elapsed < time_at(state, heads.tempo, early, tempo_values);

@@ -14,6 +14,7 @@ ghost use Rattle.columns.specs.Laying.{LaidPair};
 ghost use Rattle.limits.specs.Numbers.{rangeOf, inRange, every, rowIn};
 ghost use Rattle.lookup_row_store.specs.RowStore.{RowsStored};
 ghost use mathlib.Core.Bool.{true};
+ghost use Rattle.lookup.specs.Lookups.{listColumns, warpLists, lookupLists};
 ghost use Rattle.lookup.specs.Lookups.{isWarped, isFake, isJudgable, askedRow, askedNumber, warpNumber, fakeNumber, judgableNumber, looked, Judged};
 ghost use Rattle.lookup_checked.specs.Checked.{warpedBy, fakeBy, judgableBy, atRow};
 ghost use Rattle.limits.specs.Refusals.{listNumber};
@@ -26,7 +27,7 @@ ghost use Rattle.process_sm.specs.Sm.{SmProcessed};
 ghost use Rattle.chart.specs.Timing.{timing};
 ghost use Rattle.clock_tests.specs.TimingNumbers.{timingNumber};
 ghost use Rattle.clock.specs.Question.{freshCursor, made, playerQuestion, question};
-ghost use Rattle.clock_run.specs.Run.{RunLaid};
+ghost use Rattle.clock_run.specs.Run.{runColumns, RunLaid};
 ghost use Rattle.tidy_scrolls.specs.ScrollTidying.{ScrollsTidied};
 ghost use Rattle.tidy_speeds.specs.SpeedTidying.{SpeedsTidied};
 
@@ -51,7 +52,10 @@ pub extern "C" fn marrighentu_tidy_bpms(
     out_beats: &mut [f64],
     out_tempos: &mut [f64],
 ) -> Outcome
-    ensures { λ r. ⌜ LaidPair (listNumber (rangeOf Kind.Beat) (rangeOf Kind.TidyTempo) beats.entry.now tempos.entry.now) (tidyTempos beats.entry.now tempos.entry.now) r «out_beats».entry.now «out_beats».exit.now «out_tempos».entry.now «out_tempos».exit.now ⌝ }
+    ensures { λ r.
+        let number = listNumber (rangeOf Kind.Beat) (rangeOf Kind.TidyTempo) beats.entry.now tempos.entry.now in
+        ⌜ LaidPair number (tidyTempos beats.entry.now tempos.entry.now) r
+        «out_beats».entry.now «out_beats».exit.now «out_tempos».entry.now «out_tempos».exit.now ⌝ }
 {
     tidy_tempos::tidy_bpms(beats, tempos, out_beats, out_tempos)
 }
@@ -150,7 +154,9 @@ pub extern "C" fn marrighentu_is_fake_at_row(
     fake_lengths: &[f32],
     row: i32,
 ) -> Looked
-    ensures { λ r. ⌜ r ≡ looked (fakeNumber «fake_beats».entry.now «fake_lengths».entry.now (rowIn row)) (isFake «fake_beats».entry.now «fake_lengths».entry.now row) ⌝ }
+    ensures { λ r.
+        let fakes = listColumns «fake_beats».entry.now «fake_lengths».entry.now in
+        ⌜ r ≡ looked (fakeNumber fakes (rowIn row)) (isFake fakes row) ⌝ }
 {
     lookup::is_fake_at_row(fake_beats, fake_lengths, row)
 }
@@ -162,7 +168,9 @@ pub extern "C" fn marrighentu_is_fake_at_beat(
     fake_lengths: &[f32],
     beat: f64,
 ) -> Looked
-    ensures { λ r. ⌜ r ≡ looked (fakeNumber «fake_beats».entry.now «fake_lengths».entry.now (inRange (rangeOf Kind.Beat) beat)) (isFake «fake_beats».entry.now «fake_lengths».entry.now (askedRow beat)) ⌝ }
+    ensures { λ r.
+        let fakes = listColumns «fake_beats».entry.now «fake_lengths».entry.now in
+        ⌜ r ≡ looked (fakeNumber fakes (inRange (rangeOf Kind.Beat) beat)) (isFake fakes (askedRow beat)) ⌝ }
 {
     lookup::is_fake_at_beat(fake_beats, fake_lengths, beat)
 }
@@ -354,7 +362,9 @@ pub extern "C" fn marrighentu_is_fake_at_row_checked(
     fake_lengths: &[f32],
     row: i32,
 ) -> Looked
-    ensures { λ r. ⌜ r ≡ looked (askedNumber (rowIn row)) (atRow (fakeBy (now («fake_beats» .entry)) (now («fake_lengths» .entry))) row) ⌝ }
+    ensures { λ r.
+        let fakes = listColumns «fake_beats».entry.now «fake_lengths».entry.now in
+        ⌜ r ≡ looked (askedNumber (rowIn row)) (atRow (fakeBy fakes) row) ⌝ }
 {
     lookup_checked::is_fake_at_row_checked(fake_beats, fake_lengths, row)
 }
@@ -366,7 +376,9 @@ pub extern "C" fn marrighentu_is_fake_at_beat_checked(
     fake_lengths: &[f32],
     beat: f64,
 ) -> Looked
-    ensures { λ r. ⌜ r ≡ looked (askedNumber (inRange (rangeOf Kind.Beat) beat)) (atRow (fakeBy «fake_beats».entry.now «fake_lengths».entry.now) (askedRow beat)) ⌝ }
+    ensures { λ r.
+        let fakes = listColumns «fake_beats».entry.now «fake_lengths».entry.now in
+        ⌜ r ≡ looked (askedNumber (inRange (rangeOf Kind.Beat) beat)) (atRow (fakeBy fakes) (askedRow beat)) ⌝ }
 {
     lookup_checked::is_fake_at_beat_checked(fake_beats, fake_lengths, beat)
 }
@@ -445,7 +457,10 @@ pub extern "C" fn marrighentu_process_bpms_and_stops_ssc(
     out_stop_beats: &mut [f64],
     out_stop_values: &mut [f64],
 ) -> Processed
-    ensures { λ r. ⌜ SscProcessed «tempo_beats».entry.now «tempo_values».entry.now «stop_beats».entry.now «stop_values».entry.now r «out_tempo_beats».entry.now «out_tempo_beats».exit.now «out_tempo_values».entry.now «out_tempo_values».exit.now «out_stop_beats».entry.now «out_stop_beats».exit.now «out_stop_values».entry.now «out_stop_values».exit.now ⌝ }
+    ensures { λ r.
+        ⌜ SscProcessed «tempo_beats».entry.now «tempo_values».entry.now «stop_beats».entry.now «stop_values».entry.now r
+        «out_tempo_beats».entry.now «out_tempo_beats».exit.now «out_tempo_values».entry.now «out_tempo_values».exit.now
+        «out_stop_beats».entry.now «out_stop_beats».exit.now «out_stop_values».entry.now «out_stop_values».exit.now ⌝ }
 {
     process_ssc::process_bpms_and_stops_ssc(
         tempo_beats,
@@ -473,7 +488,11 @@ pub extern "C" fn marrighentu_process_bpms_and_stops_sm(
     out_warp_beats: &mut [f64],
     out_warp_lengths: &mut [f64],
 ) -> Processed
-    ensures { λ r. ⌜ SmProcessed «tempo_beats».entry.now «tempo_values».entry.now «stop_beats».entry.now «stop_values».entry.now r «out_tempo_beats».entry.now «out_tempo_beats».exit.now «out_tempo_values».entry.now «out_tempo_values».exit.now «out_stop_beats».entry.now «out_stop_beats».exit.now «out_stop_values».entry.now «out_stop_values».exit.now «out_warp_beats».entry.now «out_warp_beats».exit.now «out_warp_lengths».entry.now «out_warp_lengths».exit.now ⌝ }
+    ensures { λ r.
+        ⌜ SmProcessed «tempo_beats».entry.now «tempo_values».entry.now «stop_beats».entry.now «stop_values».entry.now r
+        «out_tempo_beats».entry.now «out_tempo_beats».exit.now «out_tempo_values».entry.now «out_tempo_values».exit.now
+        «out_stop_beats».entry.now «out_stop_beats».exit.now «out_stop_values».entry.now «out_stop_values».exit.now
+        «out_warp_beats».entry.now «out_warp_beats».exit.now «out_warp_lengths».entry.now «out_warp_lengths».exit.now ⌝ }
 {
     process_sm::process_bpms_and_stops_sm(
         tempo_beats,
@@ -501,7 +520,10 @@ pub extern "C" fn marrighentu_convert_warps_and_delays_to_sm_stops(
     warp_lengths: &[f32],
     work: &mut [f32],
 ) -> Filled
-    ensures { λ r. ⌜ StopsFilled (sources «tempo_beats».entry.now «tempo_values».entry.now stops.entry.now «delay_beats».entry.now «delay_values».entry.now «warp_beats».entry.now «warp_lengths».entry.now) r work.entry.now work.exit.now ⌝ }
+    ensures { λ r.
+        let lists = sources «tempo_beats».entry.now «tempo_values».entry.now stops.entry.now
+        «delay_beats».entry.now «delay_values».entry.now «warp_beats».entry.now «warp_lengths».entry.now in
+        ⌜ StopsFilled lists r work.entry.now work.exit.now ⌝ }
 {
     stops_for_sm::convert_warps_and_delays_to_sm_stops(
         tempo_beats,
@@ -685,7 +707,9 @@ pub extern "C" fn marrighentu_run(
     ensures { λ r.
         let t = timing «tempo_beats».entry.now «tempo_values».entry.now «stop_beats».entry.now «stop_values».entry.now
         «delay_beats».entry.now «delay_values».entry.now «warp_beats».entry.now «warp_lengths».entry.now in
-        ⌜ RunLaid t offset global cursor beats.entry.now r numbers.entry.now numbers.exit.now times.entry.now times.exit.now counts.entry.now counts.exit.now ⌝ }
+        let old = runColumns numbers.entry.now times.entry.now counts.entry.now in
+        let new = runColumns numbers.exit.now times.exit.now counts.exit.now in
+        ⌜ RunLaid t offset global cursor beats.entry.now r old new ⌝ }
 {
     clock_run::run(
         cursor,
@@ -714,7 +738,9 @@ pub extern "C" fn marrighentu_tidy_scroll_segments(
     out_beats: &mut [f64],
     out_values: &mut [f64],
 ) -> Outcome
-    ensures { λ r. ⌜ ScrollsTidied beats.entry.now values.entry.now r «out_beats».entry.now «out_beats».exit.now «out_values».entry.now «out_values».exit.now ⌝ }
+    ensures { λ r.
+        ⌜ ScrollsTidied beats.entry.now values.entry.now r
+        «out_beats».entry.now «out_beats».exit.now «out_values».entry.now «out_values».exit.now ⌝ }
 {
     tidy_scrolls::tidy_scroll_segments(beats, values, out_beats, out_values)
 }
@@ -731,7 +757,10 @@ pub extern "C" fn marrighentu_tidy_speed_segments(
     out_delays: &mut [f64],
     out_units: &mut [u8],
 ) -> Outcome
-    ensures { λ r. ⌜ SpeedsTidied beats.entry.now ratios.entry.now delays.entry.now units.entry.now r «out_beats».entry.now «out_beats».exit.now «out_ratios».entry.now «out_ratios».exit.now «out_delays».entry.now «out_delays».exit.now «out_units».entry.now «out_units».exit.now ⌝ }
+    ensures { λ r.
+        ⌜ SpeedsTidied beats.entry.now ratios.entry.now delays.entry.now units.entry.now r
+        «out_beats».entry.now «out_beats».exit.now «out_ratios».entry.now «out_ratios».exit.now
+        «out_delays».entry.now «out_delays».exit.now «out_units».entry.now «out_units».exit.now ⌝ }
 {
     tidy_speeds::tidy_speed_segments(
         beats,

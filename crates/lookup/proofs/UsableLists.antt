@@ -37,8 +37,7 @@ pub warp-usable : (lists : WarpLists) (allowed : Bool) → warpNumber lists allo
     → Usable (lists .stops .beats) (lists .stops .values) × Usable (lists .delays .beats) (lists .delays .values) × Usable (lists .warps .beats) (lists .warps .values)
 warp-usable lists allowed h =
     let both = lower-none _ _ h in
-    let pauses = lower-none _ _ (both .0) in
-    (
+    let pauses = lower-none _ _ (both .0) in (
       usable (rangeOf Pause) (lists .stops .beats) (lists .stops .values) (pauses .0),
       usable (rangeOf Pause) (lists .delays .beats) (lists .delays .values) (pauses .1),
       usable (rangeOf Value) (lists .warps .beats) (lists .warps .values) (lower-none _ _ (both .1) .0),

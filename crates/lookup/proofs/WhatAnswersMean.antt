@@ -1,21 +1,18 @@
 -- What the answers say, as propositions: which entry is tested, when a row is paused, warped and judgable. Assumes nothing.
 use Prim.Native.Nat.{ℕ, zero, suc, _<_}
-use mathlib.Core.Path.{_≡_, refl, sym, ap, _∙_}
+use mathlib.Core.Path.{_≡_, refl, _∙_}
 use mathlib.Core.Bool.{Bool, true, false, not}
-use mathlib.Core.List.{List, [], _∷_, map}
+use mathlib.Core.List.{List, [], _∷_}
 use native.Mathlib.Omega.{arith}
-use borrow.Author.Tests.{eqb-true, eq-eqb, not-true}
+use borrow.Author.Tests.{eqb-true, eq-eqb}
 use lib.Dec.{eqb}
 use lib.IntN.{ℤ}
 use lib.ListN.{length, getD}
 use lib.Ieee.{Float, nan, lt}
 use Rattle.ieee.specs.Constants.{plusZero}
 use Rattle.picks.specs.Pick.{pick}
-use Rattle.order.specs.Order.{laid}
 use Rattle.rows.specs.RowKey.{rowKey}
-use Rattle.columns.specs.declared.Outcome.{Outcome}
-use Rattle.columns.specs.Laying.{given}
-use Rattle.lookup.specs.Lookups.{keyOf, lastPasses, isPaused, inWarp, isWarped, isFake, isJudgable, byte, Judged}
+use Rattle.lookup.specs.Lookups.{WarpLists, LookupLists, butFakes, keyOf, lastPasses, isPaused, inWarp, isWarped, isFake, isJudgable}
 use Rattle.lookup.specs.inside.Finding.{keyAt, Split}
 use Rattle.lookup_tests.proofs.RowsRise.{never}
 use Rattle.lookup.proofs.FoundEntries.{of-next, last-found}

@@ -283,10 +283,12 @@ fn answer_each(
     numbers: &mut [u32],
     positions: &mut [f64],
 )
-    requires { ⌜ (length beats.now ≤ length numbers.now) × (length beats.now ≤ length positions.now) × ((i : ℕ) → i < length beats.now → getD numbers.now i 0 ≡ foundUpTo (getD beats.now i nan) «scroll_beats».now) ⌝ }
-    ensures { λ _. ⌜
-        (numbers.exit.now ≡ laidEach (λ (beat : Float). checkedAt «scroll_beats».entry.now «scroll_ratios».entry.now prefix.entry.now beat .number) beats.entry.now numbers.entry.now)
-        × (positions.exit.now ≡ laidEach (λ (beat : Float). checkedAt «scroll_beats».entry.now «scroll_ratios».entry.now prefix.entry.now beat .beat) beats.entry.now positions.entry.now) ⌝ }
+    requires { ⌜ (length beats.now ≤ length numbers.now) × (length beats.now ≤ length positions.now)
+        × ((i : ℕ) → i < length beats.now → getD numbers.now i 0 ≡ foundUpTo (getD beats.now i nan) «scroll_beats».now) ⌝ }
+    ensures { λ _.
+        let at = checkedAt «scroll_beats».entry.now «scroll_ratios».entry.now prefix.entry.now in
+        ⌜ (numbers.exit.now ≡ laidEach (λ (beat : Float). at beat .number) beats.entry.now numbers.entry.now)
+        × (positions.exit.now ≡ laidEach (λ (beat : Float). at beat .beat) beats.entry.now positions.entry.now) ⌝ }
 {
     let mut i = 0;
     while i < beats.len() {
@@ -307,8 +309,11 @@ fn show_by(
     numbers: &mut [u32],
     positions: &mut [f64],
 )
-    requires { ⌜ (scrollColumnsNumber «scroll_beats».now «scroll_ratios».now ≡ 0) × (length «scroll_beats».now ≤ length prefix.now) × (length beats.now ≤ length numbers.now) × (length beats.now ≤ length positions.now) ⌝ }
-    ensures { λ _. ⌜ AllDisplayed «scroll_beats».entry.now «scroll_ratios».entry.now beats.entry.now numbers.entry.now numbers.exit.now positions.entry.now positions.exit.now ⌝ }
+    requires { ⌜ (scrollColumnsNumber «scroll_beats».now «scroll_ratios».now ≡ 0) × (length «scroll_beats».now ≤ length prefix.now)
+        × (length beats.now ≤ length numbers.now) × (length beats.now ≤ length positions.now) ⌝ }
+    ensures { λ _.
+        ⌜ AllDisplayed «scroll_beats».entry.now «scroll_ratios».entry.now beats.entry.now
+        numbers.entry.now numbers.exit.now positions.entry.now positions.exit.now ⌝ }
 {
     lay_prefix(scroll_beats, scroll_ratios, prefix);
     count_each(scroll_beats, beats, numbers);
@@ -329,8 +334,11 @@ fn show_all(
     numbers: &mut [u32],
     positions: &mut [f64],
 )
-    requires { ⌜ (scrollColumnsNumber «scroll_beats».now «scroll_ratios».now ≡ 0) × (length beats.now ≤ length numbers.now) × (length beats.now ≤ length positions.now) ⌝ }
-    ensures { λ _. ⌜ AllDisplayed «scroll_beats».entry.now «scroll_ratios».entry.now beats.entry.now numbers.entry.now numbers.exit.now positions.entry.now positions.exit.now ⌝ }
+    requires { ⌜ (scrollColumnsNumber «scroll_beats».now «scroll_ratios».now ≡ 0)
+        × (length beats.now ≤ length numbers.now) × (length beats.now ≤ length positions.now) ⌝ }
+    ensures { λ _.
+        ⌜ AllDisplayed «scroll_beats».entry.now «scroll_ratios».entry.now beats.entry.now
+        numbers.entry.now numbers.exit.now positions.entry.now positions.exit.now ⌝ }
 {
     let n = scroll_beats.len();
     let mut prefix = [0.0; limits::MOST_ENTRIES];
@@ -353,7 +361,9 @@ pub fn get_displayed_beats(
     numbers: &mut [u32],
     positions: &mut [f64],
 ) -> Outcome
-    ensures { λ r. ⌜ BeatsDisplayed «scroll_beats».entry.now «scroll_ratios».entry.now beats.entry.now r numbers.entry.now numbers.exit.now positions.entry.now positions.exit.now ⌝ }
+    ensures { λ r.
+        ⌜ BeatsDisplayed «scroll_beats».entry.now «scroll_ratios».entry.now beats.entry.now r
+        numbers.entry.now numbers.exit.now positions.entry.now positions.exit.now ⌝ }
 {
     let number = scroll_columns_number(scroll_beats, scroll_ratios);
     if number != limits::TAKEN {
