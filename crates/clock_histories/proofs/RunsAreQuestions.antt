@@ -116,10 +116,10 @@ module _ (t : Timing) (offset global : Float) (taken : timingNumber t offset glo
         laid-as-asked (answers-as-run c history m come) (cursor-as-run c history come) run n
 
     -- whatever mark it was given, if it is taken
-    pub marked-run-is-its-questions : {mark : Mark} → AllMarked true history
+    pub marked-run-is-its-questions : (mark : Mark) → AllMarked true history
         → MarkedRunLaid mark t offset global (used t offset global before) (beatsOf history) ran old new → ran .number ≡ 0
         → RunAsked t offset global before history ran old new
-    marked-run-is-its-questions m run n =
+    marked-run-is-its-questions mark m run n =
         let c = used t offset global before in
         let come = used-comes t offset global taken before in
         laid-as-asked (answers-as-marked c history m come) (cursor-as-marked c history come) run n

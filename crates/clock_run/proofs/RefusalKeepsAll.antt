@@ -27,6 +27,6 @@ module _ {t : Timing} {offset global : Float} {c : Cursor} {beats : List Float} 
       → (ran .cursor ≡ c) × (new .numbers ≡ old .numbers) × (new .times ≡ old .times) × (new .counts ≡ old .counts)
   run-refusal-keeps run h = kept refl run h
 
-  pub marked-run-refusal-keeps : {m : Mark} → MarkedRunLaid m t offset global c beats ran old new → (ran .number ≡ 0 → ⊥)
+  pub marked-run-refusal-keeps : (m : Mark) → MarkedRunLaid m t offset global c beats ran old new → (ran .number ≡ 0 → ⊥)
       → (ran .cursor ≡ c) × (new .numbers ≡ old .numbers) × (new .times ≡ old .times) × (new .counts ≡ old .counts)
-  marked-run-refusal-keeps run h = kept refl run h
+  marked-run-refusal-keeps m run h = kept refl run h
