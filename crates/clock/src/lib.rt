@@ -127,7 +127,7 @@ fn tempos_of(given: usize) -> usize
 
 // One of two columns.
 pub fn either<'a>(first: bool, one: &'a [f32], other: &'a [f32]) -> &'a [f32]
-    ensures { λ r. ⌜ now r ≡ pick first (now (one .entry)) (now (other .entry)) ⌝ }
+    ensures { λ r. ⌜ now r ≡ pick first one.entry.now other.entry.now ⌝ }
 {
     if first {
         return one;

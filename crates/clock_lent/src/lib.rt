@@ -100,7 +100,8 @@ pub extern "C" fn marrighentu_lent_time_for_beat_checked(
     }
 }
 
-// A run from the cursor on: for each beat its number, its time and its count, over the fronts of the three columns. The answer is its number; after a refusal all is as it was.
+// A run from the cursor on: for each beat its number, its time and its count, over the fronts of the three columns. The answer is its number;
+// after a refusal all is as it was.
 #[no_mangle]
 pub extern "C" fn marrighentu_lent_run(
     cursor: &mut Cursor,

@@ -1,4 +1,5 @@
-// The marked calls over a cursor that its holder lends. They stand apart from the unmarked ones, so that each question has its walk to itself and the compiler lays it into the call.
+// The marked calls over a cursor that its holder lends. They stand apart from the unmarked ones, so that each question has its walk to itself
+// and the compiler lays it into the call.
 use clock::Cursor;
 use clock_lent::Reply;
 use clock_walk::Mark;

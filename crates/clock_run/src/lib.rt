@@ -51,7 +51,7 @@ fn least_of(one: i32, other: i32) -> i32
 }
 
 fn rest_until(state: State, stop_beats: &[f32], delay_beats: &[f32], warp_beats: &[f32]) -> i32
-    ensures { λ r. ⌜ r ≡ restUntil (now («stop_beats» .entry)) (now («delay_beats» .entry)) (now («warp_beats» .entry)) state ⌝ }
+    ensures { λ r. ⌜ r ≡ restUntil «stop_beats».entry.now «delay_beats».entry.now «warp_beats».entry.now state ⌝ }
 {
     let stop = clock_walk::row_at(stop_beats, state.stops);
     let warp = clock_walk::row_at(warp_beats, state.warps);
@@ -65,7 +65,7 @@ fn rest_until(state: State, stop_beats: &[f32], delay_beats: &[f32], warp_beats:
 
 // What is ahead of a state, the row of the next event that is no tempo being known.
 fn look_on(state: State, rest: i32, tempo_beats: &[f32], tempo_values: &[f32]) -> Outlook
-    ensures { λ r. ⌜ r ≡ lookOn (now («tempo_beats» .entry)) (now («tempo_values» .entry)) state rest ⌝ }
+    ensures { λ r. ⌜ r ≡ lookOn «tempo_beats».entry.now «tempo_values».entry.now state rest ⌝ }
 {
     let tempos = state.tempos;
     if tempos == 0 {
@@ -171,7 +171,7 @@ fn soon(
     tempo_beats: &[f32],
     tempo_values: &[f32],
 ) -> Soon
-    ensures { λ r. ⌜ r ≡ soonBefore (now («tempo_beats» .entry)) (now («tempo_values» .entry)) outlook at beat row ⌝ }
+    ensures { λ r. ⌜ r ≡ soonBefore «tempo_beats».entry.now «tempo_values».entry.now outlook at beat row ⌝ }
 {
     let state = at.state;
     let next = state.tempos;

@@ -19,7 +19,7 @@ fn row_of(beat: f32) -> i32
 
 // Whether the rows of a list rise strictly.
 fn rows_rise(beats: &[f32]) -> bool
-    ensures { λ r. ⌜ r ≡ rises (now (beats .entry)) ⌝ }
+    ensures { λ r. ⌜ r ≡ rises beats.entry.now ⌝ }
 {
     if beats.len() == 0 {
         return true;
@@ -39,7 +39,7 @@ fn rows_rise(beats: &[f32]) -> bool
 }
 
 fn starts_at_zero(beats: &[f32]) -> bool
-    ensures { λ r. ⌜ r ≡ startsAtZero (now (beats .entry)) ⌝ }
+    ensures { λ r. ⌜ r ≡ startsAtZero beats.entry.now ⌝ }
 {
     if beats.len() == 0 {
         return true;

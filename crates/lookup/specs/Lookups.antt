@@ -32,7 +32,8 @@ lastPasses test key none (beat ∷ beats) (value ∷ values) = lastPasses test k
 unfoldable pub isPaused : ℕ → List Float → List Float → Bool
 isPaused key [] values = false
 isPaused key (beat ∷ beats) [] = false
-isPaused key (beat ∷ beats) (value ∷ values) = pick (eqb (keyOf beat) key) (pick (lt plusZero value) true (isPaused key beats values)) (isPaused key beats values)
+isPaused key (beat ∷ beats) (value ∷ values) =
+    pick (eqb (keyOf beat) key) (pick (lt plusZero value) true (isPaused key beats values)) (isPaused key beats values)
 
 -- what a test says of the last of the first n entries
 abbrev pub ofLast : (Float → Float → Bool) → Bool → List Float → List Float → ℕ → Bool
@@ -61,7 +62,10 @@ module _ (lists : WarpLists) (asked : ℤ) where
   isWarped =
       pick
       inWarp
-      (pick (isPaused (rowKey asked) (lists .stops .beats) (lists .stops .values)) false (not (isPaused (rowKey asked) (lists .delays .beats) (lists .delays .values))))
+      (pick
+      (isPaused (rowKey asked) (lists .stops .beats) (lists .stops .values))
+      false
+      (not (isPaused (rowKey asked) (lists .delays .beats) (lists .delays .values))))
       false
 
 unfoldable pub isFake : (fakes : ListColumns) → ℤ → Bool

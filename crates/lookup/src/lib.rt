@@ -14,7 +14,8 @@ ghost use Rattle.rows.specs.RowKey.{rowKey};
 ghost use Rattle.lookup_tests.specs.LookupLists.{listColumns, warpLists, lookupLists};
 ghost use Rattle.lookup_tests.specs.Refused.{rowsRise, warpNumber, fakeNumber, judgableNumber};
 ghost use Rattle.lookup.specs.Lookups.{isPaused, isWarped, isFake, isJudgable, askedRow, looked, byte, Judged};
-ghost use Rattle.lookup.specs.inside.Finding.{Usable, AllUsable, Split, Between, keyBefore, keyAfter, Stands, PlaceStands, spanCovers, startOf, warpEnd, fakeEnd, Holds, HeldStands, AllStand};
+ghost use Rattle.lookup.specs.inside.Finding.{Usable, AllUsable, Split, Between, keyBefore, keyAfter, Stands, PlaceStands};
+ghost use Rattle.lookup.specs.inside.Finding.{spanCovers, startOf, warpEnd, fakeEnd, Holds, HeldStands, AllStand};
 
 // ---- where the entries at or before a row end
 
@@ -24,9 +25,9 @@ struct Bounds {
 }
 
 fn halve(beats: &[f32], key: u32, low: usize, high: usize) -> Bounds
-    requires { ⌜ rowsRise (now beats) ≡ true ⌝ }
-    requires { ⌜ (low < high) × (high ≤ length (now beats)) × Between key (now beats) low high ⌝ }
-    ensures { λ r. ⌜ Between key (now (beats .entry)) (r .low) (r .high) × (r .high ≤ high) × (r .high - r .low < high - low) ⌝ }
+    requires { ⌜ rowsRise beats.now ≡ true ⌝ }
+    requires { ⌜ (low < high) × (high ≤ length beats.now) × Between key beats.now low high ⌝ }
+    ensures { λ r. ⌜ Between key beats.entry.now (r .low) (r .high) × (r .high ≤ high) × (r .high - r .low < high - low) ⌝ }
 {
     let middle = low + (high - low) / 2;
     if rows::row_key_f32(beats[middle]) <= key {
@@ -43,8 +44,8 @@ fn halve(beats: &[f32], key: u32, low: usize, high: usize) -> Bounds
 
 // How many entries are at or before a row.
 fn count_at(beats: &[f32], key: u32) -> usize
-    requires { ⌜ rowsRise (now beats) ≡ true ⌝ }
-    ensures { λ r. ⌜ Split key (now (beats .entry)) r ⌝ }
+    requires { ⌜ rowsRise beats.now ≡ true ⌝ }
+    ensures { λ r. ⌜ Split key beats.entry.now r ⌝ }
 {
     let mut low: usize = 0;
     let mut high = beats.len();
@@ -67,8 +68,8 @@ struct Place {
 
 // The row of the last of the first n entries; the lowest key where there is none.
 fn key_before(beats: &[f32], n: usize) -> u32
-    requires { ⌜ n ≤ length (now beats) ⌝ }
-    ensures { λ r. ⌜ r ≡ keyBefore (now (beats .entry)) n ⌝ }
+    requires { ⌜ n ≤ length beats.now ⌝ }
+    ensures { λ r. ⌜ r ≡ keyBefore beats.entry.now n ⌝ }
 {
     if n == 0 {
         return 0;
@@ -78,7 +79,7 @@ fn key_before(beats: &[f32], n: usize) -> u32
 
 // The row of the entry after them; the highest key where there is none.
 fn key_after(beats: &[f32], n: usize) -> u32
-    ensures { λ r. ⌜ r ≡ keyAfter (now (beats .entry)) n ⌝ }
+    ensures { λ r. ⌜ r ≡ keyAfter beats.entry.now n ⌝ }
 {
     if n < beats.len() {
         return rows::row_key_f32(beats[n]);
@@ -87,8 +88,8 @@ fn key_after(beats: &[f32], n: usize) -> u32
 }
 
 fn place_after(beats: &[f32], n: usize) -> Place
-    requires { ⌜ n ≤ length (now beats) ⌝ }
-    ensures { λ r. ⌜ (r .count ≡ n) × PlaceStands (now (beats .entry)) r ⌝ }
+    requires { ⌜ n ≤ length beats.now ⌝ }
+    ensures { λ r. ⌜ (r .count ≡ n) × PlaceStands beats.entry.now r ⌝ }
 {
     Place {
         count: n,
@@ -99,17 +100,17 @@ fn place_after(beats: &[f32], n: usize) -> Place
 
 // The place of a row, by halves.
 fn place_of(beats: &[f32], key: u32) -> Place
-    requires { ⌜ rowsRise (now beats) ≡ true ⌝ }
-    ensures { λ r. ⌜ PlaceStands (now (beats .entry)) r × Split key (now (beats .entry)) (r .count) ⌝ }
+    requires { ⌜ rowsRise beats.now ≡ true ⌝ }
+    ensures { λ r. ⌜ PlaceStands beats.entry.now r × Split key beats.entry.now (r .count) ⌝ }
 {
     place_after(beats, count_at(beats, key))
 }
 
 // The same, on from a place that it is not before.
 fn place_on(beats: &[f32], count: usize, from: u32, until: u32, key: u32) -> Place
-    requires { ⌜ rowsRise (now beats) ≡ true ⌝ }
-    requires { ⌜ Stands (now beats) count from until × (from ≤ key) ⌝ }
-    ensures { λ r. ⌜ PlaceStands (now (beats .entry)) r × Split key (now (beats .entry)) (r .count) ⌝ }
+    requires { ⌜ rowsRise beats.now ≡ true ⌝ }
+    requires { ⌜ Stands beats.now count from until × (from ≤ key) ⌝ }
+    ensures { λ r. ⌜ PlaceStands beats.entry.now r × Split key beats.entry.now (r .count) ⌝ }
 {
     let mut n = count;
     let mut before = from;
@@ -135,9 +136,9 @@ fn place_on(beats: &[f32], count: usize, from: u32, until: u32, key: u32) -> Pla
 
 // The same, from any place.
 fn move_place(beats: &[f32], count: usize, from: u32, until: u32, key: u32) -> Place
-    requires { ⌜ rowsRise (now beats) ≡ true ⌝ }
-    requires { ⌜ Stands (now beats) count from until ⌝ }
-    ensures { λ r. ⌜ PlaceStands (now (beats .entry)) r × Split key (now (beats .entry)) (r .count) ⌝ }
+    requires { ⌜ rowsRise beats.now ≡ true ⌝ }
+    requires { ⌜ Stands beats.now count from until ⌝ }
+    ensures { λ r. ⌜ PlaceStands beats.entry.now r × Split key beats.entry.now (r .count) ⌝ }
 {
     if key < from {
         return place_of(beats, key);
@@ -147,9 +148,9 @@ fn move_place(beats: &[f32], count: usize, from: u32, until: u32, key: u32) -> P
 
 // The same: most rows have the place of the row before them, which is seen here, so that only what moves is a call.
 fn reach(beats: &[f32], count: usize, from: u32, until: u32, key: u32) -> Place
-    requires { ⌜ rowsRise (now beats) ≡ true ⌝ }
-    requires { ⌜ Stands (now beats) count from until ⌝ }
-    ensures { λ r. ⌜ PlaceStands (now (beats .entry)) r × Split key (now (beats .entry)) (r .count) ⌝ }
+    requires { ⌜ rowsRise beats.now ≡ true ⌝ }
+    requires { ⌜ Stands beats.now count from until ⌝ }
+    ensures { λ r. ⌜ PlaceStands beats.entry.now r × Split key beats.entry.now (r .count) ⌝ }
 {
     if key < from {
         return move_place(beats, count, from, until, key);
@@ -178,8 +179,8 @@ fn covers(start: f32, end: f32, at: f32) -> bool
 
 // The beat of the last of the first n entries; a NaN, from which on there is no beat, where there is none.
 fn start_of(beats: &[f32], n: usize) -> f32
-    requires { ⌜ n ≤ length (now beats) ⌝ }
-    ensures { λ r. ⌜ r ≡ startOf (now (beats .entry)) n ⌝ }
+    requires { ⌜ n ≤ length beats.now ⌝ }
+    ensures { λ r. ⌜ r ≡ startOf beats.entry.now n ⌝ }
 {
     if n == 0 {
         return 0.0 / 0.0;
@@ -189,8 +190,8 @@ fn start_of(beats: &[f32], n: usize) -> f32
 
 // The end of the last of the first n warps; a NaN, before which there is no beat, where it covers nothing.
 fn warp_end(warp_beats: &[f32], warp_lengths: &[f32], n: usize) -> f32
-    requires { ⌜ (length (now «warp_beats») ≡ length (now «warp_lengths»)) × (n ≤ length (now «warp_beats»)) ⌝ }
-    ensures { λ r. ⌜ r ≡ warpEnd (now («warp_beats» .entry)) (now («warp_lengths» .entry)) n ⌝ }
+    requires { ⌜ (length «warp_beats».now ≡ length «warp_lengths».now) × (n ≤ length «warp_beats».now) ⌝ }
+    ensures { λ r. ⌜ r ≡ warpEnd «warp_beats».entry.now «warp_lengths».entry.now n ⌝ }
 {
     if n == 0 {
         return 0.0 / 0.0;
@@ -203,8 +204,8 @@ fn warp_end(warp_beats: &[f32], warp_lengths: &[f32], n: usize) -> f32
 
 // The end of the last of the first n fakes.
 fn fake_end(fake_beats: &[f32], fake_lengths: &[f32], n: usize) -> f32
-    requires { ⌜ (length (now «fake_beats») ≡ length (now «fake_lengths»)) × (n ≤ length (now «fake_beats»)) ⌝ }
-    ensures { λ r. ⌜ r ≡ fakeEnd (now («fake_beats» .entry)) (now («fake_lengths» .entry)) n ⌝ }
+    requires { ⌜ (length «fake_beats».now ≡ length «fake_lengths».now) × (n ≤ length «fake_beats».now) ⌝ }
+    ensures { λ r. ⌜ r ≡ fakeEnd «fake_beats».entry.now «fake_lengths».entry.now n ⌝ }
 {
     if n == 0 {
         return 0.0 / 0.0;
@@ -217,8 +218,8 @@ fn fake_end(fake_beats: &[f32], fake_lengths: &[f32], n: usize) -> f32
 
 // Whether an entry above 0 is on the row of a place.
 fn is_paused(beats: &[f32], values: &[f32], place: Place, key: u32) -> bool
-    requires { ⌜ Usable (now beats) (now values) × PlaceStands (now beats) place × Split key (now beats) (place .count) ⌝ }
-    ensures { λ r. ⌜ r ≡ isPaused key (now (beats .entry)) (now (values .entry)) ⌝ }
+    requires { ⌜ Usable beats.now values.now × PlaceStands beats.now place × Split key beats.now (place .count) ⌝ }
+    ensures { λ r. ⌜ r ≡ isPaused key beats.entry.now values.entry.now ⌝ }
 {
     if place.from != key {
         return false;
@@ -240,8 +241,8 @@ fn is_unpaused(
     delays: Place,
     key: u32,
 ) -> bool
-    requires { ⌜ Usable (now «stop_beats») (now «stop_values») × PlaceStands (now «stop_beats») stops × Split key (now «stop_beats») (stops .count) ⌝ }
-    requires { ⌜ Usable (now «delay_beats») (now «delay_values») × PlaceStands (now «delay_beats») delays × Split key (now «delay_beats») (delays .count) ⌝ }
+    requires { ⌜ Usable «stop_beats».now «stop_values».now × PlaceStands «stop_beats».now stops × Split key «stop_beats».now (stops .count) ⌝ }
+    requires { ⌜ Usable «delay_beats».now «delay_values».now × PlaceStands «delay_beats».now delays × Split key «delay_beats».now (delays .count) ⌝ }
     ensures { λ r.
         let stopped = isPaused key «stop_beats».entry.now «stop_values».entry.now in
         let delayed = isPaused key «delay_beats».entry.now «delay_values».entry.now in
@@ -294,7 +295,7 @@ fn warped_after(
 
 // Whether a row is fake, where the fakes at or before it are counted.
 fn fake_after(fake_beats: &[f32], fake_lengths: &[f32], n: usize, row: i32) -> bool
-    requires { ⌜ Usable (now «fake_beats») (now «fake_lengths») × Split (rowKey row) (now «fake_beats») n ⌝ }
+    requires { ⌜ Usable «fake_beats».now «fake_lengths».now × Split (rowKey row) «fake_beats».now n ⌝ }
     ensures { λ r. ⌜ r ≡ isFake (listColumns «fake_beats».entry.now «fake_lengths».entry.now) row ⌝ }
 {
     covers(
@@ -320,7 +321,7 @@ fn judgable_after(
     requires { let lists = lookupLists «stop_beats».now «stop_values».now «delay_beats».now «delay_values».now
         «warp_beats».now «warp_lengths».now «fake_beats».now «fake_lengths».now in
         ⌜ AllUsable lists ⌝ }
-    requires { ⌜ Split (rowKey row) (now «warp_beats») warps × Split (rowKey row) (now «fake_beats») fakes ⌝ }
+    requires { ⌜ Split (rowKey row) «warp_beats».now warps × Split (rowKey row) «fake_beats».now fakes ⌝ }
     ensures { λ r.
         let lists = lookupLists «stop_beats».entry.now «stop_values».entry.now «delay_beats».entry.now «delay_values».entry.now
         «warp_beats».entry.now «warp_lengths».entry.now «fake_beats».entry.now «fake_lengths».entry.now in
@@ -646,8 +647,8 @@ fn byte_of(answer: bool) -> u8
 }
 
 fn warp_at(warp_beats: &[f32], warp_lengths: &[f32], count: usize, from: u32, until: u32) -> Held
-    requires { ⌜ (length (now «warp_beats») ≡ length (now «warp_lengths»)) × Stands (now «warp_beats») count from until ⌝ }
-    ensures { λ r. ⌜ (r .count ≡ count) × HeldStands warpEnd (now («warp_beats» .entry)) (now («warp_lengths» .entry)) r ⌝ }
+    requires { ⌜ (length «warp_beats».now ≡ length «warp_lengths».now) × Stands «warp_beats».now count from until ⌝ }
+    ensures { λ r. ⌜ (r .count ≡ count) × HeldStands warpEnd «warp_beats».entry.now «warp_lengths».entry.now r ⌝ }
 {
     Held {
         count: count,
@@ -669,8 +670,8 @@ fn reach_warp(
     end: f32,
     key: u32,
 ) -> Held
-    requires { ⌜ Usable (now «warp_beats») (now «warp_lengths») × Holds warpEnd (now «warp_beats») (now «warp_lengths») count from until start end ⌝ }
-    ensures { λ r. ⌜ HeldStands warpEnd (now («warp_beats» .entry)) (now («warp_lengths» .entry)) r × Split key (now («warp_beats» .entry)) (r .count) ⌝ }
+    requires { ⌜ Usable «warp_beats».now «warp_lengths».now × Holds warpEnd «warp_beats».now «warp_lengths».now count from until start end ⌝ }
+    ensures { λ r. ⌜ HeldStands warpEnd «warp_beats».entry.now «warp_lengths».entry.now r × Split key «warp_beats».entry.now (r .count) ⌝ }
 {
     let place = reach(warp_beats, count, from, until, key);
     if place.count == count {
@@ -692,8 +693,8 @@ fn reach_warp(
 }
 
 fn fake_at(fake_beats: &[f32], fake_lengths: &[f32], count: usize, from: u32, until: u32) -> Held
-    requires { ⌜ (length (now «fake_beats») ≡ length (now «fake_lengths»)) × Stands (now «fake_beats») count from until ⌝ }
-    ensures { λ r. ⌜ (r .count ≡ count) × HeldStands fakeEnd (now («fake_beats» .entry)) (now («fake_lengths» .entry)) r ⌝ }
+    requires { ⌜ (length «fake_beats».now ≡ length «fake_lengths».now) × Stands «fake_beats».now count from until ⌝ }
+    ensures { λ r. ⌜ (r .count ≡ count) × HeldStands fakeEnd «fake_beats».entry.now «fake_lengths».entry.now r ⌝ }
 {
     Held {
         count: count,
@@ -715,8 +716,8 @@ fn reach_fake(
     end: f32,
     key: u32,
 ) -> Held
-    requires { ⌜ Usable (now «fake_beats») (now «fake_lengths») × Holds fakeEnd (now «fake_beats») (now «fake_lengths») count from until start end ⌝ }
-    ensures { λ r. ⌜ HeldStands fakeEnd (now («fake_beats» .entry)) (now («fake_lengths» .entry)) r × Split key (now («fake_beats» .entry)) (r .count) ⌝ }
+    requires { ⌜ Usable «fake_beats».now «fake_lengths».now × Holds fakeEnd «fake_beats».now «fake_lengths».now count from until start end ⌝ }
+    ensures { λ r. ⌜ HeldStands fakeEnd «fake_beats».entry.now «fake_lengths».entry.now r × Split key «fake_beats».entry.now (r .count) ⌝ }
 {
     let place = reach(fake_beats, count, from, until, key);
     if place.count == count {
@@ -889,7 +890,7 @@ fn judge_rows(
     requires { let lists = lookupLists «stop_beats».now «stop_values».now «delay_beats».now «delay_values».now
         «warp_beats».now «warp_lengths».now «fake_beats».now «fake_lengths».now in
         ⌜ AllUsable lists ⌝ }
-    requires { ⌜ length (now rows) ≤ length (now out) ⌝ }
+    requires { ⌜ length rows.now ≤ length out.now ⌝ }
     ensures { λ _.
         let lists = lookupLists «stop_beats».entry.now «stop_values».entry.now «delay_beats».entry.now «delay_values».entry.now
         «warp_beats».entry.now «warp_lengths».entry.now «fake_beats».entry.now «fake_lengths».entry.now in

@@ -34,7 +34,8 @@ rowsRise (beat ∷ beats) = pick (isBelow beat beats) (rowsRise beats) false
 
 -- a list by itself: 1 to 4, and 5 where its rows do not rise
 unfoldable pub risingNumber : Range → List Float → List Float → ℕ
-risingNumber value beats values = pick (eqb (listNumber (rangeOf Beat) value beats values) 0) (pick (rowsRise beats) 0 notRising) (listNumber (rangeOf Beat) value beats values)
+risingNumber value beats values =
+    pick (eqb (listNumber (rangeOf Beat) value beats values) 0) (pick (rowsRise beats) 0 notRising) (listNumber (rangeOf Beat) value beats values)
 
 abbrev pub askedNumber : Bool → ℕ
 askedNumber allowed = pick allowed 0 badBeat
@@ -43,7 +44,9 @@ askedNumber allowed = pick allowed 0 badBeat
 abbrev pub warpNumber : WarpLists → Bool → ℕ
 warpNumber lists allowed =
     lower
-    (lower (risingNumber (rangeOf Pause) (lists .stops .beats) (lists .stops .values)) (risingNumber (rangeOf Pause) (lists .delays .beats) (lists .delays .values)))
+    (lower
+    (risingNumber (rangeOf Pause) (lists .stops .beats) (lists .stops .values))
+    (risingNumber (rangeOf Pause) (lists .delays .beats) (lists .delays .values)))
     (lower (risingNumber (rangeOf Value) (lists .warps .beats) (lists .warps .values)) (askedNumber allowed))
 
 abbrev pub fakeNumber : (fakes : ListColumns) → Bool → ℕ

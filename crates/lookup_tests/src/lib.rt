@@ -21,7 +21,7 @@ fn one_not_above(before: f32, beat: f32) -> usize
 
 // All are counted, which a loop does for several entries at a time.
 fn rows_rise(beats: &[f32]) -> bool
-    ensures { λ r. ⌜ r ≡ rowsRise (now (beats .entry)) ⌝ }
+    ensures { λ r. ⌜ r ≡ rowsRise beats.entry.now ⌝ }
 {
     if beats.len() == 0 {
         return true;
@@ -40,7 +40,7 @@ fn rows_rise(beats: &[f32]) -> bool
 
 // What a list answers by itself: 1, 2, 3 or 4, 5 where its rows do not rise, and 0 where it is taken.
 fn rising_number(value_kind: Kind, beats: &[f32], values: &[f32]) -> u32
-    ensures { λ r. ⌜ r ≡ risingNumber (rangeOf «value_kind») (now (beats .entry)) (now (values .entry)) ⌝ }
+    ensures { λ r. ⌜ r ≡ risingNumber (rangeOf «value_kind») beats.entry.now values.entry.now ⌝ }
 {
     let number = limits_f32::list_number_f32(Kind::Beat, value_kind, beats, values);
     if number == limits::TAKEN {
@@ -137,7 +137,7 @@ fn one_beyond(row: i32) -> usize
 
 // Whether every row is within the limit.
 pub fn rows_taken(rows: &[i32]) -> bool
-    ensures { λ r. ⌜ r ≡ every rowIn (now (rows .entry)) ⌝ }
+    ensures { λ r. ⌜ r ≡ every rowIn rows.entry.now ⌝ }
 {
     let mut beyond: usize = 0;
     let mut i = 0;

@@ -67,7 +67,8 @@ abbrev pub startOf : List Float → ℕ → Float
 startOf beats n = pick (eqb n 0) nan (getD beats (n - 1) nan)
 
 unfoldable pub warpEnd : (beats lengths : List Float) → ℕ → Float
-warpEnd beats lengths n = pick (eqb n 0) nan (pick (lt plusZero (getD lengths (n - 1) nan)) (add binary32 (getD beats (n - 1) nan) (getD lengths (n - 1) nan)) nan)
+warpEnd beats lengths n =
+    pick (eqb n 0) nan (pick (lt plusZero (getD lengths (n - 1) nan)) (add binary32 (getD beats (n - 1) nan) (getD lengths (n - 1) nan)) nan)
 
 unfoldable pub fakeEnd : (beats lengths : List Float) → ℕ → Float
 fakeEnd beats lengths n = pick (eqb n 0) nan (narrow (add binary64 (getD beats (n - 1) nan) (getD lengths (n - 1) nan)))
