@@ -78,8 +78,7 @@ repliedBy 𝓤 ask κs a = record {
       fact 𝓤 ((r ≡ replyOf answer) × (now (e .0) ≡ answer .cursor));
 }
 
--- its code: the cursor is copied, the method called, the cursor of its answer stored, and the reply made
--- the cursor that is lent, of a type that the code has by its name, clock::Cursor
+-- parameters of its code: the cursor, whose type the code has by its name, clock::Cursor; a column; a number
 abbrev pub lentCursor : Local
 lentCursor = local (tyRef (named 0) mut (tyNamed (99 ∷ 108 ∷ 111 ∷ 99 ∷ 107 ∷ 58 ∷ 58 ∷ 67 ∷ 117 ∷ 114 ∷ 115 ∷ 111 ∷ 114 ∷ [], []))) valueLocal
 
@@ -89,6 +88,7 @@ columnAt n = local (tyStruct (38 ∷ 91 ∷ 93 ∷ []) (tcons (tyRef (named n) i
 abbrev pub wide : Local
 wide = local (tyFloat binary64) valueLocal
 
+-- its code: the cursor is copied, the method called, the cursor of its answer stored, and the reply made
 abbrev pub lentCode : Name → Fn
 lentCode callee = record {
   lifetimes = 9;
