@@ -17,7 +17,7 @@ use Rattle.chart.specs.Timing.{Timing, timing}
 use Rattle.clock_tests.specs.TimingNumbers.{timingListsNumber, offsetNumber, offsetsNumber, orderNumber, timingNumber, beatNumber}
 use Rattle.clock.specs.Question.{freshCursor, question}
 use Rattle.clock_histories.proofs.FreshNumber.{fresh-number}
-use Rattle.lookup.specs.Lookups.{judgableNumber}
+use Rattle.lookup.specs.Lookups.{lookupLists, judgableNumber}
 use Rattle.stops_for_sm.specs.Merging.{sources}
 use Rattle.stops_for_sm.specs.Filling as filling
 use Rattle.stops_for_sm.specs.Filling.{flat}
@@ -110,7 +110,13 @@ module _ (format : TimingFormat) (tempoBeats tempoValues stopBeats stopValues wa
 
     -- the lookups, for any row or beat within the limit
     pub lookups-take : (fakeBeats fakeLengths : List Float) → listTests fakeBeats fakeLengths ≡ 0
-        → judgableNumber (map first (assembledStops lists)) (map second (assembledStops lists)) (map first (assembledDelays delayBeats delayValues)) (map second (assembledDelays delayBeats delayValues)) (map first (assembledWarps lists)) (map second (assembledWarps lists)) (map first (assembledFakes fakeBeats fakeLengths)) (map second (assembledFakes fakeBeats fakeLengths)) true
+        → judgableNumber
+        (lookupLists
+        (map first (assembledStops lists)) (map second (assembledStops lists))
+        (map first (assembledDelays delayBeats delayValues)) (map second (assembledDelays delayBeats delayValues))
+        (map first (assembledWarps lists)) (map second (assembledWarps lists))
+        (map first (assembledFakes fakeBeats fakeLengths)) (map second (assembledFakes fakeBeats fakeLengths)))
+        true
         ≡ 0
     unfolding lower
     lookups-take fakeBeats fakeLengths fakes =

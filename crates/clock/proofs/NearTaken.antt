@@ -15,9 +15,10 @@ use Rattle.limits.specs.Numbers.{rowIn}
 use Rattle.clock_walk.specs.Quiet.{onlyTempos}
 use Rattle.clock_walk.proofs.PlacesWithin.{each-test, places-within}
 use Rattle.rows.proofs.RowOrder.{no}
-use Rattle.clock_tests.specs.CursorNumbers.{timeAndEndIn, cursorNumber}
+use Rattle.clock_tests.specs.CursorNumbers.{cursorNumber}
 use Rattle.clock_tests.proofs.CursorTaken.{cursor-taken}
 use Rattle.clock.specs.declared.Cursor.{Cursor}
+use Rattle.clock.specs.inside.QuickWay.{PastTempo}
 
 last-in : (row : ℤ) → ltZ row (pos 0) ≡ false → ltZ (pos 3145728) row ≡ false → natAbs row ≤ 3145728
 last-in (pos n) h k = ltb-false 3145728 n k
@@ -34,17 +35,15 @@ asked-in (negsuc a) r h k l = no (sym h)
 some : (place count : ℕ) → eqb place 0 ≡ false → place ≤ count → eqb count 0 ≡ false
 some place count h l = ne-eqb count 0 (λ e. eqb-false place 0 h (omega arith))
 
-module _ (tempoBeats stopBeats delayBeats warpBeats : List Float) (c : Cursor) (r : ℤ)
-    (notBelow : ltZ (c .asked) (pos 0) ≡ false) (rowNotBelow : ltZ (c .state .row) (pos 0) ≡ false) (rowNotAbove : ltZ (pos 3145728) (c .state .row) ≡ false)
-    (passed : eqb (c .state .tempos) 0 ≡ false) (within : c .state .tempos ≤ length tempoBeats) where
+module _ (tempoBeats stopBeats delayBeats warpBeats : List Float) (c : Cursor) (r : ℤ) (past : PastTempo c (length tempoBeats)) where
   pub some-tempos : eqb (length tempoBeats) 0 ≡ false
-  some-tempos = some (c .state .tempos) (length tempoBeats) passed within
+  some-tempos = some (c .state .tempos) (length tempoBeats) (past .passed) (past .within)
 
-  pub near-taken : timeAndEndIn (c .state .time) (c .state .end) ≡ true → ltZ r (c .asked) ≡ false → onlyTempos stopBeats delayBeats warpBeats (c .state) r ≡ true
+  pub near-taken : ltZ r (c .asked) ≡ false → onlyTempos stopBeats delayBeats warpBeats (c .state) r ≡ true
       → cursorNumber (pick (eqb (length tempoBeats) 0) 1 (length tempoBeats)) (length stopBeats) (length delayBeats) (length warpBeats) (c .state) (c .asked) ≡ 0
-  near-taken fine later only =
+  near-taken later only =
       let places = places-within stopBeats delayBeats warpBeats (c .state) r only in
       let tests = each-test stopBeats delayBeats warpBeats (c .state) r only in
       rw some-tempos
-      (cursor-taken (length tempoBeats) (length stopBeats) (length delayBeats) (length warpBeats) (c .state) (c .asked) within (places .0) (places .1) (places .2) (last-in (c .state .row) rowNotBelow rowNotAbove)
-      (rw (asked-in (c .asked) r notBelow later (tests .notAbove)) refl) fine)
+      (cursor-taken (length tempoBeats) (length stopBeats) (length delayBeats) (length warpBeats) (c .state) (c .asked) (past .within) (places .0) (places .1) (places .2)
+      (last-in (c .state .row) (past .rowFromZero) (past .rowWithin)) (rw (asked-in (c .asked) r (past .askedFromZero) later (tests .notAbove)) refl) (past .numbersIn))

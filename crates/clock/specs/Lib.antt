@@ -1,3 +1,4 @@
 pub mod Question
 pub mod Marked
 pub mod History
+pub mod inside

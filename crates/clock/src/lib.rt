@@ -23,7 +23,9 @@ ghost use Rattle.clock_walk.specs.Quiet.{onlyTempos};
 ghost use Rattle.clock_walk.specs.Soon.{quietAt, soonOf};
 ghost use Rattle.clock_walk.specs.Walk.{walk};
 ghost use Rattle.clock.specs.Question.{freshState, freshCursor, made, filled, beginning, answered, refusedWith, asking, playerQuestion, question};
-ghost use Rattle.clock.specs.Marked.{markOf, noMark, markMade, sameBits, sameRow, samePlaces, sameWarp, sameMark, markedTimingNumber, markedAsking, markedPlayerQuestion, markedQuestion};
+ghost use Rattle.clock.specs.inside.QuickWay.{PastTempo, NearRow};
+ghost use Rattle.clock.specs.Marked.{markOf, noMark, markMade, sameBits, sameRow, samePlaces, sameWarp, sameMark, markedTimingNumber};
+ghost use Rattle.clock.specs.Marked.{markedAsking, markedPlayerQuestion, markedQuestion};
 
 // How far the questions so far have come, and the row asked last.
 #[repr(C)]
@@ -125,7 +127,7 @@ fn tempos_of(given: usize) -> usize
 
 // One of two columns.
 pub fn either<'a>(first: bool, one: &'a [f32], other: &'a [f32]) -> &'a [f32]
-    ensures { λ r. ⌜ now r ≡ pick first (now (one .entry)) (now (other .entry)) ⌝ }
+    ensures { λ r. ⌜ now r ≡ pick first one.entry.now other.entry.now ⌝ }
 {
     if first {
         return one;
@@ -146,7 +148,10 @@ fn walk_filled(
     warp_beats: &[f32],
     warp_lengths: &[f32],
 ) -> Walked
-    ensures is { λ r. ⌜ r ≡ walk (filled (timing (now («tempo_beats» .entry)) (now («tempo_values» .entry)) (now («stop_beats» .entry)) (now («stop_values» .entry)) (now («delay_beats» .entry)) (now («delay_values» .entry)) (now («warp_beats» .entry)) (now («warp_lengths» .entry)))) row begin ⌝ }
+    ensures is { λ r.
+        let t = timing «tempo_beats».entry.now «tempo_values».entry.now «stop_beats».entry.now «stop_values».entry.now
+        «delay_beats».entry.now «delay_values».entry.now «warp_beats».entry.now «warp_lengths».entry.now in
+        ⌜ r ≡ walk (filled t) row begin ⌝ }
     ensures few { λ r. ⌜ r .passed + 1 < 2 ^ 64 ⌝ }
 {
     let none = tempo_beats.len() == 0;
@@ -463,7 +468,10 @@ impl Cursor {
         offset: f64,
         global: f64,
     ) -> Walked
-        ensures is { λ r. ⌜ r ≡ walk (filled (timing (now («tempo_beats» .entry)) (now («tempo_values» .entry)) (now («stop_beats» .entry)) (now («stop_values» .entry)) (now («delay_beats» .entry)) (now («delay_values» .entry)) (now («warp_beats» .entry)) (now («warp_lengths» .entry)))) row (beginning self row offset global) ⌝ }
+        ensures is { λ r.
+            let t = timing «tempo_beats».entry.now «tempo_values».entry.now «stop_beats».entry.now «stop_values».entry.now
+            «delay_beats».entry.now «delay_values».entry.now «warp_beats».entry.now «warp_lengths».entry.now in
+            ⌜ r ≡ walk (filled t) row (beginning self row offset global) ⌝ }
         ensures few { λ r. ⌜ r .passed + 1 < 2 ^ 64 ⌝ }
     {
         let begin = self.begin(row, offset, global);
@@ -483,7 +491,7 @@ impl Cursor {
 
     // True only where the cursor has passed a tempo of so many and its rows are from 0 on, and its numbers, but for its places in the other lists, are not refused.
     fn is_past_tempo(self, tempos: usize) -> bool
-        ensures { λ r. ⌜ (r ≡ true → (ltZ (self .asked) (pos 0) ≡ false) × (ltZ (self .state .row) (pos 0) ≡ false) × (ltZ (pos 3145728) (self .state .row) ≡ false) × (eqb (self .state .tempos) 0 ≡ false) × (self .state .tempos ≤ tempos) × (timeAndEndIn (self .state .time) (self .state .end) ≡ true)) ⌝ }
+        ensures { λ r. ⌜ (r ≡ true → PastTempo self tempos) ⌝ }
     {
         if self.asked < 0 {
             return false;
@@ -514,7 +522,8 @@ impl Cursor {
         delay_beats: &[f32],
         warp_beats: &[f32],
     ) -> bool
-        ensures { λ r. ⌜ (r ≡ true → (ltZ row (self .asked) ≡ false) × (eqb (length (now («tempo_beats» .entry))) 0 ≡ false) × (eqb (self .state .tempos) 0 ≡ false) × (onlyTempos (now («stop_beats» .entry)) (now («delay_beats» .entry)) (now («warp_beats» .entry)) (self .state) row ≡ true) × (cursorNumber (pick (eqb (length (now («tempo_beats» .entry))) 0) 1 (length (now («tempo_beats» .entry)))) (length (now («stop_beats» .entry))) (length (now («delay_beats» .entry))) (length (now («warp_beats» .entry))) (self .state) (self .asked) ≡ 0)) ⌝ }
+        ensures { λ r.
+            ⌜ (r ≡ true → NearRow self row «tempo_beats».entry.now «stop_beats».entry.now «delay_beats».entry.now «warp_beats».entry.now) ⌝ }
     {
         if row < self.asked {
             return false;
@@ -537,11 +546,8 @@ impl Cursor {
         warp_beats: &[f32],
     ) -> Soon
         ensures { λ r.
-            let tempos = now («tempo_beats» .entry) in
-            let stops = now («stop_beats» .entry) in
-            let delays = now («delay_beats» .entry) in
-            let warps = now («warp_beats» .entry) in
-            ⌜ (r .whole ≡ true → (ltZ row (self .asked) ≡ false) × (eqb (length tempos) 0 ≡ false) × (eqb (self .state .tempos) 0 ≡ false) × (onlyTempos stops delays warps (self .state) row ≡ true) × (cursorNumber (pick (eqb (length tempos) 0) 1 (length tempos)) (length stops) (length delays) (length warps) (self .state) (self .asked) ≡ 0) × (r ≡ soonOf tempos (now («tempo_values» .entry)) (self .state) row)) ⌝ }
+            let near = NearRow self row «tempo_beats».entry.now «stop_beats».entry.now «delay_beats».entry.now «warp_beats».entry.now in
+            ⌜ (r .whole ≡ true → near × (r ≡ soonOf «tempo_beats».entry.now «tempo_values».entry.now (self .state) row)) ⌝ }
     {
         let state = self.state;
         if self.is_near(row, tempo_beats, stop_beats, delay_beats, warp_beats) {
@@ -570,7 +576,10 @@ impl Cursor {
         global: f64,
         beat: f64,
     ) -> Answer
-        ensures { λ r. ⌜ r ≡ asking (timing (now («tempo_beats» .entry)) (now («tempo_values» .entry)) (now («stop_beats» .entry)) (now («stop_values» .entry)) (now («delay_beats» .entry)) (now («delay_values» .entry)) (now («warp_beats» .entry)) (now («warp_lengths» .entry))) self offset global beat ⌝ }
+        ensures { λ r.
+            let t = timing «tempo_beats».entry.now «tempo_values».entry.now «stop_beats».entry.now «stop_values».entry.now
+            «delay_beats».entry.now «delay_values».entry.now «warp_beats».entry.now «warp_lengths».entry.now in
+            ⌜ r ≡ asking t self offset global beat ⌝ }
     {
         let number = clock_tests::beat_number(beat);
         if number == limits::TAKEN {
@@ -604,7 +613,10 @@ impl Cursor {
         delay_beats: &[f32],
         warp_beats: &[f32],
     ) -> u32
-        ensures { λ r. ⌜ r ≡ cursorNumber (pick (eqb (length (now («tempo_beats» .entry))) 0) 1 (length (now («tempo_beats» .entry)))) (length (now («stop_beats» .entry))) (length (now («delay_beats» .entry))) (length (now («warp_beats» .entry))) (self .state) (self .asked) ⌝ }
+        ensures { λ r.
+            let tempos = length «tempo_beats».entry.now in
+            ⌜ r ≡ cursorNumber (pick (eqb tempos 0) 1 tempos) (length «stop_beats».entry.now) (length «delay_beats».entry.now) (length «warp_beats».entry.now)
+            (self .state) (self .asked) ⌝ }
     {
         let tempos = tempos_of(tempo_beats.len());
         let state = self.state;
@@ -634,7 +646,10 @@ impl Cursor {
         global: f64,
         beat: f64,
     ) -> Answer
-        ensures { λ r. ⌜ r ≡ playerQuestion (timing (now («tempo_beats» .entry)) (now («tempo_values» .entry)) (now («stop_beats» .entry)) (now («stop_values» .entry)) (now («delay_beats» .entry)) (now («delay_values» .entry)) (now («warp_beats» .entry)) (now («warp_lengths» .entry))) self offset global beat ⌝ }
+        ensures { λ r.
+            let t = timing «tempo_beats».entry.now «tempo_values».entry.now «stop_beats».entry.now «stop_values».entry.now
+            «delay_beats».entry.now «delay_values».entry.now «warp_beats».entry.now «warp_lengths».entry.now in
+            ⌜ r ≡ playerQuestion t self offset global beat ⌝ }
     {
         let asked = clock_tests::beat_number(beat);
         if asked != limits::TAKEN {
@@ -694,7 +709,10 @@ impl Cursor {
         global: f64,
         beat: f64,
     ) -> Answer
-        ensures { λ r. ⌜ r ≡ question (timing (now («tempo_beats» .entry)) (now («tempo_values» .entry)) (now («stop_beats» .entry)) (now («stop_values» .entry)) (now («delay_beats» .entry)) (now («delay_values» .entry)) (now («warp_beats» .entry)) (now («warp_lengths» .entry))) self offset global beat ⌝ }
+        ensures { λ r.
+            let t = timing «tempo_beats».entry.now «tempo_values».entry.now «stop_beats».entry.now «stop_values».entry.now
+            «delay_beats».entry.now «delay_values».entry.now «warp_beats».entry.now «warp_lengths».entry.now in
+            ⌜ r ≡ question t self offset global beat ⌝ }
     {
         let timing = clock_tests::check_timing(
             tempo_beats,
@@ -901,7 +919,10 @@ pub fn get_time_for_beat(
     global: f64,
     beat: f64,
 ) -> Answer
-    ensures { λ r. ⌜ r ≡ question (timing (now («tempo_beats» .entry)) (now («tempo_values» .entry)) (now («stop_beats» .entry)) (now («stop_values» .entry)) (now («delay_beats» .entry)) (now («delay_values» .entry)) (now («warp_beats» .entry)) (now («warp_lengths» .entry))) (freshCursor offset global) offset global beat ⌝ }
+    ensures { λ r.
+        let t = timing «tempo_beats».entry.now «tempo_values».entry.now «stop_beats».entry.now «stop_values».entry.now
+        «delay_beats».entry.now «delay_values».entry.now «warp_beats».entry.now «warp_lengths».entry.now in
+        ⌜ r ≡ question t (freshCursor offset global) offset global beat ⌝ }
 {
     let cursor = fresh_cursor(offset, global);
     cursor.time_for_beat(

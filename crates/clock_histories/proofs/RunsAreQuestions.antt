@@ -15,7 +15,7 @@ use Rattle.clock.specs.Marked.{markOf, markedAsking}
 use Rattle.clock.specs.History.{markedOfBeat, asks, History, answers, lastCursor, numberOf, timeOf}
 use Rattle.clock.specs.declared.Cursor.{Cursor}
 use Rattle.clock.specs.declared.Answer.{Answer}
-use Rattle.clock_run.specs.Run.{runOf, runRoomNumber, runNumber, RunLaid}
+use Rattle.clock_run.specs.Run.{runOf, runRoomNumber, runNumber, RunColumns, HistoryLaid, RunLaid}
 use Rattle.clock_run.specs.MarkedRun.{markedRunOf, markedRunNumber, MarkedRunLaid}
 use Rattle.clock_run.specs.declared.Ran.{Ran}
 use Rattle.clock.proofs.OwnMark.{own-mark}
@@ -93,37 +93,36 @@ module _ (t : Timing) (offset global : Float) (taken : timingNumber t offset glo
       rw (own-mark t offset global, taken, fine t offset global taken (used t offset global before) (used-comes t offset global taken before))
       (none-lower _ ∙ lower-than-none (runRoomNumber beats numbers times counts))
 
-  module _ (before history : History) {ran : Ran} {numbersOld numbersNew : List ℕ} {timesOld timesNew : List Float} {countsOld countsNew : List ℕ} where
-    pub run-is-its-questions : AllMarked false history
-        → RunLaid t offset global (used t offset global before) (beatsOf history) ran numbersOld numbersNew timesOld timesNew countsOld countsNew → ran .number ≡ 0
-        → RunAsked t offset global before history ran numbersOld numbersNew timesOld timesNew countsOld countsNew
+  module _ (before history : History) {ran : Ran} {old new : RunColumns} where
+    -- a history of the same answers that leaves the same cursor
+    laid-as-asked : {tests : ℕ} {asked : List Float → History} → answers t offset global (used t offset global before) (asked (beatsOf history)) ≡ answers t offset global (used t offset global before) history
+        → lastCursor t offset global (used t offset global before) (asked (beatsOf history)) ≡ lastCursor t offset global (used t offset global before) history
+        → HistoryLaid tests asked t offset global (used t offset global before) (beatsOf history) ran old new → ran .number ≡ 0
+        → RunAsked t offset global before history ran old new
     unfolding given
+    laid-as-asked same end run n = record {
+      cursor = (rw (eq-eqb (ran .number) 0 n) at (run .cursor)) ∙ end ∙ sym (cursor-after-both t offset global _ before history);
+      numbersAre = rw (eq-eqb (ran .number) 0 n, same) at (run .numbersAre);
+      timesAre = rw (eq-eqb (ran .number) 0 n, same) at (run .timesAre);
+      countsAre = rw (eq-eqb (ran .number) 0 n, same) at (run .countsAre);
+    }
+
+    pub run-is-its-questions : AllMarked false history
+        → RunLaid t offset global (used t offset global before) (beatsOf history) ran old new → ran .number ≡ 0
+        → RunAsked t offset global before history ran old new
     run-is-its-questions m run n =
         let c = used t offset global before in
         let come = used-comes t offset global taken before in
-        let same = answers-as-run c history m come in
-        record {
-          cursor = (rw (eq-eqb (ran .number) 0 n) at (run .cursor)) ∙ cursor-as-run c history come ∙ sym (cursor-after-both t offset global _ before history);
-          numbersAre = rw (eq-eqb (ran .number) 0 n, same) at (run .numbersAre);
-          timesAre = rw (eq-eqb (ran .number) 0 n, same) at (run .timesAre);
-          countsAre = rw (eq-eqb (ran .number) 0 n, same) at (run .countsAre);
-        }
+        laid-as-asked (answers-as-run c history m come) (cursor-as-run c history come) run n
 
     -- whatever mark it was given, if it is taken
-    pub marked-run-is-its-questions : {mark : Mark} → AllMarked true history
-        → MarkedRunLaid mark t offset global (used t offset global before) (beatsOf history) ran numbersOld numbersNew timesOld timesNew countsOld countsNew → ran .number ≡ 0
-        → RunAsked t offset global before history ran numbersOld numbersNew timesOld timesNew countsOld countsNew
-    unfolding given
-    marked-run-is-its-questions m run n =
+    pub marked-run-is-its-questions : (mark : Mark) → AllMarked true history
+        → MarkedRunLaid mark t offset global (used t offset global before) (beatsOf history) ran old new → ran .number ≡ 0
+        → RunAsked t offset global before history ran old new
+    marked-run-is-its-questions mark m run n =
         let c = used t offset global before in
         let come = used-comes t offset global taken before in
-        let same = answers-as-marked c history m come in
-        record {
-          cursor = (rw (eq-eqb (ran .number) 0 n) at (run .cursor)) ∙ cursor-as-marked c history come ∙ sym (cursor-after-both t offset global _ before history);
-          numbersAre = rw (eq-eqb (ran .number) 0 n, same) at (run .numbersAre);
-          timesAre = rw (eq-eqb (ran .number) 0 n, same) at (run .timesAre);
-          countsAre = rw (eq-eqb (ran .number) 0 n, same) at (run .countsAre);
-        }
+        laid-as-asked (answers-as-marked c history m come) (cursor-as-marked c history come) run n
 
   -- ---- the answers of a history are what a fresh cursor gives for each beat by itself
   numbers-from : (c : Cursor) (history : History) → Comes t offset global taken c → map numberOf (answers t offset global c history) ≡ map (λ (b : Float). alone t offset global b .number) (beatsOf history)

@@ -1,1 +1,2 @@
 pub mod CopiedBeside
+pub mod LentQuestion

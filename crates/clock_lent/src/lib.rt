@@ -3,7 +3,7 @@ use clock::Cursor;
 ghost use mathlib.Core.Path.{_≡_};
 ghost use Rattle.chart.specs.Timing.{timing};
 ghost use Rattle.clock.specs.Question.{playerQuestion, question};
-ghost use Rattle.clock_run.specs.Run.{RunLaid};
+ghost use Rattle.clock_run.specs.Run.{runColumns, RunLaid};
 ghost use Rattle.clock_lent.specs.Reply.{replyOf};
 
 // A question's number, its time, and the events passed and one. The cursor for the next question is in the place that was lent.
@@ -30,7 +30,11 @@ pub extern "C" fn marrighentu_lent_time_for_beat(
     global: f64,
     beat: f64,
 ) -> Reply
-    ensures { λ r. ⌜ (r ≡ replyOf (question (timing (now («tempo_beats» .entry)) (now («tempo_values» .entry)) (now («stop_beats» .entry)) (now («stop_values» .entry)) (now («delay_beats» .entry)) (now («delay_values» .entry)) (now («warp_beats» .entry)) (now («warp_lengths» .entry))) (now (cursor .entry)) offset global beat)) × (now (cursor .exit) ≡ question (timing (now («tempo_beats» .entry)) (now («tempo_values» .entry)) (now («stop_beats» .entry)) (now («stop_values» .entry)) (now («delay_beats» .entry)) (now («delay_values» .entry)) (now («warp_beats» .entry)) (now («warp_lengths» .entry))) (now (cursor .entry)) offset global beat .cursor) ⌝ }
+    ensures { λ r.
+        let t = timing «tempo_beats».entry.now «tempo_values».entry.now «stop_beats».entry.now «stop_values».entry.now
+        «delay_beats».entry.now «delay_values».entry.now «warp_beats».entry.now «warp_lengths».entry.now in
+        let answer = question t cursor.entry.now offset global beat in
+        ⌜ (r ≡ replyOf answer) × (cursor.exit.now ≡ answer .cursor) ⌝ }
 {
     let answer = (*cursor).time_for_beat(
         tempo_beats,
@@ -69,7 +73,11 @@ pub extern "C" fn marrighentu_lent_time_for_beat_checked(
     global: f64,
     beat: f64,
 ) -> Reply
-    ensures { λ r. ⌜ (r ≡ replyOf (playerQuestion (timing (now («tempo_beats» .entry)) (now («tempo_values» .entry)) (now («stop_beats» .entry)) (now («stop_values» .entry)) (now («delay_beats» .entry)) (now («delay_values» .entry)) (now («warp_beats» .entry)) (now («warp_lengths» .entry))) (now (cursor .entry)) offset global beat)) × (now (cursor .exit) ≡ playerQuestion (timing (now («tempo_beats» .entry)) (now («tempo_values» .entry)) (now («stop_beats» .entry)) (now («stop_values» .entry)) (now («delay_beats» .entry)) (now («delay_values» .entry)) (now («warp_beats» .entry)) (now («warp_lengths» .entry))) (now (cursor .entry)) offset global beat .cursor) ⌝ }
+    ensures { λ r.
+        let t = timing «tempo_beats».entry.now «tempo_values».entry.now «stop_beats».entry.now «stop_values».entry.now
+        «delay_beats».entry.now «delay_values».entry.now «warp_beats».entry.now «warp_lengths».entry.now in
+        let answer = playerQuestion t cursor.entry.now offset global beat in
+        ⌜ (r ≡ replyOf answer) × (cursor.exit.now ≡ answer .cursor) ⌝ }
 {
     let answer = (*cursor).time_for_beat_checked(
         tempo_beats,
@@ -92,7 +100,8 @@ pub extern "C" fn marrighentu_lent_time_for_beat_checked(
     }
 }
 
-// A run from the cursor on: for each beat its number, its time and its count, over the fronts of the three columns. The answer is its number; after a refusal all is as it was.
+// A run from the cursor on: for each beat its number, its time and its count, over the fronts of the three columns. The answer is its number;
+// after a refusal all is as it was.
 #[no_mangle]
 pub extern "C" fn marrighentu_lent_run(
     cursor: &mut Cursor,
@@ -111,7 +120,12 @@ pub extern "C" fn marrighentu_lent_run(
     times: &mut [f64],
     counts: &mut [usize],
 ) -> u32
-    ensures { λ r. ⌜ RunLaid (timing (now («tempo_beats» .entry)) (now («tempo_values» .entry)) (now («stop_beats» .entry)) (now («stop_values» .entry)) (now («delay_beats» .entry)) (now («delay_values» .entry)) (now («warp_beats» .entry)) (now («warp_lengths» .entry))) offset global (now (cursor .entry)) (now (beats .entry)) (record { cursor = now (cursor .exit); number = r }) (now (numbers .entry)) (now (numbers .exit)) (now (times .entry)) (now (times .exit)) (now (counts .entry)) (now (counts .exit)) ⌝ }
+    ensures { λ r.
+        let t = timing «tempo_beats».entry.now «tempo_values».entry.now «stop_beats».entry.now «stop_values».entry.now
+        «delay_beats».entry.now «delay_values».entry.now «warp_beats».entry.now «warp_lengths».entry.now in
+        let old = runColumns numbers.entry.now times.entry.now counts.entry.now in
+        let new = runColumns numbers.exit.now times.exit.now counts.exit.now in
+        ⌜ RunLaid t offset global cursor.entry.now beats.entry.now (record { cursor = cursor.exit.now; number = r }) old new ⌝ }
 {
     let ran = clock_run::run(
         *cursor,

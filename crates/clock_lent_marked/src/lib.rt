@@ -1,10 +1,12 @@
-// The marked calls over a cursor that its holder lends. They stand apart from the unmarked ones, so that each question has its walk to itself and the compiler lays it into the call.
+// The marked calls over a cursor that its holder lends. They stand apart from the unmarked ones, so that each question has its walk to itself
+// and the compiler lays it into the call.
 use clock::Cursor;
 use clock_lent::Reply;
 use clock_walk::Mark;
 ghost use mathlib.Core.Path.{_≡_};
 ghost use Rattle.chart.specs.Timing.{timing};
 ghost use Rattle.clock.specs.Marked.{markedPlayerQuestion, markedQuestion};
+ghost use Rattle.clock_run.specs.Run.{runColumns};
 ghost use Rattle.clock_run.specs.MarkedRun.{MarkedRunLaid};
 ghost use Rattle.clock_lent.specs.Reply.{replyOf};
 
@@ -121,8 +123,9 @@ pub extern "C" fn marrighentu_lent_run_marked(
     ensures { λ r.
         let t = timing «tempo_beats».entry.now «tempo_values».entry.now «stop_beats».entry.now «stop_values».entry.now
         «delay_beats».entry.now «delay_values».entry.now «warp_beats».entry.now «warp_lengths».entry.now in
-        ⌜ MarkedRunLaid mark t offset global cursor.entry.now beats.entry.now (record { cursor = cursor.exit.now; number = r })
-        numbers.entry.now numbers.exit.now times.entry.now times.exit.now counts.entry.now counts.exit.now ⌝ }
+        let old = runColumns numbers.entry.now times.entry.now counts.entry.now in
+        let new = runColumns numbers.exit.now times.exit.now counts.exit.now in
+        ⌜ MarkedRunLaid mark t offset global cursor.entry.now beats.entry.now (record { cursor = cursor.exit.now; number = r }) old new ⌝ }
 {
     let ran = clock_run::run_marked(
         *cursor,

@@ -17,6 +17,7 @@ use Rattle.clock.specs.Marked.{markedAsking}
 use Rattle.clock.specs.History.{numberOf, timeOf, countOf}
 use Rattle.clock.specs.declared.Cursor.{Cursor}
 use Rattle.clock.specs.declared.Answer.{Answer}
+use Rattle.clock_run.specs.Run.{runColumns}
 use Rattle.clock_run.specs.inside.Asked.{eachAsked, lastAsked, AllAsked}
 use Rattle.clock_run.proofs.QuietRows.{answer-of}
 
@@ -79,7 +80,7 @@ module _ (m : Mark) (t : Timing) (offset global : Float) where
           (rw (isTime, isRow) is)
           h inNumbers inTimes inCounts
 
-      pub ended : length beats ≤ i → AllAsked m t offset global c₀ beats c numbers₀ numbers times₀ times counts₀ counts
+      pub ended : length beats ≤ i → AllAsked m t offset global c₀ beats c (runColumns numbers₀ times₀ counts₀) (runColumns numbers times counts)
       ended h =
           let none : eachAsked m t offset global c (drop i beats) ≡ [] = no-answer c beats i h in
           record {

@@ -1,8 +1,8 @@
 -- A run that is refused leaves cursor and columns, one that is taken has room for all and asks all. Assumes nothing.
 use Prim.Native.Nat.{ℕ, min, _≤_}
-use mathlib.Core.Path.{_≡_, refl, sym}
+use mathlib.Core.Path.{_≡_, refl, sym, _∙_}
 use mathlib.Core.Bool.{Bool, true, false}
-use mathlib.Core.List.{List}
+use mathlib.Core.List.{List, []}
 use native.Mathlib.Omega.{arith}
 use lib.ListN.{length}
 use lib.Ieee.{Float}
@@ -15,22 +15,49 @@ use Rattle.columns.specs.Laying.{given}
 use Rattle.chart.specs.Timing.{Timing}
 use Rattle.clock_tests.specs.TimingNumbers.{timingNumber}
 use Rattle.clock.specs.Question.{cursorRefusal}
-use Rattle.clock.specs.History.{lastCursor}
+use Rattle.clock.specs.History.{History, answers, lastCursor}
 use Rattle.clock_walk.specs.declared.Mark.{Mark}
 use Rattle.clock_walk.proofs.NumbersFit.{NumbersFit}
 use Rattle.clock.specs.Marked.{markOf, noMark, markedTimingNumber}
 use Rattle.clock.specs.declared.Cursor.{Cursor}
 use Rattle.clock.proofs.OwnMark.{taken-mark}
-use Rattle.clock_run.specs.Run.{runRoomNumber, runNumber, RunLaid}
-use Rattle.clock_run.specs.MarkedRun.{markedRunNumber, MarkedRunLaid}
-use Rattle.clock_run.specs.inside.Asked.{AllAsked}
+use Rattle.clock_run.specs.Run.{runOf, runRoomNumber, runNumber, RunColumns, runColumns, HistoryLaid, RunLaid}
+use Rattle.clock_run.specs.MarkedRun.{markedRunOf, markedRunNumber, MarkedRunLaid}
+use Rattle.clock_run.specs.inside.Asked.{eachAsked, lastAsked, AllAsked}
 use Rattle.clock_run.proofs.AskedAsHistories.{unmarked-answers, unmarked-last, marked-answers, marked-last}
 
 has-room : (b : Bool) → _≡_ {A = ℕ} (pick b 0 7) 0 → b ≡ true
 has-room true h = refl
 has-room false h = absurd (omega arith)
 
+-- ---- whatever history the beats make, and whatever number its tests come to
+module _ (tests : ℕ) (asked : List Float → History) (t : Timing) (offset global : Float) (c : Cursor) (beats : List Float) (old : RunColumns) where
+  refused-history : asked [] ≡ [] → (n : ℕ) → n ≡ tests → (n ≡ 0 → ⊥) → HistoryLaid tests asked t offset global c beats (record { number = n; cursor = c }) old old
+  unfolding given laid lastCursor
+  refused-history none n e h = record {
+    number = e;
+    cursor = rw (ne-eqb n 0 h, none);
+    numbersAre = rw (ne-eqb n 0 h);
+    timesAre = rw (ne-eqb n 0 h);
+    countsAre = rw (ne-eqb n 0 h);
+  }
+
+  taken-history : (m : Mark) → eachAsked m t offset global c beats ≡ answers t offset global c (asked beats) → lastAsked m t offset global c beats ≡ lastCursor t offset global c (asked beats)
+      → (last : Cursor) (new : RunColumns) → tests ≡ 0 → AllAsked m t offset global c beats last old new
+      → HistoryLaid tests asked t offset global c beats (record { number = 0; cursor = last }) old new
+  unfolding given
+  taken-history m each end last new e all = record {
+    number = sym e;
+    cursor = all .cursor ∙ end;
+    numbersAre = rw each at (all .numbersAre);
+    timesAre = rw each at (all .timesAre);
+    countsAre = rw each at (all .countsAre);
+  }
+
 module _ (t : Timing) (offset global : Float) (c : Cursor) (beats : List Float) (numbers : List ℕ) (times : List Float) (counts : List ℕ) where
+  abbrev old : RunColumns
+  old = runColumns numbers times counts
+
   shortest : (first : ℕ) → lower first (lower (runRoomNumber (length beats) (length numbers) (length times) (length counts)) (cursorRefusal t c)) ≡ 0
       → length beats ≤ min (length numbers) (min (length times) (length counts))
   unfolding runRoomNumber
@@ -44,30 +71,17 @@ module _ (t : Timing) (offset global : Float) (c : Cursor) (beats : List Float) 
   room-for-all h = let s = shortest (timingNumber t offset global) h in (omega arith, omega arith, omega arith)
 
   pub refused-run : (n : ℕ) → n ≡ runNumber t offset global c (length beats) (length numbers) (length times) (length counts) → (n ≡ 0 → ⊥)
-      → RunLaid t offset global c beats (record { number = n; cursor = c }) numbers numbers times times counts counts
-  unfolding given laid lastCursor
-  refused-run n e h = record {
-    number = e;
-    cursor = rw (ne-eqb n 0 h);
-    numbersAre = rw (ne-eqb n 0 h);
-    timesAre = rw (ne-eqb n 0 h);
-    countsAre = rw (ne-eqb n 0 h);
-  }
+      → RunLaid t offset global c beats (record { number = n; cursor = c }) (runColumns numbers times counts) (runColumns numbers times counts)
+  refused-run n e h = refused-history _ runOf t offset global c beats old refl n e h
 
   pub taken-run : (m : Mark) → m ≡ noMark → (last : Cursor) (numbersNew : List ℕ) (timesNew : List Float) (countsNew : List ℕ)
       → runNumber t offset global c (length beats) (length numbers) (length times) (length counts) ≡ 0
-      → AllAsked m t offset global c beats last numbers numbersNew times timesNew counts countsNew
-      → RunLaid t offset global c beats (record { number = 0; cursor = last }) numbers numbersNew times timesNew counts countsNew
-  unfolding given
+      → AllAsked m t offset global c beats last (runColumns numbers times counts) (runColumns numbersNew timesNew countsNew)
+      → RunLaid t offset global c beats (record { number = 0; cursor = last }) (runColumns numbers times counts) (runColumns numbersNew timesNew countsNew)
   taken-run m none last numbersNew timesNew countsNew e all =
-      let each = unmarked-answers t offset global c beats in
-      record {
-        number = sym e;
-        cursor = rw (none, unmarked-last t offset global c beats) at (all .cursor);
-        numbersAre = rw (none, each) at (all .numbersAre);
-        timesAre = rw (none, each) at (all .timesAre);
-        countsAre = rw (none, each) at (all .countsAre);
-      }
+      let each : eachAsked m t offset global c beats ≡ answers t offset global c (runOf beats) = rw none (unmarked-answers t offset global c beats) in
+      let end : lastAsked m t offset global c beats ≡ lastCursor t offset global c (runOf beats) = rw none (unmarked-last t offset global c beats) in
+      taken-history _ runOf t offset global c beats old m each end last (runColumns numbersNew timesNew countsNew) e all
 
   -- ---- and one with a mark, which is then the timing's own
   module _ (m : Mark) where
@@ -81,28 +95,15 @@ module _ (t : Timing) (offset global : Float) (c : Cursor) (beats : List Float) 
     own-mark f h = taken-mark m t offset global f (lower-none (markedTimingNumber m t offset global) _ h .0)
 
     pub refused-marked-run : (n : ℕ) → n ≡ markedRunNumber m t offset global c (length beats) (length numbers) (length times) (length counts) → (n ≡ 0 → ⊥)
-        → MarkedRunLaid m t offset global c beats (record { number = n; cursor = c }) numbers numbers times times counts counts
-    unfolding given laid lastCursor
-    refused-marked-run n e h = record {
-      number = e;
-      cursor = rw (ne-eqb n 0 h);
-      numbersAre = rw (ne-eqb n 0 h);
-      timesAre = rw (ne-eqb n 0 h);
-      countsAre = rw (ne-eqb n 0 h);
-    }
+        → MarkedRunLaid m t offset global c beats (record { number = n; cursor = c }) (runColumns numbers times counts) (runColumns numbers times counts)
+    refused-marked-run n e h = refused-history _ markedRunOf t offset global c beats old refl n e h
 
     pub taken-marked-run : NumbersFit (m .state) → (last : Cursor) (numbersNew : List ℕ) (timesNew : List Float) (countsNew : List ℕ)
         → markedRunNumber m t offset global c (length beats) (length numbers) (length times) (length counts) ≡ 0
-        → AllAsked m t offset global c beats last numbers numbersNew times timesNew counts countsNew
-        → MarkedRunLaid m t offset global c beats (record { number = 0; cursor = last }) numbers numbersNew times timesNew counts countsNew
-    unfolding given
+        → AllAsked m t offset global c beats last (runColumns numbers times counts) (runColumns numbersNew timesNew countsNew)
+        → MarkedRunLaid m t offset global c beats (record { number = 0; cursor = last }) (runColumns numbers times counts) (runColumns numbersNew timesNew countsNew)
     taken-marked-run f last numbersNew timesNew countsNew e all =
         let own = own-mark f e in
-        let each = marked-answers t offset global c beats in
-        record {
-          number = sym e;
-          cursor = rw (own, marked-last t offset global c beats) at (all .cursor);
-          numbersAre = rw (own, each) at (all .numbersAre);
-          timesAre = rw (own, each) at (all .timesAre);
-          countsAre = rw (own, each) at (all .countsAre);
-        }
+        let each : eachAsked m t offset global c beats ≡ answers t offset global c (markedRunOf beats) = rw own (marked-answers t offset global c beats) in
+        let end : lastAsked m t offset global c beats ≡ lastCursor t offset global c (markedRunOf beats) = rw own (marked-last t offset global c beats) in
+        taken-history _ markedRunOf t offset global c beats old m each end last (runColumns numbersNew timesNew countsNew) e all

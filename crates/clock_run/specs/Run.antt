@@ -33,9 +33,25 @@ runNumber t offset global c beats numbers times counts =
 
 -- ---- the one outcome: the number, the cursor, and the three columns to their last place
 
-pub record RunLaid (t : Timing) (offset global : Float) (c : Cursor) (beats : List Float) (ran : Ran) (numbersOld numbersNew : List ℕ) (timesOld timesNew : List Float) (countsOld countsNew : List ℕ) : Type 0 where
-  pub number : ran .number ≡ runNumber t offset global c (length beats) (length numbersOld) (length timesOld) (length countsOld)
-  pub cursor : ran .cursor ≡ lastCursor t offset global c (runOf (given (ran .number) beats))
-  pub numbersAre : numbersNew ≡ columnLaid numberOf (ran .number) (answers t offset global c (runOf beats)) numbersOld
-  pub timesAre : timesNew ≡ columnLaid timeOf (ran .number) (answers t offset global c (runOf beats)) timesOld
-  pub countsAre : countsNew ≡ columnLaid countOf (ran .number) (answers t offset global c (runOf beats)) countsOld
+-- the columns of a run: of each beat its number, its time and its count
+pub record RunColumns : Type 0 where
+  pub numbers : List ℕ
+  pub times : List Float
+  pub counts : List ℕ
+
+abbrev pub runColumns : (numbers : List ℕ) (times : List Float) (counts : List ℕ) → RunColumns
+runColumns numbers times counts = record { numbers = numbers; times = times; counts = counts }
+
+module _ (tests : ℕ) (asked : List Float → History) (t : Timing) (offset global : Float) (c : Cursor) (beats : List Float) where
+  -- of beats that make a history, by the number that its tests come to
+  pub record HistoryLaid (ran : Ran) (old new : RunColumns) : Type 0 where
+    pub number : ran .number ≡ tests
+    pub cursor : ran .cursor ≡ lastCursor t offset global c (asked (given (ran .number) beats))
+    pub numbersAre : new .numbers ≡ columnLaid numberOf (ran .number) (answers t offset global c (asked beats)) (old .numbers)
+    pub timesAre : new .times ≡ columnLaid timeOf (ran .number) (answers t offset global c (asked beats)) (old .times)
+    pub countsAre : new .counts ≡ columnLaid countOf (ran .number) (answers t offset global c (asked beats)) (old .counts)
+
+abbrev pub RunLaid : Timing → Float → Float → Cursor → List Float → Ran → (old new : RunColumns) → Type 0
+RunLaid t offset global c beats ran old new =
+    HistoryLaid (runNumber t offset global c (length beats) (length (old .numbers)) (length (old .times)) (length (old .counts))) runOf
+    t offset global c beats ran old new

@@ -7,7 +7,7 @@ ghost use mathlib.Core.Path.{_≡_};
 ghost use Prim.Native.Nat.{_≤_};
 ghost use lib.ListN.{length};
 ghost use Rattle.chart.specs.Timing.{timing};
-ghost use Rattle.clock_run.specs.Run.{runRoomNumber, RunLaid};
+ghost use Rattle.clock_run.specs.Run.{runRoomNumber, runColumns, RunLaid};
 ghost use Rattle.clock_run.specs.MarkedRun.{MarkedRunLaid};
 ghost use Rattle.clock_run.specs.inside.Asked.{AllAsked};
 ghost use Rattle.clock_run.specs.inside.Outlook.{lesserRow, restUntil, lookOn, lookAhead, isBeyond, isBefore, quietTime, soonBefore};
@@ -51,7 +51,7 @@ fn least_of(one: i32, other: i32) -> i32
 }
 
 fn rest_until(state: State, stop_beats: &[f32], delay_beats: &[f32], warp_beats: &[f32]) -> i32
-    ensures { λ r. ⌜ r ≡ restUntil (now («stop_beats» .entry)) (now («delay_beats» .entry)) (now («warp_beats» .entry)) state ⌝ }
+    ensures { λ r. ⌜ r ≡ restUntil «stop_beats».entry.now «delay_beats».entry.now «warp_beats».entry.now state ⌝ }
 {
     let stop = clock_walk::row_at(stop_beats, state.stops);
     let warp = clock_walk::row_at(warp_beats, state.warps);
@@ -65,7 +65,7 @@ fn rest_until(state: State, stop_beats: &[f32], delay_beats: &[f32], warp_beats:
 
 // What is ahead of a state, the row of the next event that is no tempo being known.
 fn look_on(state: State, rest: i32, tempo_beats: &[f32], tempo_values: &[f32]) -> Outlook
-    ensures { λ r. ⌜ r ≡ lookOn (now («tempo_beats» .entry)) (now («tempo_values» .entry)) state rest ⌝ }
+    ensures { λ r. ⌜ r ≡ lookOn «tempo_beats».entry.now «tempo_values».entry.now state rest ⌝ }
 {
     let tempos = state.tempos;
     if tempos == 0 {
@@ -107,7 +107,10 @@ fn look_ahead(
     warp_beats: &[f32],
     warp_lengths: &[f32],
 ) -> Outlook
-    ensures { λ r. ⌜ r ≡ lookAhead (timing (now («tempo_beats» .entry)) (now («tempo_values» .entry)) (now («stop_beats» .entry)) (now («stop_values» .entry)) (now («delay_beats» .entry)) (now («delay_values» .entry)) (now («warp_beats» .entry)) (now («warp_lengths» .entry))) state ⌝ }
+    ensures { λ r.
+        let t = timing «tempo_beats».entry.now «tempo_values».entry.now «stop_beats».entry.now «stop_values».entry.now
+        «delay_beats».entry.now «delay_values».entry.now «warp_beats».entry.now «warp_lengths».entry.now in
+        ⌜ r ≡ lookAhead t state ⌝ }
 {
     if tempo_beats.len() == 0 {
         return Outlook {
@@ -168,7 +171,7 @@ fn soon(
     tempo_beats: &[f32],
     tempo_values: &[f32],
 ) -> Soon
-    ensures { λ r. ⌜ r ≡ soonBefore (now («tempo_beats» .entry)) (now («tempo_values» .entry)) outlook at beat row ⌝ }
+    ensures { λ r. ⌜ r ≡ soonBefore «tempo_beats».entry.now «tempo_values».entry.now outlook at beat row ⌝ }
 {
     let state = at.state;
     let next = state.tempos;
@@ -219,11 +222,13 @@ fn ask_each(
     times: &mut [f64],
     counts: &mut [usize],
 ) -> Cursor
-    requires { ⌜ (length (now beats) ≤ length (now numbers)) × (length (now beats) ≤ length (now times)) × (length (now beats) ≤ length (now counts)) ⌝ }
+    requires { ⌜ (length beats.now ≤ length numbers.now) × (length beats.now ≤ length times.now) × (length beats.now ≤ length counts.now) ⌝ }
     ensures { λ r.
         let t = timing «tempo_beats».entry.now «tempo_values».entry.now «stop_beats».entry.now «stop_values».entry.now
         «delay_beats».entry.now «delay_values».entry.now «warp_beats».entry.now «warp_lengths».entry.now in
-        ⌜ AllAsked mark t offset global cursor beats.entry.now r numbers.entry.now numbers.exit.now times.entry.now times.exit.now counts.entry.now counts.exit.now ⌝ }
+        let old = runColumns numbers.entry.now times.entry.now counts.entry.now in
+        let new = runColumns numbers.exit.now times.exit.now counts.exit.now in
+        ⌜ AllAsked mark t offset global cursor beats.entry.now r old new ⌝ }
 {
     let beyond = clock::rate_beyond(mark, tempo_beats, tempo_values);
     let mut at = cursor;
@@ -331,7 +336,12 @@ pub fn run(
     times: &mut [f64],
     counts: &mut [usize],
 ) -> Ran
-    ensures { λ r. ⌜ RunLaid (timing (now («tempo_beats» .entry)) (now («tempo_values» .entry)) (now («stop_beats» .entry)) (now («stop_values» .entry)) (now («delay_beats» .entry)) (now («delay_values» .entry)) (now («warp_beats» .entry)) (now («warp_lengths» .entry))) offset global cursor (now (beats .entry)) r (now (numbers .entry)) (now (numbers .exit)) (now (times .entry)) (now (times .exit)) (now (counts .entry)) (now (counts .exit)) ⌝ }
+    ensures { λ r.
+        let t = timing «tempo_beats».entry.now «tempo_values».entry.now «stop_beats».entry.now «stop_values».entry.now
+        «delay_beats».entry.now «delay_values».entry.now «warp_beats».entry.now «warp_lengths».entry.now in
+        let old = runColumns numbers.entry.now times.entry.now counts.entry.now in
+        let new = runColumns numbers.exit.now times.exit.now counts.exit.now in
+        ⌜ RunLaid t offset global cursor beats.entry.now r old new ⌝ }
 {
     let timing = clock_tests::check_timing(
         tempo_beats,
@@ -402,7 +412,9 @@ pub fn run_marked(
     ensures { λ r.
         let t = timing «tempo_beats».entry.now «tempo_values».entry.now «stop_beats».entry.now «stop_values».entry.now
         «delay_beats».entry.now «delay_values».entry.now «warp_beats».entry.now «warp_lengths».entry.now in
-        ⌜ MarkedRunLaid mark t offset global cursor beats.entry.now r numbers.entry.now numbers.exit.now times.entry.now times.exit.now counts.entry.now counts.exit.now ⌝ }
+        let old = runColumns numbers.entry.now times.entry.now counts.entry.now in
+        let new = runColumns numbers.exit.now times.exit.now counts.exit.now in
+        ⌜ MarkedRunLaid mark t offset global cursor beats.entry.now r old new ⌝ }
 {
     let marked = clock::check_marked_timing(
         mark,

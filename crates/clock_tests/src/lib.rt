@@ -19,7 +19,7 @@ fn row_of(beat: f32) -> i32
 
 // Whether the rows of a list rise strictly.
 fn rows_rise(beats: &[f32]) -> bool
-    ensures { λ r. ⌜ r ≡ rises (now (beats .entry)) ⌝ }
+    ensures { λ r. ⌜ r ≡ rises beats.entry.now ⌝ }
 {
     if beats.len() == 0 {
         return true;
@@ -39,7 +39,7 @@ fn rows_rise(beats: &[f32]) -> bool
 }
 
 fn starts_at_zero(beats: &[f32]) -> bool
-    ensures { λ r. ⌜ r ≡ startsAtZero (now (beats .entry)) ⌝ }
+    ensures { λ r. ⌜ r ≡ startsAtZero beats.entry.now ⌝ }
 {
     if beats.len() == 0 {
         return true;
@@ -57,7 +57,10 @@ fn lists_number(
     warp_beats: &[f32],
     warp_lengths: &[f32],
 ) -> u32
-    ensures { λ r. ⌜ r ≡ timingListsNumber (timing (now («tempo_beats» .entry)) (now («tempo_values» .entry)) (now («stop_beats» .entry)) (now («stop_values» .entry)) (now («delay_beats» .entry)) (now («delay_values» .entry)) (now («warp_beats» .entry)) (now («warp_lengths» .entry))) ⌝ }
+    ensures { λ r.
+        let t = timing «tempo_beats».entry.now «tempo_values».entry.now «stop_beats».entry.now «stop_values».entry.now
+        «delay_beats».entry.now «delay_values».entry.now «warp_beats».entry.now «warp_lengths».entry.now in
+        ⌜ r ≡ timingListsNumber t ⌝ }
 {
     let tempos = limits_f32::list_number_f32(Kind::Beat, Kind::Tempo, tempo_beats, tempo_values);
     let stops = limits_f32::list_number_f32(Kind::Beat, Kind::Pause, stop_beats, stop_values);
@@ -97,7 +100,10 @@ fn order_number(
     warp_beats: &[f32],
     warp_lengths: &[f32],
 ) -> u32
-    ensures { λ r. ⌜ r ≡ orderNumber (timing (now («tempo_beats» .entry)) (now («tempo_values» .entry)) (now («stop_beats» .entry)) (now («stop_values» .entry)) (now («delay_beats» .entry)) (now («delay_values» .entry)) (now («warp_beats» .entry)) (now («warp_lengths» .entry))) ⌝ }
+    ensures { λ r.
+        let t = timing «tempo_beats».entry.now «tempo_values».entry.now «stop_beats».entry.now «stop_values».entry.now
+        «delay_beats».entry.now «delay_values».entry.now «warp_beats».entry.now «warp_lengths».entry.now in
+        ⌜ r ≡ orderNumber t ⌝ }
 {
     if !rows_rise(tempo_beats) {
         return limits::NOT_RISING;
@@ -130,7 +136,10 @@ pub fn check_timing(
     offset: f64,
     global: f64,
 ) -> u32
-    ensures { λ r. ⌜ r ≡ timingNumber (timing (now («tempo_beats» .entry)) (now («tempo_values» .entry)) (now («stop_beats» .entry)) (now («stop_values» .entry)) (now («delay_beats» .entry)) (now («delay_values» .entry)) (now («warp_beats» .entry)) (now («warp_lengths» .entry))) offset global ⌝ }
+    ensures { λ r.
+        let t = timing «tempo_beats».entry.now «tempo_values».entry.now «stop_beats».entry.now «stop_values».entry.now
+        «delay_beats».entry.now «delay_values».entry.now «warp_beats».entry.now «warp_lengths».entry.now in
+        ⌜ r ≡ timingNumber t offset global ⌝ }
 {
     let lists = lists_number(
         tempo_beats,

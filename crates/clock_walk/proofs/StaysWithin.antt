@@ -1,4 +1,4 @@
--- What every event keeps, every walk of the clock keeps: so its places stay within their lists. Assumes nothing.
+-- What every event keeps, every walk of the clock keeps; and every event leaves the places within their lists. Assumes nothing.
 use Prim.Native.Nat.{ℕ, _+_, _≤_}
 use mathlib.Core.Bool.{true}
 use mathlib.Core.Path.{_≡_}
@@ -8,9 +8,9 @@ use lib.IntN.{ℤ}
 use lib.Ieee.{Float}
 use Rattle.chart.specs.Timing.{Timing}
 use Rattle.clock_walk.specs.Events.{ahead}
-use Rattle.clock_walk.specs.Passing.{earlyTempo, arrived, eventPassed, afterWarpEnd, afterTempo, afterDelay, afterStop, afterWarp}
+use Rattle.clock_walk.specs.Passing.{arrived, eventPassed, afterWarpEnd, afterTempo, afterDelay, afterStop, afterWarp}
 use Rattle.clock_walk.specs.Course.{pastFound, onward}
-use Rattle.clock_walk.specs.Walk.{isDue, walkOn, walk}
+use Rattle.clock_walk.specs.Walk.{isDue, walkOn}
 use Rattle.chart.specs.declared.State.{State}
 use Rattle.clock_walk.specs.declared.Event.{Event}
 use Rattle.clock_walk.specs.declared.Event.the-variants.{WarpEnd, Tempo, Delay, Stop, Warp}
@@ -45,9 +45,3 @@ found-within early t s NotFound p w = w
 
 pub places-onward : (early : Float) (t : Timing) (s : State) → PlacesWithin t s → PlacesWithin t (onward early t s)
 places-onward early t s w = found-within early t s (ahead t s) (placed-ahead t s) w
-
-pub places-stay : (t : Timing) (r : ℤ) (s : State) → PlacesWithin t s → PlacesWithin t (walk t r s .state)
-unfolding walk
-places-stay t r s w =
-    let early = earlyTempo (t .tempoBeats) (t .tempoValues) s in
-    walk-keeps early t r (λ (s : State) (n : ℕ). PlacesWithin t s) (λ s n e h. places-onward early t s h) s 0 w

@@ -28,10 +28,14 @@ headsOf tempoBeats stopBeats delayBeats warpBeats s = record {
 -- after an event of a kind, which left the state: only what it passed is looked for anew
 abbrev pub headsAfter : (tempoBeats stopBeats delayBeats warpBeats : List Float) → Heads → State → Event → Heads
 headsAfter tempoBeats stopBeats delayBeats warpBeats h s WarpEnd = record { end = farthest; tempo = h .tempo; delay = h .delay; stop = h .stop; warp = h .warp }
-headsAfter tempoBeats stopBeats delayBeats warpBeats h s Tempo = record { end = h .end; tempo = rowAt tempoBeats (s .tempos); delay = h .delay; stop = h .stop; warp = h .warp }
-headsAfter tempoBeats stopBeats delayBeats warpBeats h s Delay = record { end = h .end; tempo = h .tempo; delay = rowAt delayBeats (s .delays); stop = h .stop; warp = h .warp }
-headsAfter tempoBeats stopBeats delayBeats warpBeats h s Stop = record { end = h .end; tempo = h .tempo; delay = h .delay; stop = rowAt stopBeats (s .stops); warp = h .warp }
-headsAfter tempoBeats stopBeats delayBeats warpBeats h s Warp = record { end = row binary64 (s .end); tempo = h .tempo; delay = h .delay; stop = h .stop; warp = rowAt warpBeats (s .warps) }
+headsAfter tempoBeats stopBeats delayBeats warpBeats h s Tempo =
+    record { end = h .end; tempo = rowAt tempoBeats (s .tempos); delay = h .delay; stop = h .stop; warp = h .warp }
+headsAfter tempoBeats stopBeats delayBeats warpBeats h s Delay =
+    record { end = h .end; tempo = h .tempo; delay = rowAt delayBeats (s .delays); stop = h .stop; warp = h .warp }
+headsAfter tempoBeats stopBeats delayBeats warpBeats h s Stop =
+    record { end = h .end; tempo = h .tempo; delay = h .delay; stop = rowAt stopBeats (s .stops); warp = h .warp }
+headsAfter tempoBeats stopBeats delayBeats warpBeats h s Warp =
+    record { end = row binary64 (s .end); tempo = h .tempo; delay = h .delay; stop = h .stop; warp = rowAt warpBeats (s .warps) }
 
 -- ---- what is ahead, by the rows alone
 

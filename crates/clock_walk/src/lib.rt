@@ -9,7 +9,8 @@ ghost use Rattle.ieee.specs.Constants.{sixty};
 ghost use Rattle.chart.specs.Timing.{timing};
 ghost use Rattle.clock_walk.specs.Events.{goesFirst, goesBefore, dueOf};
 ghost use Rattle.clock_walk.specs.Heads.{headsOf, headsAfter, soonerHead, leastHead, aheadOf};
-ghost use Rattle.clock_walk.specs.Passing.{tempoAt, earlyTempo, inForce, timeTo, timeAt, larger, afterWarpEnd, afterTempo, afterDelay, afterStop, afterWarp, brings, eventPassed, firstOr, lastUpTo};
+ghost use Rattle.clock_walk.specs.Passing.{tempoAt, earlyTempo, inForce, timeTo, timeAt, larger, firstOr, lastUpTo};
+ghost use Rattle.clock_walk.specs.Passing.{afterWarpEnd, afterTempo, afterDelay, afterStop, afterWarp, brings, eventPassed};
 ghost use Rattle.clock_walk.specs.inside.CanMove.{CanMove};
 ghost use Rattle.clock_walk.specs.Quiet.{rowAt, endRow, notBefore, isLater, isNextLater, onlyTempos};
 ghost use Rattle.clock_walk.specs.Soon.{quietAt, tempoPassed, rowAfter, soonOf};
@@ -51,7 +52,7 @@ pub enum Due {
 
 // The row of an entry, and the greatest i32 behind the end of the list.
 pub fn row_at(beats: &[f32], place: usize) -> i32
-    ensures { λ r. ⌜ r ≡ rowAt (now (beats .entry)) place ⌝ }
+    ensures { λ r. ⌜ r ≡ rowAt beats.entry.now place ⌝ }
 {
     if place < beats.len() {
         return rows::beat_to_note_row(std::num::f32_to_f64_with_nan(beats[place]));
@@ -85,7 +86,7 @@ pub fn heads_of(
     delay_beats: &[f32],
     warp_beats: &[f32],
 ) -> Heads
-    ensures { λ r. ⌜ r ≡ headsOf (now («tempo_beats» .entry)) (now («stop_beats» .entry)) (now («delay_beats» .entry)) (now («warp_beats» .entry)) state ⌝ }
+    ensures { λ r. ⌜ r ≡ headsOf «tempo_beats».entry.now «stop_beats».entry.now «delay_beats».entry.now «warp_beats».entry.now state ⌝ }
 {
     let end = end_row(state.warping, state.end);
     let tempo = row_at(tempo_beats, state.tempos);
@@ -111,7 +112,7 @@ pub fn heads_after(
     delay_beats: &[f32],
     warp_beats: &[f32],
 ) -> Heads
-    ensures { λ r. ⌜ r ≡ headsAfter (now («tempo_beats» .entry)) (now («stop_beats» .entry)) (now («delay_beats» .entry)) (now («warp_beats» .entry)) heads state kind ⌝ }
+    ensures { λ r. ⌜ r ≡ headsAfter «tempo_beats».entry.now «stop_beats».entry.now «delay_beats».entry.now «warp_beats».entry.now heads state kind ⌝ }
 {
     match kind {
         Event::WarpEnd => Heads {
@@ -272,7 +273,7 @@ fn find_due(heads: Heads, asked: i32) -> Due
 
 // A number of a list, and a NaN beyond its end.
 pub fn read_at(values: &[f32], place: usize) -> f64
-    ensures { λ r. ⌜ r ≡ getD (now (values .entry)) place nan ⌝ }
+    ensures { λ r. ⌜ r ≡ getD values.entry.now place nan ⌝ }
 {
     if place < values.len() {
         return std::num::f32_to_f64_with_nan(values[place]);
@@ -282,7 +283,7 @@ pub fn read_at(values: &[f32], place: usize) -> f64
 
 // The first tempo, 60 where there is none.
 fn first_tempo(tempo_values: &[f32]) -> f64
-    ensures { λ r. ⌜ r ≡ firstOr sixty (now («tempo_values» .entry)) ⌝ }
+    ensures { λ r. ⌜ r ≡ firstOr sixty «tempo_values».entry.now ⌝ }
 {
     if tempo_values.len() == 0 {
         return 60.0;
@@ -292,7 +293,7 @@ fn first_tempo(tempo_values: &[f32]) -> f64
 
 // The tempo at a beat: of the leading entries at or before it the last, else another.
 fn last_up_to(beat: f64, other: f64, tempo_beats: &[f32], tempo_values: &[f32]) -> f64
-    ensures { λ r. ⌜ r ≡ lastUpTo beat other (now («tempo_beats» .entry)) (now («tempo_values» .entry)) ⌝ }
+    ensures { λ r. ⌜ r ≡ lastUpTo beat other «tempo_beats».entry.now «tempo_values».entry.now ⌝ }
 {
     let mut tempo = other;
     let mut i = 0;
@@ -312,7 +313,7 @@ fn last_up_to(beat: f64, other: f64, tempo_beats: &[f32], tempo_values: &[f32]) 
 }
 
 fn get_bpm_for_row(row: i32, tempo_beats: &[f32], tempo_values: &[f32]) -> f64
-    ensures { λ r. ⌜ r ≡ tempoAt (now («tempo_beats» .entry)) (now («tempo_values» .entry)) row ⌝ }
+    ensures { λ r. ⌜ r ≡ tempoAt «tempo_beats».entry.now «tempo_values».entry.now row ⌝ }
 {
     let beat = rows::note_row_to_beat(row);
     let first = first_tempo(tempo_values);
@@ -321,7 +322,7 @@ fn get_bpm_for_row(row: i32, tempo_beats: &[f32], tempo_values: &[f32]) -> f64
 
 // The tempo that a walk begins with where none is passed yet.
 pub fn early_tempo(state: State, tempo_beats: &[f32], tempo_values: &[f32]) -> f64
-    ensures { λ r. ⌜ r ≡ earlyTempo (now («tempo_beats» .entry)) (now («tempo_values» .entry)) state ⌝ }
+    ensures { λ r. ⌜ r ≡ earlyTempo «tempo_beats».entry.now «tempo_values».entry.now state ⌝ }
 {
     let place = state.tempos;
     if place == 0 {
@@ -332,7 +333,7 @@ pub fn early_tempo(state: State, tempo_beats: &[f32], tempo_values: &[f32]) -> f
 
 // The last tempo passed, before any the early one.
 pub fn tempo_in_force(early: f64, tempo_values: &[f32], place: usize) -> f64
-    ensures { λ r. ⌜ r ≡ inForce early (now («tempo_values» .entry)) place ⌝ }
+    ensures { λ r. ⌜ r ≡ inForce early «tempo_values».entry.now place ⌝ }
 {
     if place == 0 {
         return early;
@@ -341,7 +342,7 @@ pub fn tempo_in_force(early: f64, tempo_values: &[f32], place: usize) -> f64
 }
 
 fn time_to(state: State, early: f64, tempo_values: &[f32], row: i32) -> f64
-    ensures { λ r. ⌜ r ≡ timeTo early (now («tempo_values» .entry)) state row ⌝ }
+    ensures { λ r. ⌜ r ≡ timeTo early «tempo_values».entry.now state row ⌝ }
 {
     let warping = state.warping;
     if warping {
@@ -354,7 +355,7 @@ fn time_to(state: State, early: f64, tempo_values: &[f32], row: i32) -> f64
 
 // The time of a row, worked out beside the state.
 pub fn time_at(state: State, row: i32, early: f64, tempo_values: &[f32]) -> f64
-    ensures { λ r. ⌜ r ≡ timeAt early (now («tempo_values» .entry)) state row ⌝ }
+    ensures { λ r. ⌜ r ≡ timeAt early «tempo_values».entry.now state row ⌝ }
 {
     state.time + time_to(state, early, tempo_values, row)
 }
@@ -432,7 +433,7 @@ pub fn number_of(
     warp_beats: &[f32],
     warp_lengths: &[f32],
 ) -> f64
-    ensures { λ r. ⌜ r ≡ brings (now («stop_values» .entry)) (now («delay_values» .entry)) (now («warp_beats» .entry)) (now («warp_lengths» .entry)) state kind ⌝ }
+    ensures { λ r. ⌜ r ≡ brings «stop_values».entry.now «delay_values».entry.now «warp_beats».entry.now «warp_lengths».entry.now state kind ⌝ }
 {
     match kind {
         Event::WarpEnd => 0.0,
@@ -473,7 +474,7 @@ pub struct Walked {
 // True only where the entry at a place is on a later row, or the list ends there. Of rows that are allowed and from 0 on: the entry is held against the beat of
 // the row after it, which is quicker than the entry's row, and may say no of that row itself.
 fn is_later(beats: &[f32], place: usize, asked: i32) -> bool
-    ensures { λ r. ⌜ r ≡ isLater (now (beats .entry)) place asked ⌝ }
+    ensures { λ r. ⌜ r ≡ isLater beats.entry.now place asked ⌝ }
 {
     if asked < 0 {
         return false;
@@ -488,7 +489,7 @@ fn is_later(beats: &[f32], place: usize, asked: i32) -> bool
 // True where the entry at the place is not before the beat and not above the limit, so that it is allowed where the beat is, and at the end of the list. So a
 // yes also says that the place is within the list.
 fn not_before(beats: &[f32], place: usize, beat: f64) -> bool
-    ensures { λ r. ⌜ r ≡ notBefore (now (beats .entry)) place beat ⌝ }
+    ensures { λ r. ⌜ r ≡ notBefore beats.entry.now place beat ⌝ }
 {
     if place < beats.len() {
         let head = beats[place];
@@ -502,7 +503,7 @@ fn not_before(beats: &[f32], place: usize, beat: f64) -> bool
 
 // Whether an entry is at a place, and the one after it is later.
 fn is_next_later(beats: &[f32], place: usize, asked: i32) -> bool
-    ensures { λ r. ⌜ r ≡ isNextLater (now (beats .entry)) place asked ⌝ }
+    ensures { λ r. ⌜ r ≡ isNextLater beats.entry.now place asked ⌝ }
 {
     if place < beats.len() {
         return is_later(beats, place + 1, asked);
@@ -519,7 +520,7 @@ pub fn is_only_tempos(
     delay_beats: &[f32],
     warp_beats: &[f32],
 ) -> bool
-    ensures { λ r. ⌜ r ≡ onlyTempos (now («stop_beats» .entry)) (now («delay_beats» .entry)) (now («warp_beats» .entry)) state asked ⌝ }
+    ensures { λ r. ⌜ r ≡ onlyTempos «stop_beats».entry.now «delay_beats».entry.now «warp_beats».entry.now state asked ⌝ }
 {
     if asked < 0 {
         return false;
@@ -542,7 +543,7 @@ pub fn is_only_tempos(
 
 // The row of the entry after the one at a place, and the greatest i32 where there is none.
 pub fn row_after(beats: &[f32], place: usize) -> i32
-    ensures { λ r. ⌜ r ≡ rowAfter (now (beats .entry)) place ⌝ }
+    ensures { λ r. ⌜ r ≡ rowAfter beats.entry.now place ⌝ }
 {
     if place < beats.len() {
         return row_at(beats, place + 1);
@@ -552,7 +553,7 @@ pub fn row_after(beats: &[f32], place: usize) -> i32
 
 // The state after the tempo that is next, on its row, where one was passed before it; the state as it is where none is left.
 pub fn pass_next_tempo(state: State, row: i32, tempo_beats: &[f32], tempo_values: &[f32]) -> State
-    ensures { λ r. ⌜ r ≡ tempoPassed (now («tempo_beats» .entry)) (now («tempo_values» .entry)) state row ⌝ }
+    ensures { λ r. ⌜ r ≡ tempoPassed «tempo_beats».entry.now «tempo_values».entry.now state row ⌝ }
 {
     if state.tempos < tempo_beats.len() {
         let next = Next {
@@ -574,7 +575,7 @@ pub struct Soon {
 
 // A walk to an asked row by which nothing but tempos is due, as far as its first tempo, where a tempo was passed before; where it would go on, it is not begun.
 pub fn walk_soon(state: State, asked: i32, tempo_beats: &[f32], tempo_values: &[f32]) -> Soon
-    ensures { λ r. ⌜ r ≡ soonOf (now («tempo_beats» .entry)) (now («tempo_values» .entry)) state asked ⌝ }
+    ensures { λ r. ⌜ r ≡ soonOf «tempo_beats».entry.now «tempo_values».entry.now state asked ⌝ }
 {
     if is_later(tempo_beats, state.tempos, asked) {
         return Soon {
@@ -608,7 +609,7 @@ pub fn walk_soon(state: State, asked: i32, tempo_beats: &[f32], tempo_values: &[
 
 // The time of a row by which no event is due, where a tempo was passed.
 pub fn quiet_time(state: State, asked: i32, tempo_values: &[f32]) -> f64
-    ensures { λ r. ⌜ r ≡ quietAt (now («tempo_values» .entry)) state asked ⌝ }
+    ensures { λ r. ⌜ r ≡ quietAt «tempo_values».entry.now state asked ⌝ }
 {
     time_at(state, asked, 0.0, tempo_values)
 }
@@ -629,7 +630,10 @@ pub fn walk_to(
     warp_beats: &[f32],
     warp_lengths: &[f32],
 ) -> Walked
-    ensures { λ r. ⌜ r ≡ walk (timing (now («tempo_beats» .entry)) (now («tempo_values» .entry)) (now («stop_beats» .entry)) (now («stop_values» .entry)) (now («delay_beats» .entry)) (now («delay_values» .entry)) (now («warp_beats» .entry)) (now («warp_lengths» .entry))) asked start ⌝ }
+    ensures { λ r.
+        let t = timing «tempo_beats».entry.now «tempo_values».entry.now «stop_beats».entry.now «stop_values».entry.now
+        «delay_beats».entry.now «delay_values».entry.now «warp_beats».entry.now «warp_lengths».entry.now in
+        ⌜ r ≡ walk t asked start ⌝ }
 {
     let early = early_tempo(start, tempo_beats, tempo_values);
     let mut state = start;
@@ -795,7 +799,9 @@ fn pause_of(kind: Event) -> Pausing
 
 // True only where a tempo is ahead, alone on its row, and has come by a time.
 fn is_tempo_over(state: State, heads: Heads, elapsed: f64, early: f64, tempo_values: &[f32]) -> bool
-    ensures { λ r. ⌜ (r ≡ true → (aheadOf heads ≡ Found (record { row = heads .tempo; kind = Tempo })) × (lt elapsed (timeAt early (now («tempo_values» .entry)) state (heads .tempo)) ≡ false)) ⌝ }
+    ensures { λ r.
+        let next = Found (record { row = heads .tempo; kind = Tempo }) in
+        ⌜ (r ≡ true → (aheadOf heads ≡ next) × (lt elapsed (timeAt early «tempo_values».entry.now state (heads .tempo)) ≡ false)) ⌝ }
 {
     if is_tempo_ahead(heads) {
         let later = elapsed < time_at(state, heads.tempo, early, tempo_values);

@@ -14,6 +14,7 @@ ghost use Rattle.columns.specs.Laying.{LaidPair};
 ghost use Rattle.limits.specs.Numbers.{rangeOf, inRange, every, rowIn};
 ghost use Rattle.lookup_row_store.specs.RowStore.{RowsStored};
 ghost use mathlib.Core.Bool.{true};
+ghost use Rattle.lookup.specs.Lookups.{listColumns, warpLists, lookupLists};
 ghost use Rattle.lookup.specs.Lookups.{isWarped, isFake, isJudgable, askedRow, askedNumber, warpNumber, fakeNumber, judgableNumber, looked, Judged};
 ghost use Rattle.lookup_checked.specs.Checked.{warpedBy, fakeBy, judgableBy, atRow};
 ghost use Rattle.limits.specs.Refusals.{listNumber};
@@ -26,7 +27,7 @@ ghost use Rattle.process_sm.specs.Sm.{SmProcessed};
 ghost use Rattle.chart.specs.Timing.{timing};
 ghost use Rattle.clock_tests.specs.TimingNumbers.{timingNumber};
 ghost use Rattle.clock.specs.Question.{freshCursor, made, playerQuestion, question};
-ghost use Rattle.clock_run.specs.Run.{RunLaid};
+ghost use Rattle.clock_run.specs.Run.{runColumns, RunLaid};
 ghost use Rattle.tidy_scrolls.specs.ScrollTidying.{ScrollsTidied};
 ghost use Rattle.tidy_speeds.specs.SpeedTidying.{SpeedsTidied};
 
@@ -38,7 +39,7 @@ pub extern "C" fn marrighentu_tidy_row_segments(
     out_beats: &mut [f64],
     out_values: &mut [f64],
 ) -> Outcome
-    ensures { λ r. ⌜ RowsTidied (now (beats .entry)) (now (values .entry)) r (now («out_beats» .entry)) (now («out_beats» .exit)) (now («out_values» .entry)) (now («out_values» .exit)) ⌝ }
+    ensures { λ r. ⌜ RowsTidied beats.entry.now values.entry.now r «out_beats».entry.now «out_beats».exit.now «out_values».entry.now «out_values».exit.now ⌝ }
 {
     tidy_rows::tidy_row_segments(beats, values, out_beats, out_values)
 }
@@ -51,7 +52,10 @@ pub extern "C" fn marrighentu_tidy_bpms(
     out_beats: &mut [f64],
     out_tempos: &mut [f64],
 ) -> Outcome
-    ensures { λ r. ⌜ LaidPair (listNumber (rangeOf Kind.Beat) (rangeOf Kind.TidyTempo) (now (beats .entry)) (now (tempos .entry))) (tidyTempos (now (beats .entry)) (now (tempos .entry))) r (now («out_beats» .entry)) (now («out_beats» .exit)) (now («out_tempos» .entry)) (now («out_tempos» .exit)) ⌝ }
+    ensures { λ r.
+        let number = listNumber (rangeOf Kind.Beat) (rangeOf Kind.TidyTempo) beats.entry.now tempos.entry.now in
+        ⌜ LaidPair number (tidyTempos beats.entry.now tempos.entry.now) r
+        «out_beats».entry.now «out_beats».exit.now «out_tempos».entry.now «out_tempos».exit.now ⌝ }
 {
     tidy_tempos::tidy_bpms(beats, tempos, out_beats, out_tempos)
 }
@@ -71,7 +75,10 @@ pub extern "C" fn marrighentu_build_segment_row_storage(
     fake_lengths: &[f32],
     rows: &mut [i32],
 ) -> Stored
-    ensures { λ r. ⌜ RowsStored (now («stop_beats» .entry)) (now («stop_values» .entry)) (now («delay_beats» .entry)) (now («delay_values» .entry)) (now («warp_beats» .entry)) (now («warp_lengths» .entry)) (now («fake_beats» .entry)) (now («fake_lengths» .entry)) r (now (rows .entry)) (now (rows .exit)) ⌝ }
+    ensures { λ r.
+        let lists = lookupLists «stop_beats».entry.now «stop_values».entry.now «delay_beats».entry.now «delay_values».entry.now
+        «warp_beats».entry.now «warp_lengths».entry.now «fake_beats».entry.now «fake_lengths».entry.now in
+        ⌜ RowsStored lists r rows.entry.now rows.exit.now ⌝ }
 {
     lookup_row_store::build_segment_row_storage(
         stop_beats,
@@ -97,7 +104,10 @@ pub extern "C" fn marrighentu_is_warp_at_row(
     warp_lengths: &[f32],
     row: i32,
 ) -> Looked
-    ensures { λ r. ⌜ r ≡ looked (warpNumber (now («stop_beats» .entry)) (now («stop_values» .entry)) (now («delay_beats» .entry)) (now («delay_values» .entry)) (now («warp_beats» .entry)) (now («warp_lengths» .entry)) (rowIn row)) (isWarped (now («stop_beats» .entry)) (now («stop_values» .entry)) (now («delay_beats» .entry)) (now («delay_values» .entry)) (now («warp_beats» .entry)) (now («warp_lengths» .entry)) row) ⌝ }
+    ensures { λ r.
+        let lists = warpLists «stop_beats».entry.now «stop_values».entry.now «delay_beats».entry.now «delay_values».entry.now
+        «warp_beats».entry.now «warp_lengths».entry.now in
+        ⌜ r ≡ looked (warpNumber lists (rowIn row)) (isWarped lists row) ⌝ }
 {
     lookup::is_warp_at_row(
         stop_beats,
@@ -121,7 +131,10 @@ pub extern "C" fn marrighentu_is_warp_at_beat(
     warp_lengths: &[f32],
     beat: f64,
 ) -> Looked
-    ensures { λ r. ⌜ r ≡ looked (warpNumber (now («stop_beats» .entry)) (now («stop_values» .entry)) (now («delay_beats» .entry)) (now («delay_values» .entry)) (now («warp_beats» .entry)) (now («warp_lengths» .entry)) (inRange (rangeOf Kind.Beat) beat)) (isWarped (now («stop_beats» .entry)) (now («stop_values» .entry)) (now («delay_beats» .entry)) (now («delay_values» .entry)) (now («warp_beats» .entry)) (now («warp_lengths» .entry)) (askedRow beat)) ⌝ }
+    ensures { λ r.
+        let lists = warpLists «stop_beats».entry.now «stop_values».entry.now «delay_beats».entry.now «delay_values».entry.now
+        «warp_beats».entry.now «warp_lengths».entry.now in
+        ⌜ r ≡ looked (warpNumber lists (inRange (rangeOf Kind.Beat) beat)) (isWarped lists (askedRow beat)) ⌝ }
 {
     lookup::is_warp_at_beat(
         stop_beats,
@@ -141,7 +154,9 @@ pub extern "C" fn marrighentu_is_fake_at_row(
     fake_lengths: &[f32],
     row: i32,
 ) -> Looked
-    ensures { λ r. ⌜ r ≡ looked (fakeNumber (now («fake_beats» .entry)) (now («fake_lengths» .entry)) (rowIn row)) (isFake (now («fake_beats» .entry)) (now («fake_lengths» .entry)) row) ⌝ }
+    ensures { λ r.
+        let fakes = listColumns «fake_beats».entry.now «fake_lengths».entry.now in
+        ⌜ r ≡ looked (fakeNumber fakes (rowIn row)) (isFake fakes row) ⌝ }
 {
     lookup::is_fake_at_row(fake_beats, fake_lengths, row)
 }
@@ -153,7 +168,9 @@ pub extern "C" fn marrighentu_is_fake_at_beat(
     fake_lengths: &[f32],
     beat: f64,
 ) -> Looked
-    ensures { λ r. ⌜ r ≡ looked (fakeNumber (now («fake_beats» .entry)) (now («fake_lengths» .entry)) (inRange (rangeOf Kind.Beat) beat)) (isFake (now («fake_beats» .entry)) (now («fake_lengths» .entry)) (askedRow beat)) ⌝ }
+    ensures { λ r.
+        let fakes = listColumns «fake_beats».entry.now «fake_lengths».entry.now in
+        ⌜ r ≡ looked (fakeNumber fakes (inRange (rangeOf Kind.Beat) beat)) (isFake fakes (askedRow beat)) ⌝ }
 {
     lookup::is_fake_at_beat(fake_beats, fake_lengths, beat)
 }
@@ -171,7 +188,10 @@ pub extern "C" fn marrighentu_is_judgable_at_row(
     fake_lengths: &[f32],
     row: i32,
 ) -> Looked
-    ensures { λ r. ⌜ r ≡ looked (judgableNumber (now («stop_beats» .entry)) (now («stop_values» .entry)) (now («delay_beats» .entry)) (now («delay_values» .entry)) (now («warp_beats» .entry)) (now («warp_lengths» .entry)) (now («fake_beats» .entry)) (now («fake_lengths» .entry)) (rowIn row)) (isJudgable (now («stop_beats» .entry)) (now («stop_values» .entry)) (now («delay_beats» .entry)) (now («delay_values» .entry)) (now («warp_beats» .entry)) (now («warp_lengths» .entry)) (now («fake_beats» .entry)) (now («fake_lengths» .entry)) row) ⌝ }
+    ensures { λ r.
+        let lists = lookupLists «stop_beats».entry.now «stop_values».entry.now «delay_beats».entry.now «delay_values».entry.now
+        «warp_beats».entry.now «warp_lengths».entry.now «fake_beats».entry.now «fake_lengths».entry.now in
+        ⌜ r ≡ looked (judgableNumber lists (rowIn row)) (isJudgable lists row) ⌝ }
 {
     lookup::is_judgable_at_row(
         stop_beats,
@@ -199,7 +219,10 @@ pub extern "C" fn marrighentu_is_judgable_at_beat(
     fake_lengths: &[f32],
     beat: f64,
 ) -> Looked
-    ensures { λ r. ⌜ r ≡ looked (judgableNumber (now («stop_beats» .entry)) (now («stop_values» .entry)) (now («delay_beats» .entry)) (now («delay_values» .entry)) (now («warp_beats» .entry)) (now («warp_lengths» .entry)) (now («fake_beats» .entry)) (now («fake_lengths» .entry)) (inRange (rangeOf Kind.Beat) beat)) (isJudgable (now («stop_beats» .entry)) (now («stop_values» .entry)) (now («delay_beats» .entry)) (now («delay_values» .entry)) (now («warp_beats» .entry)) (now («warp_lengths» .entry)) (now («fake_beats» .entry)) (now («fake_lengths» .entry)) (askedRow beat)) ⌝ }
+    ensures { λ r.
+        let lists = lookupLists «stop_beats».entry.now «stop_values».entry.now «delay_beats».entry.now «delay_values».entry.now
+        «warp_beats».entry.now «warp_lengths».entry.now «fake_beats».entry.now «fake_lengths».entry.now in
+        ⌜ r ≡ looked (judgableNumber lists (inRange (rangeOf Kind.Beat) beat)) (isJudgable lists (askedRow beat)) ⌝ }
 {
     lookup::is_judgable_at_beat(
         stop_beats,
@@ -228,7 +251,10 @@ pub extern "C" fn marrighentu_judgable_rows(
     rows: &[i32],
     out: &mut [u8],
 ) -> Outcome
-    ensures { λ r. ⌜ Judged (judgableNumber (now («stop_beats» .entry)) (now («stop_values» .entry)) (now («delay_beats» .entry)) (now («delay_values» .entry)) (now («warp_beats» .entry)) (now («warp_lengths» .entry)) (now («fake_beats» .entry)) (now («fake_lengths» .entry)) (every rowIn (now (rows .entry)))) (isJudgable (now («stop_beats» .entry)) (now («stop_values» .entry)) (now («delay_beats» .entry)) (now («delay_values» .entry)) (now («warp_beats» .entry)) (now («warp_lengths» .entry)) (now («fake_beats» .entry)) (now («fake_lengths» .entry))) (now (rows .entry)) r (now (out .entry)) (now (out .exit)) ⌝ }
+    ensures { λ r.
+        let lists = lookupLists «stop_beats».entry.now «stop_values».entry.now «delay_beats».entry.now «delay_values».entry.now
+        «warp_beats».entry.now «warp_lengths».entry.now «fake_beats».entry.now «fake_lengths».entry.now in
+        ⌜ Judged (judgableNumber lists (every rowIn rows.entry.now)) (isJudgable lists) rows.entry.now r out.entry.now out.exit.now ⌝ }
 {
     lookup::judgable_rows(
         stop_beats,
@@ -258,11 +284,10 @@ pub extern "C" fn marrighentu_check_lookups(
     fake_beats: &[f32],
     fake_lengths: &[f32],
 ) -> u32
-    ensures { λ r. ⌜ r ≡ judgableNumber
-        (now («stop_beats» .entry)) (now («stop_values» .entry))
-        (now («delay_beats» .entry)) (now («delay_values» .entry))
-        (now («warp_beats» .entry)) (now («warp_lengths» .entry))
-        (now («fake_beats» .entry)) (now («fake_lengths» .entry)) true ⌝ }
+    ensures { λ r.
+        let lists = lookupLists «stop_beats».entry.now «stop_values».entry.now «delay_beats».entry.now «delay_values».entry.now
+        «warp_beats».entry.now «warp_lengths».entry.now «fake_beats».entry.now «fake_lengths».entry.now in
+        ⌜ r ≡ judgableNumber lists true ⌝ }
 {
     lookup_checked::check_lookups(
         stop_beats,
@@ -287,10 +312,10 @@ pub extern "C" fn marrighentu_is_warp_at_row_checked(
     warp_lengths: &[f32],
     row: i32,
 ) -> Looked
-    ensures { λ r. ⌜ r ≡ looked (askedNumber (rowIn row)) (atRow (warpedBy
-        (now («stop_beats» .entry)) (now («stop_values» .entry))
-        (now («delay_beats» .entry)) (now («delay_values» .entry))
-        (now («warp_beats» .entry)) (now («warp_lengths» .entry))) row) ⌝ }
+    ensures { λ r.
+        let lists = warpLists «stop_beats».entry.now «stop_values».entry.now «delay_beats».entry.now «delay_values».entry.now
+        «warp_beats».entry.now «warp_lengths».entry.now in
+        ⌜ r ≡ looked (askedNumber (rowIn row)) (atRow (warpedBy lists) row) ⌝ }
 {
     lookup_checked::is_warp_at_row_checked(
         stop_beats,
@@ -314,10 +339,10 @@ pub extern "C" fn marrighentu_is_warp_at_beat_checked(
     warp_lengths: &[f32],
     beat: f64,
 ) -> Looked
-    ensures { λ r. ⌜ r ≡ looked (askedNumber (inRange (rangeOf Kind.Beat) beat)) (atRow (warpedBy
-        (now («stop_beats» .entry)) (now («stop_values» .entry))
-        (now («delay_beats» .entry)) (now («delay_values» .entry))
-        (now («warp_beats» .entry)) (now («warp_lengths» .entry))) (askedRow beat)) ⌝ }
+    ensures { λ r.
+        let lists = warpLists «stop_beats».entry.now «stop_values».entry.now «delay_beats».entry.now «delay_values».entry.now
+        «warp_beats».entry.now «warp_lengths».entry.now in
+        ⌜ r ≡ looked (askedNumber (inRange (rangeOf Kind.Beat) beat)) (atRow (warpedBy lists) (askedRow beat)) ⌝ }
 {
     lookup_checked::is_warp_at_beat_checked(
         stop_beats,
@@ -337,7 +362,9 @@ pub extern "C" fn marrighentu_is_fake_at_row_checked(
     fake_lengths: &[f32],
     row: i32,
 ) -> Looked
-    ensures { λ r. ⌜ r ≡ looked (askedNumber (rowIn row)) (atRow (fakeBy (now («fake_beats» .entry)) (now («fake_lengths» .entry))) row) ⌝ }
+    ensures { λ r.
+        let fakes = listColumns «fake_beats».entry.now «fake_lengths».entry.now in
+        ⌜ r ≡ looked (askedNumber (rowIn row)) (atRow (fakeBy fakes) row) ⌝ }
 {
     lookup_checked::is_fake_at_row_checked(fake_beats, fake_lengths, row)
 }
@@ -349,7 +376,9 @@ pub extern "C" fn marrighentu_is_fake_at_beat_checked(
     fake_lengths: &[f32],
     beat: f64,
 ) -> Looked
-    ensures { λ r. ⌜ r ≡ looked (askedNumber (inRange (rangeOf Kind.Beat) beat)) (atRow (fakeBy (now («fake_beats» .entry)) (now («fake_lengths» .entry))) (askedRow beat)) ⌝ }
+    ensures { λ r.
+        let fakes = listColumns «fake_beats».entry.now «fake_lengths».entry.now in
+        ⌜ r ≡ looked (askedNumber (inRange (rangeOf Kind.Beat) beat)) (atRow (fakeBy fakes) (askedRow beat)) ⌝ }
 {
     lookup_checked::is_fake_at_beat_checked(fake_beats, fake_lengths, beat)
 }
@@ -367,11 +396,10 @@ pub extern "C" fn marrighentu_is_judgable_at_row_checked(
     fake_lengths: &[f32],
     row: i32,
 ) -> Looked
-    ensures { λ r. ⌜ r ≡ looked (askedNumber (rowIn row)) (atRow (judgableBy
-        (now («stop_beats» .entry)) (now («stop_values» .entry))
-        (now («delay_beats» .entry)) (now («delay_values» .entry))
-        (now («warp_beats» .entry)) (now («warp_lengths» .entry))
-        (now («fake_beats» .entry)) (now («fake_lengths» .entry))) row) ⌝ }
+    ensures { λ r.
+        let lists = lookupLists «stop_beats».entry.now «stop_values».entry.now «delay_beats».entry.now «delay_values».entry.now
+        «warp_beats».entry.now «warp_lengths».entry.now «fake_beats».entry.now «fake_lengths».entry.now in
+        ⌜ r ≡ looked (askedNumber (rowIn row)) (atRow (judgableBy lists) row) ⌝ }
 {
     lookup_checked::is_judgable_at_row_checked(
         stop_beats,
@@ -399,11 +427,10 @@ pub extern "C" fn marrighentu_is_judgable_at_beat_checked(
     fake_lengths: &[f32],
     beat: f64,
 ) -> Looked
-    ensures { λ r. ⌜ r ≡ looked (askedNumber (inRange (rangeOf Kind.Beat) beat)) (atRow (judgableBy
-        (now («stop_beats» .entry)) (now («stop_values» .entry))
-        (now («delay_beats» .entry)) (now («delay_values» .entry))
-        (now («warp_beats» .entry)) (now («warp_lengths» .entry))
-        (now («fake_beats» .entry)) (now («fake_lengths» .entry))) (askedRow beat)) ⌝ }
+    ensures { λ r.
+        let lists = lookupLists «stop_beats».entry.now «stop_values».entry.now «delay_beats».entry.now «delay_values».entry.now
+        «warp_beats».entry.now «warp_lengths».entry.now «fake_beats».entry.now «fake_lengths».entry.now in
+        ⌜ r ≡ looked (askedNumber (inRange (rangeOf Kind.Beat) beat)) (atRow (judgableBy lists) (askedRow beat)) ⌝ }
 {
     lookup_checked::is_judgable_at_beat_checked(
         stop_beats,
@@ -430,7 +457,10 @@ pub extern "C" fn marrighentu_process_bpms_and_stops_ssc(
     out_stop_beats: &mut [f64],
     out_stop_values: &mut [f64],
 ) -> Processed
-    ensures { λ r. ⌜ SscProcessed (now («tempo_beats» .entry)) (now («tempo_values» .entry)) (now («stop_beats» .entry)) (now («stop_values» .entry)) r (now («out_tempo_beats» .entry)) (now («out_tempo_beats» .exit)) (now («out_tempo_values» .entry)) (now («out_tempo_values» .exit)) (now («out_stop_beats» .entry)) (now («out_stop_beats» .exit)) (now («out_stop_values» .entry)) (now («out_stop_values» .exit)) ⌝ }
+    ensures { λ r.
+        ⌜ SscProcessed «tempo_beats».entry.now «tempo_values».entry.now «stop_beats».entry.now «stop_values».entry.now r
+        «out_tempo_beats».entry.now «out_tempo_beats».exit.now «out_tempo_values».entry.now «out_tempo_values».exit.now
+        «out_stop_beats».entry.now «out_stop_beats».exit.now «out_stop_values».entry.now «out_stop_values».exit.now ⌝ }
 {
     process_ssc::process_bpms_and_stops_ssc(
         tempo_beats,
@@ -458,7 +488,11 @@ pub extern "C" fn marrighentu_process_bpms_and_stops_sm(
     out_warp_beats: &mut [f64],
     out_warp_lengths: &mut [f64],
 ) -> Processed
-    ensures { λ r. ⌜ SmProcessed (now («tempo_beats» .entry)) (now («tempo_values» .entry)) (now («stop_beats» .entry)) (now («stop_values» .entry)) r (now («out_tempo_beats» .entry)) (now («out_tempo_beats» .exit)) (now («out_tempo_values» .entry)) (now («out_tempo_values» .exit)) (now («out_stop_beats» .entry)) (now («out_stop_beats» .exit)) (now («out_stop_values» .entry)) (now («out_stop_values» .exit)) (now («out_warp_beats» .entry)) (now («out_warp_beats» .exit)) (now («out_warp_lengths» .entry)) (now («out_warp_lengths» .exit)) ⌝ }
+    ensures { λ r.
+        ⌜ SmProcessed «tempo_beats».entry.now «tempo_values».entry.now «stop_beats».entry.now «stop_values».entry.now r
+        «out_tempo_beats».entry.now «out_tempo_beats».exit.now «out_tempo_values».entry.now «out_tempo_values».exit.now
+        «out_stop_beats».entry.now «out_stop_beats».exit.now «out_stop_values».entry.now «out_stop_values».exit.now
+        «out_warp_beats».entry.now «out_warp_beats».exit.now «out_warp_lengths».entry.now «out_warp_lengths».exit.now ⌝ }
 {
     process_sm::process_bpms_and_stops_sm(
         tempo_beats,
@@ -486,7 +520,10 @@ pub extern "C" fn marrighentu_convert_warps_and_delays_to_sm_stops(
     warp_lengths: &[f32],
     work: &mut [f32],
 ) -> Filled
-    ensures { λ r. ⌜ StopsFilled (sources (now («tempo_beats» .entry)) (now («tempo_values» .entry)) (now (stops .entry)) (now («delay_beats» .entry)) (now («delay_values» .entry)) (now («warp_beats» .entry)) (now («warp_lengths» .entry))) r (now (work .entry)) (now (work .exit)) ⌝ }
+    ensures { λ r.
+        let lists = sources «tempo_beats».entry.now «tempo_values».entry.now stops.entry.now
+        «delay_beats».entry.now «delay_values».entry.now «warp_beats».entry.now «warp_lengths».entry.now in
+        ⌜ StopsFilled lists r work.entry.now work.exit.now ⌝ }
 {
     stops_for_sm::convert_warps_and_delays_to_sm_stops(
         tempo_beats,
@@ -522,7 +559,10 @@ pub extern "C" fn marrighentu_check_timing(
     offset: f64,
     global: f64,
 ) -> u32
-    ensures { λ r. ⌜ r ≡ timingNumber (timing (now («tempo_beats» .entry)) (now («tempo_values» .entry)) (now («stop_beats» .entry)) (now («stop_values» .entry)) (now («delay_beats» .entry)) (now («delay_values» .entry)) (now («warp_beats» .entry)) (now («warp_lengths» .entry))) offset global ⌝ }
+    ensures { λ r.
+        let t = timing «tempo_beats».entry.now «tempo_values».entry.now «stop_beats».entry.now «stop_values».entry.now
+        «delay_beats».entry.now «delay_values».entry.now «warp_beats».entry.now «warp_lengths».entry.now in
+        ⌜ r ≡ timingNumber t offset global ⌝ }
 {
     clock_tests::check_timing(
         tempo_beats,
@@ -554,7 +594,10 @@ pub extern "C" fn marrighentu_time_for_beat(
     global: f64,
     beat: f64,
 ) -> Answer
-    ensures { λ r. ⌜ r ≡ question (timing (now («tempo_beats» .entry)) (now («tempo_values» .entry)) (now («stop_beats» .entry)) (now («stop_values» .entry)) (now («delay_beats» .entry)) (now («delay_values» .entry)) (now («warp_beats» .entry)) (now («warp_lengths» .entry))) cursor offset global beat ⌝ }
+    ensures { λ r.
+        let t = timing «tempo_beats».entry.now «tempo_values».entry.now «stop_beats».entry.now «stop_values».entry.now
+        «delay_beats».entry.now «delay_values».entry.now «warp_beats».entry.now «warp_lengths».entry.now in
+        ⌜ r ≡ question t cursor offset global beat ⌝ }
 {
     cursor.time_for_beat(
         tempo_beats,
@@ -587,7 +630,10 @@ pub extern "C" fn marrighentu_time_for_beat_checked(
     global: f64,
     beat: f64,
 ) -> Answer
-    ensures { λ r. ⌜ r ≡ playerQuestion (timing (now («tempo_beats» .entry)) (now («tempo_values» .entry)) (now («stop_beats» .entry)) (now («stop_values» .entry)) (now («delay_beats» .entry)) (now («delay_values» .entry)) (now («warp_beats» .entry)) (now («warp_lengths» .entry))) cursor offset global beat ⌝ }
+    ensures { λ r.
+        let t = timing «tempo_beats».entry.now «tempo_values».entry.now «stop_beats».entry.now «stop_values».entry.now
+        «delay_beats».entry.now «delay_values».entry.now «warp_beats».entry.now «warp_lengths».entry.now in
+        ⌜ r ≡ playerQuestion t cursor offset global beat ⌝ }
 {
     cursor.time_for_beat_checked(
         tempo_beats,
@@ -619,7 +665,10 @@ pub extern "C" fn marrighentu_get_time_for_beat(
     global: f64,
     beat: f64,
 ) -> Answer
-    ensures { λ r. ⌜ r ≡ question (timing (now («tempo_beats» .entry)) (now («tempo_values» .entry)) (now («stop_beats» .entry)) (now («stop_values» .entry)) (now («delay_beats» .entry)) (now («delay_values» .entry)) (now («warp_beats» .entry)) (now («warp_lengths» .entry))) (freshCursor offset global) offset global beat ⌝ }
+    ensures { λ r.
+        let t = timing «tempo_beats».entry.now «tempo_values».entry.now «stop_beats».entry.now «stop_values».entry.now
+        «delay_beats».entry.now «delay_values».entry.now «warp_beats».entry.now «warp_lengths».entry.now in
+        ⌜ r ≡ question t (freshCursor offset global) offset global beat ⌝ }
 {
     clock::get_time_for_beat(
         tempo_beats,
@@ -655,7 +704,12 @@ pub extern "C" fn marrighentu_run(
     times: &mut [f64],
     counts: &mut [usize],
 ) -> Ran
-    ensures { λ r. ⌜ RunLaid (timing (now («tempo_beats» .entry)) (now («tempo_values» .entry)) (now («stop_beats» .entry)) (now («stop_values» .entry)) (now («delay_beats» .entry)) (now («delay_values» .entry)) (now («warp_beats» .entry)) (now («warp_lengths» .entry))) offset global cursor (now (beats .entry)) r (now (numbers .entry)) (now (numbers .exit)) (now (times .entry)) (now (times .exit)) (now (counts .entry)) (now (counts .exit)) ⌝ }
+    ensures { λ r.
+        let t = timing «tempo_beats».entry.now «tempo_values».entry.now «stop_beats».entry.now «stop_values».entry.now
+        «delay_beats».entry.now «delay_values».entry.now «warp_beats».entry.now «warp_lengths».entry.now in
+        let old = runColumns numbers.entry.now times.entry.now counts.entry.now in
+        let new = runColumns numbers.exit.now times.exit.now counts.exit.now in
+        ⌜ RunLaid t offset global cursor beats.entry.now r old new ⌝ }
 {
     clock_run::run(
         cursor,
@@ -684,7 +738,9 @@ pub extern "C" fn marrighentu_tidy_scroll_segments(
     out_beats: &mut [f64],
     out_values: &mut [f64],
 ) -> Outcome
-    ensures { λ r. ⌜ ScrollsTidied (now (beats .entry)) (now (values .entry)) r (now («out_beats» .entry)) (now («out_beats» .exit)) (now («out_values» .entry)) (now («out_values» .exit)) ⌝ }
+    ensures { λ r.
+        ⌜ ScrollsTidied beats.entry.now values.entry.now r
+        «out_beats».entry.now «out_beats».exit.now «out_values».entry.now «out_values».exit.now ⌝ }
 {
     tidy_scrolls::tidy_scroll_segments(beats, values, out_beats, out_values)
 }
@@ -701,7 +757,10 @@ pub extern "C" fn marrighentu_tidy_speed_segments(
     out_delays: &mut [f64],
     out_units: &mut [u8],
 ) -> Outcome
-    ensures { λ r. ⌜ SpeedsTidied (now (beats .entry)) (now (ratios .entry)) (now (delays .entry)) (now (units .entry)) r (now («out_beats» .entry)) (now («out_beats» .exit)) (now («out_ratios» .entry)) (now («out_ratios» .exit)) (now («out_delays» .entry)) (now («out_delays» .exit)) (now («out_units» .entry)) (now («out_units» .exit)) ⌝ }
+    ensures { λ r.
+        ⌜ SpeedsTidied beats.entry.now ratios.entry.now delays.entry.now units.entry.now r
+        «out_beats».entry.now «out_beats».exit.now «out_ratios».entry.now «out_ratios».exit.now
+        «out_delays».entry.now «out_delays».exit.now «out_units».entry.now «out_units».exit.now ⌝ }
 {
     tidy_speeds::tidy_speed_segments(
         beats,

@@ -11,7 +11,9 @@ pub extern "C" fn marrighentu_get_displayed_beats(
     numbers: &mut [u32],
     positions: &mut [f64],
 ) -> Outcome
-    ensures { λ r. ⌜ BeatsDisplayed (now («scroll_beats» .entry)) (now («scroll_ratios» .entry)) (now (beats .entry)) r (now (numbers .entry)) (now (numbers .exit)) (now (positions .entry)) (now (positions .exit)) ⌝ }
+    ensures { λ r.
+        ⌜ BeatsDisplayed «scroll_beats».entry.now «scroll_ratios».entry.now beats.entry.now r
+        numbers.entry.now numbers.exit.now positions.entry.now positions.exit.now ⌝ }
 {
     notes_displayed::get_displayed_beats(scroll_beats, scroll_ratios, beats, numbers, positions)
 }

@@ -7,6 +7,7 @@ use clock_walk::Mark;
 ghost use mathlib.Core.Path.{_≡_};
 ghost use Rattle.chart.specs.Timing.{timing};
 ghost use Rattle.clock.specs.Marked.{markMade, markedTimingNumber, markedPlayerQuestion, markedQuestion};
+ghost use Rattle.clock_run.specs.Run.{runColumns};
 ghost use Rattle.clock_run.specs.MarkedRun.{MarkedRunLaid};
 
 // The end mark of a timing.
@@ -176,7 +177,9 @@ pub extern "C" fn marrighentu_run_marked(
     ensures { λ r.
         let t = timing «tempo_beats».entry.now «tempo_values».entry.now «stop_beats».entry.now «stop_values».entry.now
         «delay_beats».entry.now «delay_values».entry.now «warp_beats».entry.now «warp_lengths».entry.now in
-        ⌜ MarkedRunLaid mark t offset global cursor beats.entry.now r numbers.entry.now numbers.exit.now times.entry.now times.exit.now counts.entry.now counts.exit.now ⌝ }
+        let old = runColumns numbers.entry.now times.entry.now counts.entry.now in
+        let new = runColumns numbers.exit.now times.exit.now counts.exit.now in
+        ⌜ MarkedRunLaid mark t offset global cursor beats.entry.now r old new ⌝ }
 {
     clock_run::run_marked(
         cursor,

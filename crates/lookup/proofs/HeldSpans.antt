@@ -12,7 +12,7 @@ use Rattle.ieee.specs.Constants.{plusZero}
 use Rattle.picks.specs.Pick.{pick}
 use Rattle.rows.specs.Rows.{beatOf}
 use Rattle.rows.specs.RowKey.{rowKey}
-use Rattle.lookup.specs.Lookups.{warpCovers, fakeCovers, inWarp, isPaused, isWarped, isFake, isJudgable, ofLast}
+use Rattle.lookup.specs.Lookups.{WarpLists, LookupLists, listColumns, butFakes, warpCovers, fakeCovers, inWarp, isPaused, isWarped, isFake, isJudgable, ofLast}
 use Rattle.lookup.specs.inside.Finding.{Split, Usable, spanCovers, startOf, warpEnd, fakeEnd}
 use Rattle.lookup.proofs.FoundEntries.{last-found}
 
@@ -47,27 +47,27 @@ module _ (beats lengths : List Float) (at : Float) where
 -- ---- a row where what the last entry covers is held
 module _ (asked : ℤ) (n : ℕ) (start end : Float) where
   pub in-fake : (beats lengths : List Float) → Usable beats lengths → Split (rowKey asked) beats n → start ≡ startOf beats n → end ≡ fakeEnd beats lengths n
-      → isFake beats lengths asked ≡ spanCovers start end (beatOf binary32 asked)
+      → isFake (listColumns beats lengths) asked ≡ spanCovers start end (beatOf binary32 asked)
   unfolding isFake
   in-fake beats lengths usable split p q =
       last-found (fakeCovers (beatOf binary32 asked)) (rowKey asked) false beats lengths n (usable .0) split ∙ sym (rw (p, q) (fake-spans beats lengths (beatOf binary32 asked) n))
 
-  module _ (stopBeats stopValues delayBeats delayValues warpBeats warpLengths : List Float) (usable : Usable warpBeats warpLengths) (split : Split (rowKey asked) warpBeats n) (p : start ≡ startOf warpBeats n) (q : end ≡ warpEnd warpBeats warpLengths n) where
-    in-warp : inWarp stopBeats stopValues delayBeats delayValues warpBeats warpLengths asked ≡ spanCovers start end (beatOf binary32 asked)
-    in-warp = last-found (warpCovers (beatOf binary32 asked)) (rowKey asked) false warpBeats warpLengths n (usable .0) split ∙ sym (rw (p, q) (warp-spans warpBeats warpLengths (beatOf binary32 asked) n))
+  module _ (lists : WarpLists) (usable : Usable (lists .warps .beats) (lists .warps .values)) (split : Split (rowKey asked) (lists .warps .beats) n) (p : start ≡ startOf (lists .warps .beats) n) (q : end ≡ warpEnd (lists .warps .beats) (lists .warps .values) n) where
+    in-warp : inWarp lists asked ≡ spanCovers start end (beatOf binary32 asked)
+    in-warp = last-found (warpCovers (beatOf binary32 asked)) (rowKey asked) false (lists .warps .beats) (lists .warps .values) n (usable .0) split ∙ sym (rw (p, q) (warp-spans (lists .warps .beats) (lists .warps .values) (beatOf binary32 asked) n))
 
-    pub warped-outside : spanCovers start end (beatOf binary32 asked) ≡ false → isWarped stopBeats stopValues delayBeats delayValues warpBeats warpLengths asked ≡ false
+    pub warped-outside : spanCovers start end (beatOf binary32 asked) ≡ false → isWarped lists asked ≡ false
     unfolding isWarped
     warped-outside e = rw (in-warp ∙ e)
 
     pub warped-inside : spanCovers start end (beatOf binary32 asked) ≡ true
-        → isWarped stopBeats stopValues delayBeats delayValues warpBeats warpLengths asked ≡ pick (isPaused (rowKey asked) stopBeats stopValues) false (not (isPaused (rowKey asked) delayBeats delayValues))
+        → isWarped lists asked ≡ pick (isPaused (rowKey asked) (lists .stops .beats) (lists .stops .values)) false (not (isPaused (rowKey asked) (lists .delays .beats) (lists .delays .values)))
     unfolding isWarped
     warped-inside e = rw (in-warp ∙ e)
 
 -- neither warped nor fake
-module _ (stopBeats stopValues delayBeats delayValues warpBeats warpLengths fakeBeats fakeLengths : List Float) (asked : ℤ) (warped fake : Bool) where
-  pub judged : isWarped stopBeats stopValues delayBeats delayValues warpBeats warpLengths asked ≡ warped → isFake fakeBeats fakeLengths asked ≡ fake
-      → isJudgable stopBeats stopValues delayBeats delayValues warpBeats warpLengths fakeBeats fakeLengths asked ≡ pick warped false (not fake)
+module _ (lists : LookupLists) (asked : ℤ) (warped fake : Bool) where
+  pub judged : isWarped (butFakes lists) asked ≡ warped → isFake (lists .fakes) asked ≡ fake
+      → isJudgable lists asked ≡ pick warped false (not fake)
   unfolding isJudgable
   judged w f = rw (w, f)

@@ -3,7 +3,7 @@ pub mod HeldPlaces
 pub mod HeldSpans
 pub mod UsableLists
 pub mod ManyRows
-pub mod Sentences
+pub mod WhatAnswersMean
 pub mod SameRow
 pub mod FakeSums
 pub mod OneOutcome

@@ -14,7 +14,7 @@ use Rattle.limits.specs.Numbers.{rangeOf}
 use Rattle.limits.specs.Refusals.{listNumber}
 use Rattle.limits.proofs.NoRefusal.{lower-none}
 use Rattle.limits.proofs.ListTaken.{Taken, list-taken}
-use Rattle.lookup.specs.Lookups.{rowsRise, risingNumber, warpNumber, fakeNumber, judgableNumber}
+use Rattle.lookup.specs.Lookups.{ListColumns, WarpLists, LookupLists, butFakes, rowsRise, risingNumber, warpNumber, fakeNumber, judgableNumber}
 use Rattle.lookup.specs.inside.Finding.{Usable, AllUsable}
 
 -- a list that answers 0 is taken as any list is, and its rows rise
@@ -33,19 +33,21 @@ rising-taken value beats values h = go (eqb (listNumber (rangeOf Beat) value bea
 usable : (value : Range) (beats values : List Float) → risingNumber value beats values ≡ 0 → Usable beats values
 usable value beats values h = let all = rising-taken value beats values h in (all .0 .even, all .1)
 
-module _ (stopBeats stopValues delayBeats delayValues warpBeats warpLengths fakeBeats fakeLengths : List Float) (allowed : Bool) where
-  pub warp-usable : warpNumber stopBeats stopValues delayBeats delayValues warpBeats warpLengths allowed ≡ 0 → Usable stopBeats stopValues × Usable delayBeats delayValues × Usable warpBeats warpLengths
-  warp-usable h =
-      let both = lower-none _ _ h in
-      let pauses = lower-none _ _ (both .0) in
-      (usable (rangeOf Pause) stopBeats stopValues (pauses .0), usable (rangeOf Pause) delayBeats delayValues (pauses .1), usable (rangeOf Value) warpBeats warpLengths (lower-none _ _ (both .1) .0))
+pub warp-usable : (lists : WarpLists) (allowed : Bool) → warpNumber lists allowed ≡ 0
+    → Usable (lists .stops .beats) (lists .stops .values) × Usable (lists .delays .beats) (lists .delays .values) × Usable (lists .warps .beats) (lists .warps .values)
+warp-usable lists allowed h =
+    let both = lower-none _ _ h in
+    let pauses = lower-none _ _ (both .0) in (
+      usable (rangeOf Pause) (lists .stops .beats) (lists .stops .values) (pauses .0),
+      usable (rangeOf Pause) (lists .delays .beats) (lists .delays .values) (pauses .1),
+      usable (rangeOf Value) (lists .warps .beats) (lists .warps .values) (lower-none _ _ (both .1) .0),
+    )
 
-  pub fake-usable : fakeNumber fakeBeats fakeLengths allowed ≡ 0 → Usable fakeBeats fakeLengths
-  fake-usable h = usable (rangeOf Value) fakeBeats fakeLengths (lower-none _ _ h .0)
+pub fake-usable : (fakes : ListColumns) (allowed : Bool) → fakeNumber fakes allowed ≡ 0 → Usable (fakes .beats) (fakes .values)
+fake-usable fakes allowed h = usable (rangeOf Value) (fakes .beats) (fakes .values) (lower-none _ _ h .0)
 
-  pub judgable-usable : judgableNumber stopBeats stopValues delayBeats delayValues warpBeats warpLengths fakeBeats fakeLengths allowed ≡ 0
-      → AllUsable stopBeats stopValues delayBeats delayValues warpBeats warpLengths fakeBeats fakeLengths
-  judgable-usable h =
-      let both = lower-none _ _ h in
-      let warps = warp-usable (both .0) in
-      record { stops = warps .0; delays = warps .1; warps = warps .2; fakes = fake-usable (both .1) }
+pub judgable-usable : (lists : LookupLists) (allowed : Bool) → judgableNumber lists allowed ≡ 0 → AllUsable lists
+judgable-usable lists allowed h =
+    let both = lower-none _ _ h in
+    let warps = warp-usable (butFakes lists) allowed (both .0) in
+    record { stops = warps .0; delays = warps .1; warps = warps .2; fakes = fake-usable (lists .fakes) allowed (both .1) }

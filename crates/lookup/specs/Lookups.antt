@@ -16,6 +16,7 @@ use Rattle.rows.specs.RowKey.{rowKey}
 use Rattle.columns.specs.declared.Outcome.{Outcome}
 use Rattle.columns.specs.Laying.{roomNumber, given}
 use Rattle.lookup.specs.declared.Looked.{Looked}
+pub use Rattle.lookup_tests.specs.LookupLists.{ListColumns, listColumns, WarpLists, LookupLists, warpLists, lookupLists, butFakes}
 pub use Rattle.lookup_tests.specs.Refused.{keyOf, askedNumber, warpNumber, fakeNumber, judgableNumber}
 unfoldable pub use Rattle.lookup_tests.specs.Refused.{isBelow, rowsRise, risingNumber}
 
@@ -31,7 +32,8 @@ lastPasses test key none (beat ∷ beats) (value ∷ values) = lastPasses test k
 unfoldable pub isPaused : ℕ → List Float → List Float → Bool
 isPaused key [] values = false
 isPaused key (beat ∷ beats) [] = false
-isPaused key (beat ∷ beats) (value ∷ values) = pick (eqb (keyOf beat) key) (pick (lt plusZero value) true (isPaused key beats values)) (isPaused key beats values)
+isPaused key (beat ∷ beats) (value ∷ values) =
+    pick (eqb (keyOf beat) key) (pick (lt plusZero value) true (isPaused key beats values)) (isPaused key beats values)
 
 -- what a test says of the last of the first n entries
 abbrev pub ofLast : (Float → Float → Bool) → Bool → List Float → List Float → ℕ → Bool
@@ -51,20 +53,26 @@ warpCovers at beat length = pick (lt plusZero length) (pick (le beat at) (lt at 
 abbrev pub fakeCovers : Float → Float → Float → Bool
 fakeCovers at beat length = pick (le beat at) (lt at (narrow (add binary64 beat length))) false
 
-module _ (stopBeats stopValues delayBeats delayValues warpBeats warpLengths : List Float) (asked : ℤ) where
+module _ (lists : WarpLists) (asked : ℤ) where
   abbrev pub inWarp : Bool
-  inWarp = lastPasses (warpCovers (beatOf binary32 asked)) (rowKey asked) false warpBeats warpLengths
+  inWarp = lastPasses (warpCovers (beatOf binary32 asked)) (rowKey asked) false (lists .warps .beats) (lists .warps .values)
 
   -- in the last warp, and no stop or delay above 0 on the row
   unfoldable pub isWarped : Bool
-  isWarped = pick inWarp (pick (isPaused (rowKey asked) stopBeats stopValues) false (not (isPaused (rowKey asked) delayBeats delayValues))) false
+  isWarped =
+      pick
+      inWarp
+      (pick
+      (isPaused (rowKey asked) (lists .stops .beats) (lists .stops .values))
+      false
+      (not (isPaused (rowKey asked) (lists .delays .beats) (lists .delays .values))))
+      false
 
-unfoldable pub isFake : List Float → List Float → ℤ → Bool
-isFake fakeBeats fakeLengths asked = lastPasses (fakeCovers (beatOf binary32 asked)) (rowKey asked) false fakeBeats fakeLengths
+unfoldable pub isFake : (fakes : ListColumns) → ℤ → Bool
+isFake fakes asked = lastPasses (fakeCovers (beatOf binary32 asked)) (rowKey asked) false (fakes .beats) (fakes .values)
 
-unfoldable pub isJudgable : List Float → List Float → List Float → List Float → List Float → List Float → List Float → List Float → ℤ → Bool
-isJudgable stopBeats stopValues delayBeats delayValues warpBeats warpLengths fakeBeats fakeLengths asked =
-    pick (isWarped stopBeats stopValues delayBeats delayValues warpBeats warpLengths asked) false (not (isFake fakeBeats fakeLengths asked))
+unfoldable pub isJudgable : LookupLists → ℤ → Bool
+isJudgable lists asked = pick (isWarped (butFakes lists) asked) false (not (isFake (lists .fakes) asked))
 
 -- the row of an asked beat
 abbrev pub askedRow : Float → ℤ

@@ -11,9 +11,11 @@ ghost use lib.ListN.{length};
 ghost use Rattle.picks.specs.Pick.{pick};
 ghost use Rattle.limits.specs.Numbers.{rangeOf, inRange, every, rowIn};
 ghost use Rattle.rows.specs.RowKey.{rowKey};
+ghost use Rattle.lookup_tests.specs.LookupLists.{listColumns, warpLists, lookupLists};
 ghost use Rattle.lookup_tests.specs.Refused.{rowsRise, warpNumber, fakeNumber, judgableNumber};
 ghost use Rattle.lookup.specs.Lookups.{isPaused, isWarped, isFake, isJudgable, askedRow, looked, byte, Judged};
-ghost use Rattle.lookup.specs.inside.Finding.{Usable, AllUsable, Split, Between, keyBefore, keyAfter, Stands, PlaceStands, spanCovers, startOf, warpEnd, fakeEnd, Holds, HeldStands, AllStand};
+ghost use Rattle.lookup.specs.inside.Finding.{Usable, AllUsable, Split, Between, keyBefore, keyAfter, Stands, PlaceStands};
+ghost use Rattle.lookup.specs.inside.Finding.{spanCovers, startOf, warpEnd, fakeEnd, Holds, HeldStands, AllStand};
 
 // ---- where the entries at or before a row end
 
@@ -23,9 +25,9 @@ struct Bounds {
 }
 
 fn halve(beats: &[f32], key: u32, low: usize, high: usize) -> Bounds
-    requires { ⌜ rowsRise (now beats) ≡ true ⌝ }
-    requires { ⌜ (low < high) × (high ≤ length (now beats)) × Between key (now beats) low high ⌝ }
-    ensures { λ r. ⌜ Between key (now (beats .entry)) (r .low) (r .high) × (r .high ≤ high) × (r .high - r .low < high - low) ⌝ }
+    requires { ⌜ rowsRise beats.now ≡ true ⌝ }
+    requires { ⌜ (low < high) × (high ≤ length beats.now) × Between key beats.now low high ⌝ }
+    ensures { λ r. ⌜ Between key beats.entry.now (r .low) (r .high) × (r .high ≤ high) × (r .high - r .low < high - low) ⌝ }
 {
     let middle = low + (high - low) / 2;
     if rows::row_key_f32(beats[middle]) <= key {
@@ -42,8 +44,8 @@ fn halve(beats: &[f32], key: u32, low: usize, high: usize) -> Bounds
 
 // How many entries are at or before a row.
 fn count_at(beats: &[f32], key: u32) -> usize
-    requires { ⌜ rowsRise (now beats) ≡ true ⌝ }
-    ensures { λ r. ⌜ Split key (now (beats .entry)) r ⌝ }
+    requires { ⌜ rowsRise beats.now ≡ true ⌝ }
+    ensures { λ r. ⌜ Split key beats.entry.now r ⌝ }
 {
     let mut low: usize = 0;
     let mut high = beats.len();
@@ -66,8 +68,8 @@ struct Place {
 
 // The row of the last of the first n entries; the lowest key where there is none.
 fn key_before(beats: &[f32], n: usize) -> u32
-    requires { ⌜ n ≤ length (now beats) ⌝ }
-    ensures { λ r. ⌜ r ≡ keyBefore (now (beats .entry)) n ⌝ }
+    requires { ⌜ n ≤ length beats.now ⌝ }
+    ensures { λ r. ⌜ r ≡ keyBefore beats.entry.now n ⌝ }
 {
     if n == 0 {
         return 0;
@@ -77,7 +79,7 @@ fn key_before(beats: &[f32], n: usize) -> u32
 
 // The row of the entry after them; the highest key where there is none.
 fn key_after(beats: &[f32], n: usize) -> u32
-    ensures { λ r. ⌜ r ≡ keyAfter (now (beats .entry)) n ⌝ }
+    ensures { λ r. ⌜ r ≡ keyAfter beats.entry.now n ⌝ }
 {
     if n < beats.len() {
         return rows::row_key_f32(beats[n]);
@@ -86,8 +88,8 @@ fn key_after(beats: &[f32], n: usize) -> u32
 }
 
 fn place_after(beats: &[f32], n: usize) -> Place
-    requires { ⌜ n ≤ length (now beats) ⌝ }
-    ensures { λ r. ⌜ (r .count ≡ n) × PlaceStands (now (beats .entry)) r ⌝ }
+    requires { ⌜ n ≤ length beats.now ⌝ }
+    ensures { λ r. ⌜ (r .count ≡ n) × PlaceStands beats.entry.now r ⌝ }
 {
     Place {
         count: n,
@@ -98,17 +100,17 @@ fn place_after(beats: &[f32], n: usize) -> Place
 
 // The place of a row, by halves.
 fn place_of(beats: &[f32], key: u32) -> Place
-    requires { ⌜ rowsRise (now beats) ≡ true ⌝ }
-    ensures { λ r. ⌜ PlaceStands (now (beats .entry)) r × Split key (now (beats .entry)) (r .count) ⌝ }
+    requires { ⌜ rowsRise beats.now ≡ true ⌝ }
+    ensures { λ r. ⌜ PlaceStands beats.entry.now r × Split key beats.entry.now (r .count) ⌝ }
 {
     place_after(beats, count_at(beats, key))
 }
 
 // The same, on from a place that it is not before.
 fn place_on(beats: &[f32], count: usize, from: u32, until: u32, key: u32) -> Place
-    requires { ⌜ rowsRise (now beats) ≡ true ⌝ }
-    requires { ⌜ Stands (now beats) count from until × (from ≤ key) ⌝ }
-    ensures { λ r. ⌜ PlaceStands (now (beats .entry)) r × Split key (now (beats .entry)) (r .count) ⌝ }
+    requires { ⌜ rowsRise beats.now ≡ true ⌝ }
+    requires { ⌜ Stands beats.now count from until × (from ≤ key) ⌝ }
+    ensures { λ r. ⌜ PlaceStands beats.entry.now r × Split key beats.entry.now (r .count) ⌝ }
 {
     let mut n = count;
     let mut before = from;
@@ -134,9 +136,9 @@ fn place_on(beats: &[f32], count: usize, from: u32, until: u32, key: u32) -> Pla
 
 // The same, from any place.
 fn move_place(beats: &[f32], count: usize, from: u32, until: u32, key: u32) -> Place
-    requires { ⌜ rowsRise (now beats) ≡ true ⌝ }
-    requires { ⌜ Stands (now beats) count from until ⌝ }
-    ensures { λ r. ⌜ PlaceStands (now (beats .entry)) r × Split key (now (beats .entry)) (r .count) ⌝ }
+    requires { ⌜ rowsRise beats.now ≡ true ⌝ }
+    requires { ⌜ Stands beats.now count from until ⌝ }
+    ensures { λ r. ⌜ PlaceStands beats.entry.now r × Split key beats.entry.now (r .count) ⌝ }
 {
     if key < from {
         return place_of(beats, key);
@@ -146,9 +148,9 @@ fn move_place(beats: &[f32], count: usize, from: u32, until: u32, key: u32) -> P
 
 // The same: most rows have the place of the row before them, which is seen here, so that only what moves is a call.
 fn reach(beats: &[f32], count: usize, from: u32, until: u32, key: u32) -> Place
-    requires { ⌜ rowsRise (now beats) ≡ true ⌝ }
-    requires { ⌜ Stands (now beats) count from until ⌝ }
-    ensures { λ r. ⌜ PlaceStands (now (beats .entry)) r × Split key (now (beats .entry)) (r .count) ⌝ }
+    requires { ⌜ rowsRise beats.now ≡ true ⌝ }
+    requires { ⌜ Stands beats.now count from until ⌝ }
+    ensures { λ r. ⌜ PlaceStands beats.entry.now r × Split key beats.entry.now (r .count) ⌝ }
 {
     if key < from {
         return move_place(beats, count, from, until, key);
@@ -177,8 +179,8 @@ fn covers(start: f32, end: f32, at: f32) -> bool
 
 // The beat of the last of the first n entries; a NaN, from which on there is no beat, where there is none.
 fn start_of(beats: &[f32], n: usize) -> f32
-    requires { ⌜ n ≤ length (now beats) ⌝ }
-    ensures { λ r. ⌜ r ≡ startOf (now (beats .entry)) n ⌝ }
+    requires { ⌜ n ≤ length beats.now ⌝ }
+    ensures { λ r. ⌜ r ≡ startOf beats.entry.now n ⌝ }
 {
     if n == 0 {
         return 0.0 / 0.0;
@@ -188,8 +190,8 @@ fn start_of(beats: &[f32], n: usize) -> f32
 
 // The end of the last of the first n warps; a NaN, before which there is no beat, where it covers nothing.
 fn warp_end(warp_beats: &[f32], warp_lengths: &[f32], n: usize) -> f32
-    requires { ⌜ (length (now «warp_beats») ≡ length (now «warp_lengths»)) × (n ≤ length (now «warp_beats»)) ⌝ }
-    ensures { λ r. ⌜ r ≡ warpEnd (now («warp_beats» .entry)) (now («warp_lengths» .entry)) n ⌝ }
+    requires { ⌜ (length «warp_beats».now ≡ length «warp_lengths».now) × (n ≤ length «warp_beats».now) ⌝ }
+    ensures { λ r. ⌜ r ≡ warpEnd «warp_beats».entry.now «warp_lengths».entry.now n ⌝ }
 {
     if n == 0 {
         return 0.0 / 0.0;
@@ -202,8 +204,8 @@ fn warp_end(warp_beats: &[f32], warp_lengths: &[f32], n: usize) -> f32
 
 // The end of the last of the first n fakes.
 fn fake_end(fake_beats: &[f32], fake_lengths: &[f32], n: usize) -> f32
-    requires { ⌜ (length (now «fake_beats») ≡ length (now «fake_lengths»)) × (n ≤ length (now «fake_beats»)) ⌝ }
-    ensures { λ r. ⌜ r ≡ fakeEnd (now («fake_beats» .entry)) (now («fake_lengths» .entry)) n ⌝ }
+    requires { ⌜ (length «fake_beats».now ≡ length «fake_lengths».now) × (n ≤ length «fake_beats».now) ⌝ }
+    ensures { λ r. ⌜ r ≡ fakeEnd «fake_beats».entry.now «fake_lengths».entry.now n ⌝ }
 {
     if n == 0 {
         return 0.0 / 0.0;
@@ -216,8 +218,8 @@ fn fake_end(fake_beats: &[f32], fake_lengths: &[f32], n: usize) -> f32
 
 // Whether an entry above 0 is on the row of a place.
 fn is_paused(beats: &[f32], values: &[f32], place: Place, key: u32) -> bool
-    requires { ⌜ Usable (now beats) (now values) × PlaceStands (now beats) place × Split key (now beats) (place .count) ⌝ }
-    ensures { λ r. ⌜ r ≡ isPaused key (now (beats .entry)) (now (values .entry)) ⌝ }
+    requires { ⌜ Usable beats.now values.now × PlaceStands beats.now place × Split key beats.now (place .count) ⌝ }
+    ensures { λ r. ⌜ r ≡ isPaused key beats.entry.now values.entry.now ⌝ }
 {
     if place.from != key {
         return false;
@@ -239,9 +241,12 @@ fn is_unpaused(
     delays: Place,
     key: u32,
 ) -> bool
-    requires { ⌜ Usable (now «stop_beats») (now «stop_values») × PlaceStands (now «stop_beats») stops × Split key (now «stop_beats») (stops .count) ⌝ }
-    requires { ⌜ Usable (now «delay_beats») (now «delay_values») × PlaceStands (now «delay_beats») delays × Split key (now «delay_beats») (delays .count) ⌝ }
-    ensures { λ r. ⌜ r ≡ pick (isPaused key (now («stop_beats» .entry)) (now («stop_values» .entry))) false (not (isPaused key (now («delay_beats» .entry)) (now («delay_values» .entry)))) ⌝ }
+    requires { ⌜ Usable «stop_beats».now «stop_values».now × PlaceStands «stop_beats».now stops × Split key «stop_beats».now (stops .count) ⌝ }
+    requires { ⌜ Usable «delay_beats».now «delay_values».now × PlaceStands «delay_beats».now delays × Split key «delay_beats».now (delays .count) ⌝ }
+    ensures { λ r.
+        let stopped = isPaused key «stop_beats».entry.now «stop_values».entry.now in
+        let delayed = isPaused key «delay_beats».entry.now «delay_values».entry.now in
+        ⌜ r ≡ pick stopped false (not delayed) ⌝ }
 {
     if is_paused(stop_beats, stop_values, stops, key) {
         return false;
@@ -262,8 +267,12 @@ fn warped_after(
     n: usize,
     row: i32,
 ) -> bool
-    requires { ⌜ Usable (now «stop_beats») (now «stop_values») × Usable (now «delay_beats») (now «delay_values») × Usable (now «warp_beats») (now «warp_lengths») × Split (rowKey row) (now «warp_beats») n ⌝ }
-    ensures { λ r. ⌜ r ≡ isWarped (now («stop_beats» .entry)) (now («stop_values» .entry)) (now («delay_beats» .entry)) (now («delay_values» .entry)) (now («warp_beats» .entry)) (now («warp_lengths» .entry)) row ⌝ }
+    requires { ⌜ Usable «stop_beats».now «stop_values».now × Usable «delay_beats».now «delay_values».now
+        × Usable «warp_beats».now «warp_lengths».now × Split (rowKey row) «warp_beats».now n ⌝ }
+    ensures { λ r.
+        let lists = warpLists «stop_beats».entry.now «stop_values».entry.now «delay_beats».entry.now «delay_values».entry.now
+        «warp_beats».entry.now «warp_lengths».entry.now in
+        ⌜ r ≡ isWarped lists row ⌝ }
 {
     let key = rows::key_of_row(row);
     if covers(
@@ -286,8 +295,8 @@ fn warped_after(
 
 // Whether a row is fake, where the fakes at or before it are counted.
 fn fake_after(fake_beats: &[f32], fake_lengths: &[f32], n: usize, row: i32) -> bool
-    requires { ⌜ Usable (now «fake_beats») (now «fake_lengths») × Split (rowKey row) (now «fake_beats») n ⌝ }
-    ensures { λ r. ⌜ r ≡ isFake (now («fake_beats» .entry)) (now («fake_lengths» .entry)) row ⌝ }
+    requires { ⌜ Usable «fake_beats».now «fake_lengths».now × Split (rowKey row) «fake_beats».now n ⌝ }
+    ensures { λ r. ⌜ r ≡ isFake (listColumns «fake_beats».entry.now «fake_lengths».entry.now) row ⌝ }
 {
     covers(
         start_of(fake_beats, n),
@@ -309,9 +318,14 @@ fn judgable_after(
     fakes: usize,
     row: i32,
 ) -> bool
-    requires { ⌜ AllUsable (now «stop_beats») (now «stop_values») (now «delay_beats») (now «delay_values») (now «warp_beats») (now «warp_lengths») (now «fake_beats») (now «fake_lengths») ⌝ }
-    requires { ⌜ Split (rowKey row) (now «warp_beats») warps × Split (rowKey row) (now «fake_beats») fakes ⌝ }
-    ensures { λ r. ⌜ r ≡ isJudgable (now («stop_beats» .entry)) (now («stop_values» .entry)) (now («delay_beats» .entry)) (now («delay_values» .entry)) (now («warp_beats» .entry)) (now («warp_lengths» .entry)) (now («fake_beats» .entry)) (now («fake_lengths» .entry)) row ⌝ }
+    requires { let lists = lookupLists «stop_beats».now «stop_values».now «delay_beats».now «delay_values».now
+        «warp_beats».now «warp_lengths».now «fake_beats».now «fake_lengths».now in
+        ⌜ AllUsable lists ⌝ }
+    requires { ⌜ Split (rowKey row) «warp_beats».now warps × Split (rowKey row) «fake_beats».now fakes ⌝ }
+    ensures { λ r.
+        let lists = lookupLists «stop_beats».entry.now «stop_values».entry.now «delay_beats».entry.now «delay_values».entry.now
+        «warp_beats».entry.now «warp_lengths».entry.now «fake_beats».entry.now «fake_lengths».entry.now in
+        ⌜ r ≡ isJudgable lists row ⌝ }
 {
     if warped_after(
         stop_beats,
@@ -347,7 +361,10 @@ fn look_up_warp(
     allowed: bool,
     row: i32,
 ) -> Looked
-    ensures { λ r. ⌜ r ≡ looked (warpNumber (now («stop_beats» .entry)) (now («stop_values» .entry)) (now («delay_beats» .entry)) (now («delay_values» .entry)) (now («warp_beats» .entry)) (now («warp_lengths» .entry)) allowed) (isWarped (now («stop_beats» .entry)) (now («stop_values» .entry)) (now («delay_beats» .entry)) (now («delay_values» .entry)) (now («warp_beats» .entry)) (now («warp_lengths» .entry)) row) ⌝ }
+    ensures { λ r.
+        let lists = warpLists «stop_beats».entry.now «stop_values».entry.now «delay_beats».entry.now «delay_values».entry.now
+        «warp_beats».entry.now «warp_lengths».entry.now in
+        ⌜ r ≡ looked (warpNumber lists allowed) (isWarped lists row) ⌝ }
 {
     let number = lookup_tests::warp_number(
         stop_beats,
@@ -382,7 +399,9 @@ fn look_up_warp(
 }
 
 fn look_up_fake(fake_beats: &[f32], fake_lengths: &[f32], allowed: bool, row: i32) -> Looked
-    ensures { λ r. ⌜ r ≡ looked (fakeNumber (now («fake_beats» .entry)) (now («fake_lengths» .entry)) allowed) (isFake (now («fake_beats» .entry)) (now («fake_lengths» .entry)) row) ⌝ }
+    ensures { λ r.
+        let fakes = listColumns «fake_beats».entry.now «fake_lengths».entry.now in
+        ⌜ r ≡ looked (fakeNumber fakes allowed) (isFake fakes row) ⌝ }
 {
     let number = lookup_tests::fake_number(fake_beats, fake_lengths, allowed);
     if number != limits::TAKEN {
@@ -411,7 +430,10 @@ fn look_up_judgable(
     allowed: bool,
     row: i32,
 ) -> Looked
-    ensures { λ r. ⌜ r ≡ looked (judgableNumber (now («stop_beats» .entry)) (now («stop_values» .entry)) (now («delay_beats» .entry)) (now («delay_values» .entry)) (now («warp_beats» .entry)) (now («warp_lengths» .entry)) (now («fake_beats» .entry)) (now («fake_lengths» .entry)) allowed) (isJudgable (now («stop_beats» .entry)) (now («stop_values» .entry)) (now («delay_beats» .entry)) (now («delay_values» .entry)) (now («warp_beats» .entry)) (now («warp_lengths» .entry)) (now («fake_beats» .entry)) (now («fake_lengths» .entry)) row) ⌝ }
+    ensures { λ r.
+        let lists = lookupLists «stop_beats».entry.now «stop_values».entry.now «delay_beats».entry.now «delay_values».entry.now
+        «warp_beats».entry.now «warp_lengths».entry.now «fake_beats».entry.now «fake_lengths».entry.now in
+        ⌜ r ≡ looked (judgableNumber lists allowed) (isJudgable lists row) ⌝ }
 {
     let number = lookup_tests::judgable_number(
         stop_beats,
@@ -469,7 +491,10 @@ pub fn is_warp_at_row(
     warp_lengths: &[f32],
     row: i32,
 ) -> Looked
-    ensures { λ r. ⌜ r ≡ looked (warpNumber (now («stop_beats» .entry)) (now («stop_values» .entry)) (now («delay_beats» .entry)) (now («delay_values» .entry)) (now («warp_beats» .entry)) (now («warp_lengths» .entry)) (rowIn row)) (isWarped (now («stop_beats» .entry)) (now («stop_values» .entry)) (now («delay_beats» .entry)) (now («delay_values» .entry)) (now («warp_beats» .entry)) (now («warp_lengths» .entry)) row) ⌝ }
+    ensures { λ r.
+        let lists = warpLists «stop_beats».entry.now «stop_values».entry.now «delay_beats».entry.now «delay_values».entry.now
+        «warp_beats».entry.now «warp_lengths».entry.now in
+        ⌜ r ≡ looked (warpNumber lists (rowIn row)) (isWarped lists row) ⌝ }
 {
     look_up_warp(
         stop_beats,
@@ -493,7 +518,10 @@ pub fn is_warp_at_beat(
     warp_lengths: &[f32],
     beat: f64,
 ) -> Looked
-    ensures { λ r. ⌜ r ≡ looked (warpNumber (now («stop_beats» .entry)) (now («stop_values» .entry)) (now («delay_beats» .entry)) (now («delay_values» .entry)) (now («warp_beats» .entry)) (now («warp_lengths» .entry)) (inRange (rangeOf Kind.Beat) beat)) (isWarped (now («stop_beats» .entry)) (now («stop_values» .entry)) (now («delay_beats» .entry)) (now («delay_values» .entry)) (now («warp_beats» .entry)) (now («warp_lengths» .entry)) (askedRow beat)) ⌝ }
+    ensures { λ r.
+        let lists = warpLists «stop_beats».entry.now «stop_values».entry.now «delay_beats».entry.now «delay_values».entry.now
+        «warp_beats».entry.now «warp_lengths».entry.now in
+        ⌜ r ≡ looked (warpNumber lists (inRange (rangeOf Kind.Beat) beat)) (isWarped lists (askedRow beat)) ⌝ }
 {
     look_up_warp(
         stop_beats,
@@ -509,14 +537,18 @@ pub fn is_warp_at_beat(
 
 // Whether a row is fake: the last fake at or before it reaches beyond it.
 pub fn is_fake_at_row(fake_beats: &[f32], fake_lengths: &[f32], row: i32) -> Looked
-    ensures { λ r. ⌜ r ≡ looked (fakeNumber (now («fake_beats» .entry)) (now («fake_lengths» .entry)) (rowIn row)) (isFake (now («fake_beats» .entry)) (now («fake_lengths» .entry)) row) ⌝ }
+    ensures { λ r.
+        let fakes = listColumns «fake_beats».entry.now «fake_lengths».entry.now in
+        ⌜ r ≡ looked (fakeNumber fakes (rowIn row)) (isFake fakes row) ⌝ }
 {
     look_up_fake(fake_beats, fake_lengths, limits::row_taken(row), row)
 }
 
 // Whether the row of a beat is fake.
 pub fn is_fake_at_beat(fake_beats: &[f32], fake_lengths: &[f32], beat: f64) -> Looked
-    ensures { λ r. ⌜ r ≡ looked (fakeNumber (now («fake_beats» .entry)) (now («fake_lengths» .entry)) (inRange (rangeOf Kind.Beat) beat)) (isFake (now («fake_beats» .entry)) (now («fake_lengths» .entry)) (askedRow beat)) ⌝ }
+    ensures { λ r.
+        let fakes = listColumns «fake_beats».entry.now «fake_lengths».entry.now in
+        ⌜ r ≡ looked (fakeNumber fakes (inRange (rangeOf Kind.Beat) beat)) (isFake fakes (askedRow beat)) ⌝ }
 {
     look_up_fake(
         fake_beats,
@@ -538,7 +570,10 @@ pub fn is_judgable_at_row(
     fake_lengths: &[f32],
     row: i32,
 ) -> Looked
-    ensures { λ r. ⌜ r ≡ looked (judgableNumber (now («stop_beats» .entry)) (now («stop_values» .entry)) (now («delay_beats» .entry)) (now («delay_values» .entry)) (now («warp_beats» .entry)) (now («warp_lengths» .entry)) (now («fake_beats» .entry)) (now («fake_lengths» .entry)) (rowIn row)) (isJudgable (now («stop_beats» .entry)) (now («stop_values» .entry)) (now («delay_beats» .entry)) (now («delay_values» .entry)) (now («warp_beats» .entry)) (now («warp_lengths» .entry)) (now («fake_beats» .entry)) (now («fake_lengths» .entry)) row) ⌝ }
+    ensures { λ r.
+        let lists = lookupLists «stop_beats».entry.now «stop_values».entry.now «delay_beats».entry.now «delay_values».entry.now
+        «warp_beats».entry.now «warp_lengths».entry.now «fake_beats».entry.now «fake_lengths».entry.now in
+        ⌜ r ≡ looked (judgableNumber lists (rowIn row)) (isJudgable lists row) ⌝ }
 {
     look_up_judgable(
         stop_beats,
@@ -566,7 +601,10 @@ pub fn is_judgable_at_beat(
     fake_lengths: &[f32],
     beat: f64,
 ) -> Looked
-    ensures { λ r. ⌜ r ≡ looked (judgableNumber (now («stop_beats» .entry)) (now («stop_values» .entry)) (now («delay_beats» .entry)) (now («delay_values» .entry)) (now («warp_beats» .entry)) (now («warp_lengths» .entry)) (now («fake_beats» .entry)) (now («fake_lengths» .entry)) (inRange (rangeOf Kind.Beat) beat)) (isJudgable (now («stop_beats» .entry)) (now («stop_values» .entry)) (now («delay_beats» .entry)) (now («delay_values» .entry)) (now («warp_beats» .entry)) (now («warp_lengths» .entry)) (now («fake_beats» .entry)) (now («fake_lengths» .entry)) (askedRow beat)) ⌝ }
+    ensures { λ r.
+        let lists = lookupLists «stop_beats».entry.now «stop_values».entry.now «delay_beats».entry.now «delay_values».entry.now
+        «warp_beats».entry.now «warp_lengths».entry.now «fake_beats».entry.now «fake_lengths».entry.now in
+        ⌜ r ≡ looked (judgableNumber lists (inRange (rangeOf Kind.Beat) beat)) (isJudgable lists (askedRow beat)) ⌝ }
 {
     look_up_judgable(
         stop_beats,
@@ -609,8 +647,8 @@ fn byte_of(answer: bool) -> u8
 }
 
 fn warp_at(warp_beats: &[f32], warp_lengths: &[f32], count: usize, from: u32, until: u32) -> Held
-    requires { ⌜ (length (now «warp_beats») ≡ length (now «warp_lengths»)) × Stands (now «warp_beats») count from until ⌝ }
-    ensures { λ r. ⌜ (r .count ≡ count) × HeldStands warpEnd (now («warp_beats» .entry)) (now («warp_lengths» .entry)) r ⌝ }
+    requires { ⌜ (length «warp_beats».now ≡ length «warp_lengths».now) × Stands «warp_beats».now count from until ⌝ }
+    ensures { λ r. ⌜ (r .count ≡ count) × HeldStands warpEnd «warp_beats».entry.now «warp_lengths».entry.now r ⌝ }
 {
     Held {
         count: count,
@@ -632,8 +670,8 @@ fn reach_warp(
     end: f32,
     key: u32,
 ) -> Held
-    requires { ⌜ Usable (now «warp_beats») (now «warp_lengths») × Holds warpEnd (now «warp_beats») (now «warp_lengths») count from until start end ⌝ }
-    ensures { λ r. ⌜ HeldStands warpEnd (now («warp_beats» .entry)) (now («warp_lengths» .entry)) r × Split key (now («warp_beats» .entry)) (r .count) ⌝ }
+    requires { ⌜ Usable «warp_beats».now «warp_lengths».now × Holds warpEnd «warp_beats».now «warp_lengths».now count from until start end ⌝ }
+    ensures { λ r. ⌜ HeldStands warpEnd «warp_beats».entry.now «warp_lengths».entry.now r × Split key «warp_beats».entry.now (r .count) ⌝ }
 {
     let place = reach(warp_beats, count, from, until, key);
     if place.count == count {
@@ -655,8 +693,8 @@ fn reach_warp(
 }
 
 fn fake_at(fake_beats: &[f32], fake_lengths: &[f32], count: usize, from: u32, until: u32) -> Held
-    requires { ⌜ (length (now «fake_beats») ≡ length (now «fake_lengths»)) × Stands (now «fake_beats») count from until ⌝ }
-    ensures { λ r. ⌜ (r .count ≡ count) × HeldStands fakeEnd (now («fake_beats» .entry)) (now («fake_lengths» .entry)) r ⌝ }
+    requires { ⌜ (length «fake_beats».now ≡ length «fake_lengths».now) × Stands «fake_beats».now count from until ⌝ }
+    ensures { λ r. ⌜ (r .count ≡ count) × HeldStands fakeEnd «fake_beats».entry.now «fake_lengths».entry.now r ⌝ }
 {
     Held {
         count: count,
@@ -678,8 +716,8 @@ fn reach_fake(
     end: f32,
     key: u32,
 ) -> Held
-    requires { ⌜ Usable (now «fake_beats») (now «fake_lengths») × Holds fakeEnd (now «fake_beats») (now «fake_lengths») count from until start end ⌝ }
-    ensures { λ r. ⌜ HeldStands fakeEnd (now («fake_beats» .entry)) (now («fake_lengths» .entry)) r × Split key (now («fake_beats» .entry)) (r .count) ⌝ }
+    requires { ⌜ Usable «fake_beats».now «fake_lengths».now × Holds fakeEnd «fake_beats».now «fake_lengths».now count from until start end ⌝ }
+    ensures { λ r. ⌜ HeldStands fakeEnd «fake_beats».entry.now «fake_lengths».entry.now r × Split key «fake_beats».entry.now (r .count) ⌝ }
 {
     let place = reach(fake_beats, count, from, until, key);
     if place.count == count {
@@ -720,8 +758,13 @@ fn first_cursor(
     fake_beats: &[f32],
     fake_lengths: &[f32],
 ) -> Cursor
-    requires { ⌜ AllUsable (now «stop_beats») (now «stop_values») (now «delay_beats») (now «delay_values») (now «warp_beats») (now «warp_lengths») (now «fake_beats») (now «fake_lengths») ⌝ }
-    ensures { λ r. ⌜ AllStand (now («stop_beats» .entry)) (now («delay_beats» .entry)) (now («warp_beats» .entry)) (now («warp_lengths» .entry)) (now («fake_beats» .entry)) (now («fake_lengths» .entry)) r ⌝ }
+    requires { let lists = lookupLists «stop_beats».now «stop_values».now «delay_beats».now «delay_values».now
+        «warp_beats».now «warp_lengths».now «fake_beats».now «fake_lengths».now in
+        ⌜ AllUsable lists ⌝ }
+    ensures { λ r.
+        let lists = lookupLists «stop_beats».entry.now «stop_values».entry.now «delay_beats».entry.now «delay_values».entry.now
+        «warp_beats».entry.now «warp_lengths».entry.now «fake_beats».entry.now «fake_lengths».entry.now in
+        ⌜ AllStand lists r ⌝ }
 {
     let warps = place_after(warp_beats, 0);
     let fakes = place_after(fake_beats, 0);
@@ -758,9 +801,13 @@ fn judge(
     cursor: Cursor,
     row: i32,
 ) -> Cursor
-    requires { ⌜ AllUsable (now «stop_beats») (now «stop_values») (now «delay_beats») (now «delay_values») (now «warp_beats») (now «warp_lengths») (now «fake_beats») (now «fake_lengths») ⌝ }
-    requires { ⌜ AllStand (now «stop_beats») (now «delay_beats») (now «warp_beats») (now «warp_lengths») (now «fake_beats») (now «fake_lengths») cursor ⌝ }
-    ensures { λ r. ⌜ AllStand (now («stop_beats» .entry)) (now («delay_beats» .entry)) (now («warp_beats» .entry)) (now («warp_lengths» .entry)) (now («fake_beats» .entry)) (now («fake_lengths» .entry)) r × (r .answer ≡ byte (isJudgable (now («stop_beats» .entry)) (now («stop_values» .entry)) (now («delay_beats» .entry)) (now («delay_values» .entry)) (now («warp_beats» .entry)) (now («warp_lengths» .entry)) (now («fake_beats» .entry)) (now («fake_lengths» .entry)) row)) ⌝ }
+    requires { let lists = lookupLists «stop_beats».now «stop_values».now «delay_beats».now «delay_values».now
+        «warp_beats».now «warp_lengths».now «fake_beats».now «fake_lengths».now in
+        ⌜ AllUsable lists × AllStand lists cursor ⌝ }
+    ensures { λ r.
+        let lists = lookupLists «stop_beats».entry.now «stop_values».entry.now «delay_beats».entry.now «delay_values».entry.now
+        «warp_beats».entry.now «warp_lengths».entry.now «fake_beats».entry.now «fake_lengths».entry.now in
+        ⌜ AllStand lists r × (r .answer ≡ byte (isJudgable lists row)) ⌝ }
 {
     let key = rows::key_of_row(row);
     let at = rows::note_row_to_beat_f32(row);
@@ -840,9 +887,14 @@ fn judge_rows(
     rows: &[i32],
     out: &mut [u8],
 )
-    requires { ⌜ AllUsable (now «stop_beats») (now «stop_values») (now «delay_beats») (now «delay_values») (now «warp_beats») (now «warp_lengths») (now «fake_beats») (now «fake_lengths») ⌝ }
-    requires { ⌜ length (now rows) ≤ length (now out) ⌝ }
-    ensures { λ _. ⌜ now (out .exit) ≡ laidEach (λ (asked : ℤ). byte (isJudgable (now («stop_beats» .entry)) (now («stop_values» .entry)) (now («delay_beats» .entry)) (now («delay_values» .entry)) (now («warp_beats» .entry)) (now («warp_lengths» .entry)) (now («fake_beats» .entry)) (now («fake_lengths» .entry)) asked)) (now (rows .entry)) (now (out .entry)) ⌝ }
+    requires { let lists = lookupLists «stop_beats».now «stop_values».now «delay_beats».now «delay_values».now
+        «warp_beats».now «warp_lengths».now «fake_beats».now «fake_lengths».now in
+        ⌜ AllUsable lists ⌝ }
+    requires { ⌜ length rows.now ≤ length out.now ⌝ }
+    ensures { λ _.
+        let lists = lookupLists «stop_beats».entry.now «stop_values».entry.now «delay_beats».entry.now «delay_values».entry.now
+        «warp_beats».entry.now «warp_lengths».entry.now «fake_beats».entry.now «fake_lengths».entry.now in
+        ⌜ out.exit.now ≡ laidEach (λ (asked : ℤ). byte (isJudgable lists asked)) rows.entry.now out.entry.now ⌝ }
 {
     let mut cursor = first_cursor(
         stop_beats,
@@ -887,7 +939,10 @@ pub fn judgable_rows(
     rows: &[i32],
     out: &mut [u8],
 ) -> Outcome
-    ensures { λ r. ⌜ Judged (judgableNumber (now («stop_beats» .entry)) (now («stop_values» .entry)) (now («delay_beats» .entry)) (now («delay_values» .entry)) (now («warp_beats» .entry)) (now («warp_lengths» .entry)) (now («fake_beats» .entry)) (now («fake_lengths» .entry)) (every rowIn (now (rows .entry)))) (isJudgable (now («stop_beats» .entry)) (now («stop_values» .entry)) (now («delay_beats» .entry)) (now («delay_values» .entry)) (now («warp_beats» .entry)) (now («warp_lengths» .entry)) (now («fake_beats» .entry)) (now («fake_lengths» .entry))) (now (rows .entry)) r (now (out .entry)) (now (out .exit)) ⌝ }
+    ensures { λ r.
+        let lists = lookupLists «stop_beats».entry.now «stop_values».entry.now «delay_beats».entry.now «delay_values».entry.now
+        «warp_beats».entry.now «warp_lengths».entry.now «fake_beats».entry.now «fake_lengths».entry.now in
+        ⌜ Judged (judgableNumber lists (every rowIn rows.entry.now)) (isJudgable lists) rows.entry.now r out.entry.now out.exit.now ⌝ }
 {
     let number = lookup_tests::judgable_number(
         stop_beats,

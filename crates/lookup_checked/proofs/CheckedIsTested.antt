@@ -35,7 +35,7 @@ use Rattle.order_search.proofs.PlaceSplits.{place-splits}
 use Rattle.ieee.proofs.FloatsInOrder.{float-le-trans}
 use Rattle.lookup_tests.proofs.RowsRise.{Rising, rises}
 use Rattle.lookup.specs.inside.Finding.{keyAt, Passed, Split}
-use Rattle.lookup.specs.Lookups.{keyOf, rowsRise, risingNumber, askedNumber, warpNumber, fakeNumber, judgableNumber, warpCovers, fakeCovers, ofLast, lastPasses, isPaused, isWarped, isFake, isJudgable, askedRow, looked}
+use Rattle.lookup.specs.Lookups.{ListColumns, WarpLists, LookupLists, butFakes, keyOf, rowsRise, risingNumber, askedNumber, warpNumber, fakeNumber, judgableNumber, warpCovers, fakeCovers, ofLast, lastPasses, isPaused, isWarped, isFake, isJudgable, askedRow, looked}
 use Rattle.lookup.proofs.UsableLists.{rising-taken}
 use Rattle.lookup.proofs.FoundEntries.{passed-to, past-from, last-found, pause-found}
 use Rattle.rows.proofs.Allowed.{taken-allowed, allowed-finite}
@@ -148,20 +148,22 @@ module _ (value : Range) (beats values : List Float) (taken : risingNumber value
   pause-same = sym (pause-found (rowKey asked) beats values counted (list-is .0 .even) rising counted-splits)
 
 -- ---- the questions
-module _ (fakeBeats fakeLengths : List Float) (asked : ℤ) (allowed : natAbs asked ≤ mostRow) where
-  fake-same : risingNumber (rangeOf Value) fakeBeats fakeLengths ≡ 0 → atRow (fakeBy fakeBeats fakeLengths) asked ≡ isFake fakeBeats fakeLengths asked
+module _ (asked : ℤ) (allowed : natAbs asked ≤ mostRow) where
+  fake-same : (fakes : ListColumns) → risingNumber (rangeOf Value) (fakes .beats) (fakes .values) ≡ 0 → atRow (fakeBy fakes) asked ≡ isFake fakes asked
   unfolding fakeBy isFake
-  fake-same f = last-same (rangeOf Value) fakeBeats fakeLengths f asked allowed (fakeCovers (beatOf binary32 asked)) (fakes-end (beatOf binary32 asked))
+  fake-same fakes f = last-same (rangeOf Value) (fakes .beats) (fakes .values) f asked allowed (fakeCovers (beatOf binary32 asked)) (fakes-end (beatOf binary32 asked))
 
-module _ (stopBeats stopValues delayBeats delayValues warpBeats warpLengths : List Float) (stops : risingNumber (rangeOf Pause) stopBeats stopValues ≡ 0) (delays : risingNumber (rangeOf Pause) delayBeats delayValues ≡ 0) (warps : risingNumber (rangeOf Value) warpBeats warpLengths ≡ 0) (asked : ℤ) (allowed : natAbs asked ≤ mostRow) where
-  warp-same : atRow (warpedBy stopBeats stopValues delayBeats delayValues warpBeats warpLengths) asked ≡ isWarped stopBeats stopValues delayBeats delayValues warpBeats warpLengths asked
+  warp-same : (lists : WarpLists) → risingNumber (rangeOf Pause) (lists .stops .beats) (lists .stops .values) ≡ 0
+      → risingNumber (rangeOf Pause) (lists .delays .beats) (lists .delays .values) ≡ 0
+      → risingNumber (rangeOf Value) (lists .warps .beats) (lists .warps .values) ≡ 0
+      → atRow (warpedBy lists) asked ≡ isWarped lists asked
   unfolding warpedBy unpausedBy isWarped
-  warp-same =
-      rw (last-same (rangeOf Value) warpBeats warpLengths warps asked allowed (warpCovers (beatOf binary32 asked)) (warps-end (beatOf binary32 asked)), pause-same (rangeOf Pause) stopBeats stopValues stops asked allowed, pause-same (rangeOf Pause) delayBeats delayValues delays asked allowed)
-
-  judgable-same : (fakeBeats fakeLengths : List Float) → risingNumber (rangeOf Value) fakeBeats fakeLengths ≡ 0 → atRow (judgableBy stopBeats stopValues delayBeats delayValues warpBeats warpLengths fakeBeats fakeLengths) asked ≡ isJudgable stopBeats stopValues delayBeats delayValues warpBeats warpLengths fakeBeats fakeLengths asked
-  unfolding judgableBy isJudgable
-  judgable-same fakeBeats fakeLengths fakes = rw (warp-same, fake-same fakeBeats fakeLengths asked allowed fakes)
+  warp-same lists s d w =
+      rw (
+        last-same (rangeOf Value) (lists .warps .beats) (lists .warps .values) w asked allowed (warpCovers (beatOf binary32 asked)) (warps-end (beatOf binary32 asked)),
+        pause-same (rangeOf Pause) (lists .stops .beats) (lists .stops .values) s asked allowed,
+        pause-same (rangeOf Pause) (lists .delays .beats) (lists .delays .values) d asked allowed,
+      )
 
 -- ---- the numbers: of lists that are taken only what is asked counts
 same : (allowed : Bool) (number : ℕ) (checked tested : Bool) → number ≡ askedNumber allowed → (allowed ≡ true → checked ≡ tested) → looked (askedNumber allowed) checked ≡ looked number tested
@@ -174,37 +176,48 @@ unfolding lower
 twice true = refl
 twice false = refl
 
-module _ (stopBeats stopValues delayBeats delayValues warpBeats warpLengths fakeBeats fakeLengths : List Float) (checked : judgableNumber stopBeats stopValues delayBeats delayValues warpBeats warpLengths fakeBeats fakeLengths true ≡ 0) where
-  both : (warpNumber stopBeats stopValues delayBeats delayValues warpBeats warpLengths true ≡ 0) × (fakeNumber fakeBeats fakeLengths true ≡ 0)
+module _ (lists : LookupLists) (checked : judgableNumber lists true ≡ 0) where
+  both : (warpNumber (butFakes lists) true ≡ 0) × (fakeNumber (lists .fakes) true ≡ 0)
   both = lower-none _ _ checked
 
-  pauses : (risingNumber (rangeOf Pause) stopBeats stopValues ≡ 0) × (risingNumber (rangeOf Pause) delayBeats delayValues ≡ 0)
+  pauses : (risingNumber (rangeOf Pause) (lists .stops .beats) (lists .stops .values) ≡ 0) × (risingNumber (rangeOf Pause) (lists .delays .beats) (lists .delays .values) ≡ 0)
   pauses = lower-none _ _ (lower-none _ _ (both .0) .0)
 
-  warps : risingNumber (rangeOf Value) warpBeats warpLengths ≡ 0
+  warps : risingNumber (rangeOf Value) (lists .warps .beats) (lists .warps .values) ≡ 0
   warps = lower-none _ _ (lower-none _ _ (both .0) .1) .0
 
-  fakes : risingNumber (rangeOf Value) fakeBeats fakeLengths ≡ 0
+  fakes : risingNumber (rangeOf Value) (lists .fakes .beats) (lists .fakes .values) ≡ 0
   fakes = lower-none _ _ (both .1) .0
 
+  module _ (asked : ℤ) (allowed : natAbs asked ≤ mostRow) where
+    warp-as-tested : atRow (warpedBy (butFakes lists)) asked ≡ isWarped (butFakes lists) asked
+    warp-as-tested = warp-same asked allowed (butFakes lists) (pauses .0) (pauses .1) warps
+
+    fake-as-tested : atRow (fakeBy (lists .fakes)) asked ≡ isFake (lists .fakes) asked
+    fake-as-tested = fake-same asked allowed (lists .fakes) fakes
+
+    judgable-as-tested : atRow (judgableBy lists) asked ≡ isJudgable lists asked
+    unfolding judgableBy isJudgable
+    judgable-as-tested = rw (warp-as-tested, fake-as-tested)
+
   module _ (allowed : Bool) where
-    of-warps : warpNumber stopBeats stopValues delayBeats delayValues warpBeats warpLengths allowed ≡ askedNumber allowed
+    of-warps : warpNumber (butFakes lists) allowed ≡ askedNumber allowed
     unfolding lower
     of-warps = rw (pauses .0, pauses .1, warps)
 
-    of-fakes : fakeNumber fakeBeats fakeLengths allowed ≡ askedNumber allowed
+    of-fakes : fakeNumber (lists .fakes) allowed ≡ askedNumber allowed
     unfolding lower
     of-fakes = rw fakes
 
-    of-all : judgableNumber stopBeats stopValues delayBeats delayValues warpBeats warpLengths fakeBeats fakeLengths allowed ≡ askedNumber allowed
+    of-all : judgableNumber lists allowed ≡ askedNumber allowed
     of-all = rw (of-warps, of-fakes) (twice allowed)
 
-  pub checked-is-tested : SameAnswers stopBeats stopValues delayBeats delayValues warpBeats warpLengths fakeBeats fakeLengths
+  pub checked-is-tested : SameAnswers lists
   checked-is-tested = record {
-    warpAtRow = λ asked. same (rowIn asked) _ _ _ (of-warps (rowIn asked)) (λ h. warp-same stopBeats stopValues delayBeats delayValues warpBeats warpLengths (pauses .0) (pauses .1) warps asked (row-allowed asked h));
-    warpAtBeat = λ beat. same (inRange (rangeOf Beat) beat) _ _ _ (of-warps (inRange (rangeOf Beat) beat)) (λ h. warp-same stopBeats stopValues delayBeats delayValues warpBeats warpLengths (pauses .0) (pauses .1) warps (askedRow beat) (asked-allowed beat h));
-    fakeAtRow = λ asked. same (rowIn asked) _ _ _ (of-fakes (rowIn asked)) (λ h. fake-same fakeBeats fakeLengths asked (row-allowed asked h) fakes);
-    fakeAtBeat = λ beat. same (inRange (rangeOf Beat) beat) _ _ _ (of-fakes (inRange (rangeOf Beat) beat)) (λ h. fake-same fakeBeats fakeLengths (askedRow beat) (asked-allowed beat h) fakes);
-    judgableAtRow = λ asked. same (rowIn asked) _ _ _ (of-all (rowIn asked)) (λ h. judgable-same stopBeats stopValues delayBeats delayValues warpBeats warpLengths (pauses .0) (pauses .1) warps asked (row-allowed asked h) fakeBeats fakeLengths fakes);
-    judgableAtBeat = λ beat. same (inRange (rangeOf Beat) beat) _ _ _ (of-all (inRange (rangeOf Beat) beat)) (λ h. judgable-same stopBeats stopValues delayBeats delayValues warpBeats warpLengths (pauses .0) (pauses .1) warps (askedRow beat) (asked-allowed beat h) fakeBeats fakeLengths fakes);
+    warpAtRow = λ asked. same (rowIn asked) _ _ _ (of-warps (rowIn asked)) (λ h. warp-as-tested asked (row-allowed asked h));
+    warpAtBeat = λ beat. same (inRange (rangeOf Beat) beat) _ _ _ (of-warps (inRange (rangeOf Beat) beat)) (λ h. warp-as-tested (askedRow beat) (asked-allowed beat h));
+    fakeAtRow = λ asked. same (rowIn asked) _ _ _ (of-fakes (rowIn asked)) (λ h. fake-as-tested asked (row-allowed asked h));
+    fakeAtBeat = λ beat. same (inRange (rangeOf Beat) beat) _ _ _ (of-fakes (inRange (rangeOf Beat) beat)) (λ h. fake-as-tested (askedRow beat) (asked-allowed beat h));
+    judgableAtRow = λ asked. same (rowIn asked) _ _ _ (of-all (rowIn asked)) (λ h. judgable-as-tested asked (row-allowed asked h));
+    judgableAtBeat = λ beat. same (inRange (rangeOf Beat) beat) _ _ _ (of-all (inRange (rangeOf Beat) beat)) (λ h. judgable-as-tested (askedRow beat) (asked-allowed beat h));
   }

@@ -13,6 +13,7 @@ use Rattle.picks.specs.Pick.{pick}
 use Rattle.rows.specs.Rows.{beatOf}
 use Rattle.rows.specs.RowKey.{rowKey}
 use Rattle.order_search.specs.Search.{placeOf}
+use Rattle.lookup_tests.specs.LookupLists.{ListColumns, WarpLists, LookupLists, butFakes}
 use Rattle.lookup_tests.specs.Refused.{keyAt}
 use Rattle.lookup.specs.Lookups.{ofLast, pausesOn, warpCovers, fakeCovers}
 
@@ -35,21 +36,24 @@ lastPauses place key beats values = ofLast (pausesOn key) false beats values (pi
 abbrev pub pausedBy : Float → ℕ → List Float → List Float → Bool
 pausedBy at key beats values = lastPauses (placeOf at beats) key beats values
 
-unfoldable pub fakeBy : (fakeBeats fakeLengths : List Float) → Float → ℕ → Bool
-fakeBy fakeBeats fakeLengths at key = lastCovers (fakeCovers at) (placeOf at fakeBeats) key fakeBeats fakeLengths
+unfoldable pub fakeBy : (fakes : ListColumns) → Float → ℕ → Bool
+fakeBy fakes at key = lastCovers (fakeCovers at) (placeOf at (fakes .beats)) key (fakes .beats) (fakes .values)
 
 -- no stop and no delay above 0 is on the row
-unfoldable pub unpausedBy : (stopBeats stopValues delayBeats delayValues : List Float) → Float → ℕ → Bool
-unpausedBy stopBeats stopValues delayBeats delayValues at key = pick (pausedBy at key stopBeats stopValues) false (not (pausedBy at key delayBeats delayValues))
+unfoldable pub unpausedBy : (stops delays : ListColumns) → Float → ℕ → Bool
+unpausedBy stops delays at key = pick (pausedBy at key (stops .beats) (stops .values)) false (not (pausedBy at key (delays .beats) (delays .values)))
 
-module _ (stopBeats stopValues delayBeats delayValues warpBeats warpLengths : List Float) where
-  -- in the last warp, and not paused
-  unfoldable pub warpedBy : Float → ℕ → Bool
-  warpedBy at key = pick (lastCovers (warpCovers at) (placeOf at warpBeats) key warpBeats warpLengths) (unpausedBy stopBeats stopValues delayBeats delayValues at key) false
+-- in the last warp, and not paused
+unfoldable pub warpedBy : WarpLists → Float → ℕ → Bool
+warpedBy lists at key =
+    pick
+    (lastCovers (warpCovers at) (placeOf at (lists .warps .beats)) key (lists .warps .beats) (lists .warps .values))
+    (unpausedBy (lists .stops) (lists .delays) at key)
+    false
 
-  -- neither warped nor fake
-  unfoldable pub judgableBy : (fakeBeats fakeLengths : List Float) → Float → ℕ → Bool
-  judgableBy fakeBeats fakeLengths at key = pick (warpedBy at key) false (not (fakeBy fakeBeats fakeLengths at key))
+-- neither warped nor fake
+unfoldable pub judgableBy : LookupLists → Float → ℕ → Bool
+judgableBy lists at key = pick (warpedBy (butFakes lists) at key) false (not (fakeBy (lists .fakes) at key))
 
 -- a question, of a row
 abbrev pub atRow : (Float → ℕ → Bool) → ℤ → Bool

@@ -10,6 +10,7 @@ ghost use lib.ListN.{length, getD};
 ghost use Prim.Native.Nat.{_≤_, _<_};
 ghost use Rattle.rows.specs.RowKey.{rowKey};
 ghost use Rattle.limits.specs.Numbers.{rangeOf, inRange, rowIn};
+ghost use Rattle.lookup.specs.Lookups.{listColumns, warpLists, lookupLists};
 ghost use Rattle.lookup.specs.Lookups.{keyOf, ofLast, warpCovers, fakeCovers, askedRow, looked, askedNumber, judgableNumber};
 ghost use Rattle.lookup_checked.specs.Checked.{isOnRow, lastCovers, lastPauses, unpausedBy, fakeBy, warpedBy, judgableBy, atRow};
 
@@ -27,11 +28,10 @@ pub fn check_lookups(
     fake_beats: &[f32],
     fake_lengths: &[f32],
 ) -> u32
-    ensures { λ r. ⌜ r ≡ judgableNumber
-        (now («stop_beats» .entry)) (now («stop_values» .entry))
-        (now («delay_beats» .entry)) (now («delay_values» .entry))
-        (now («warp_beats» .entry)) (now («warp_lengths» .entry))
-        (now («fake_beats» .entry)) (now («fake_lengths» .entry)) true ⌝ }
+    ensures { λ r.
+        let lists = lookupLists «stop_beats».entry.now «stop_values».entry.now «delay_beats».entry.now «delay_values».entry.now
+        «warp_beats».entry.now «warp_lengths».entry.now «fake_beats».entry.now «fake_lengths».entry.now in
+        ⌜ r ≡ judgableNumber lists true ⌝ }
 {
     lookup_tests::judgable_number(
         stop_beats,
@@ -92,7 +92,7 @@ fn is_before_row(beat: f32, row: i32) -> bool
 // Whether there is an entry at the place that is found and it is on the row.
 fn next_on_row(beats: &[f32], place: usize, row: i32) -> bool
     requires { ⌜ rowIn row ≡ true ⌝ }
-    ensures { λ r. ⌜ r ≡ isOnRow (now (beats .entry)) place (rowKey row) ⌝ }
+    ensures { λ r. ⌜ r ≡ isOnRow beats.entry.now place (rowKey row) ⌝ }
 {
     if place < beats.len() {
         if is_past_row(beats[place], row) {
@@ -105,8 +105,8 @@ fn next_on_row(beats: &[f32], place: usize, row: i32) -> bool
 
 // Whether the entry at the place before it is.
 fn last_on_row(beats: &[f32], place: usize, row: i32) -> bool
-    requires { ⌜ (place < length (now beats)) × (rowIn row ≡ true) ⌝ }
-    ensures { λ r. ⌜ r ≡ isOnRow (now (beats .entry)) place (rowKey row) ⌝ }
+    requires { ⌜ (place < length beats.now) × (rowIn row ≡ true) ⌝ }
+    ensures { λ r. ⌜ r ≡ isOnRow beats.entry.now place (rowKey row) ⌝ }
 {
     if is_before_row(beats[place], row) {
         return false;
@@ -116,7 +116,7 @@ fn last_on_row(beats: &[f32], place: usize, row: i32) -> bool
 
 // The number at a place of a column; a NaN past its end.
 fn number_at(column: &[f32], place: usize) -> f32
-    ensures { λ r. ⌜ r ≡ getD (now (column .entry)) place nan ⌝ }
+    ensures { λ r. ⌜ r ≡ getD column.entry.now place nan ⌝ }
 {
     if place < column.len() {
         return column[place];
@@ -151,8 +151,8 @@ fn fake_covers(beat: f32, length: f32, at: f32) -> bool
 
 // Whether the last warp before the place covers a beat. Only then it matters whether the next one is on the row, and so covers nothing there.
 fn last_warp_covers(warp_beats: &[f32], warp_lengths: &[f32], place: usize, at: f32) -> bool
-    requires { ⌜ place ≤ length (now «warp_beats») ⌝ }
-    ensures { λ r. ⌜ r ≡ ofLast (warpCovers at) false (now («warp_beats» .entry)) (now («warp_lengths» .entry)) place ⌝ }
+    requires { ⌜ place ≤ length «warp_beats».now ⌝ }
+    ensures { λ r. ⌜ r ≡ ofLast (warpCovers at) false «warp_beats».entry.now «warp_lengths».entry.now place ⌝ }
 {
     if place == 0 {
         return false;
@@ -166,8 +166,8 @@ fn last_warp_covers(warp_beats: &[f32], warp_lengths: &[f32], place: usize, at: 
 
 // The test of a fake comes last, since no branch is made of it.
 fn in_fake(fake_beats: &[f32], fake_lengths: &[f32], place: usize, at: f32, row: i32) -> bool
-    requires { ⌜ (place ≤ length (now «fake_beats»)) × (rowIn row ≡ true) ⌝ }
-    ensures { λ r. ⌜ r ≡ lastCovers (fakeCovers at) place (rowKey row) (now («fake_beats» .entry)) (now («fake_lengths» .entry)) ⌝ }
+    requires { ⌜ (place ≤ length «fake_beats».now) × (rowIn row ≡ true) ⌝ }
+    ensures { λ r. ⌜ r ≡ lastCovers (fakeCovers at) place (rowKey row) «fake_beats».entry.now «fake_lengths».entry.now ⌝ }
 {
     if next_on_row(fake_beats, place, row) {
         return false;
@@ -183,8 +183,8 @@ fn in_fake(fake_beats: &[f32], fake_lengths: &[f32], place: usize, at: f32, row:
 }
 
 fn is_paused(beats: &[f32], values: &[f32], place: usize, row: i32) -> bool
-    requires { ⌜ (place ≤ length (now beats)) × (rowIn row ≡ true) ⌝ }
-    ensures { λ r. ⌜ r ≡ lastPauses place (rowKey row) (now (beats .entry)) (now (values .entry)) ⌝ }
+    requires { ⌜ (place ≤ length beats.now) × (rowIn row ≡ true) ⌝ }
+    ensures { λ r. ⌜ r ≡ lastPauses place (rowKey row) beats.entry.now values.entry.now ⌝ }
 {
     if next_on_row(beats, place, row) {
         return number_at(values, place) > 0.0;
@@ -208,7 +208,10 @@ fn is_unpaused(
     row: i32,
 ) -> bool
     requires { ⌜ rowIn row ≡ true ⌝ }
-    ensures { λ r. ⌜ r ≡ unpausedBy (now («stop_beats» .entry)) (now («stop_values» .entry)) (now («delay_beats» .entry)) (now («delay_values» .entry)) at (rowKey row) ⌝ }
+    ensures { λ r.
+        let stops = listColumns «stop_beats».entry.now «stop_values».entry.now in
+        let delays = listColumns «delay_beats».entry.now «delay_values».entry.now in
+        ⌜ r ≡ unpausedBy stops delays at (rowKey row) ⌝ }
 {
     if is_paused(
         stop_beats,
@@ -251,10 +254,10 @@ pub fn is_warp_at_row_checked(
     warp_lengths: &[f32],
     row: i32,
 ) -> Looked
-    ensures { λ r. ⌜ r ≡ looked (askedNumber (rowIn row)) (atRow (warpedBy
-        (now («stop_beats» .entry)) (now («stop_values» .entry))
-        (now («delay_beats» .entry)) (now («delay_values» .entry))
-        (now («warp_beats» .entry)) (now («warp_lengths» .entry))) row) ⌝ }
+    ensures { λ r.
+        let lists = warpLists «stop_beats».entry.now «stop_values».entry.now «delay_beats».entry.now «delay_values».entry.now
+        «warp_beats».entry.now «warp_lengths».entry.now in
+        ⌜ r ≡ looked (askedNumber (rowIn row)) (atRow (warpedBy lists) row) ⌝ }
 {
     if limits::row_taken(row) {
         let at = beat_of_row(row);
@@ -289,10 +292,10 @@ pub fn is_warp_at_beat_checked(
     warp_lengths: &[f32],
     beat: f64,
 ) -> Looked
-    ensures { λ r. ⌜ r ≡ looked (askedNumber (inRange (rangeOf Kind.Beat) beat)) (atRow (warpedBy
-        (now («stop_beats» .entry)) (now («stop_values» .entry))
-        (now («delay_beats» .entry)) (now («delay_values» .entry))
-        (now («warp_beats» .entry)) (now («warp_lengths» .entry))) (askedRow beat)) ⌝ }
+    ensures { λ r.
+        let lists = warpLists «stop_beats».entry.now «stop_values».entry.now «delay_beats».entry.now «delay_values».entry.now
+        «warp_beats».entry.now «warp_lengths».entry.now in
+        ⌜ r ≡ looked (askedNumber (inRange (rangeOf Kind.Beat) beat)) (atRow (warpedBy lists) (askedRow beat)) ⌝ }
 {
     if limits::taken(Kind::Beat, beat) {
         let row = lookup::asked_row(beat);
@@ -320,7 +323,9 @@ pub fn is_warp_at_beat_checked(
 
 // Whether a row is fake.
 pub fn is_fake_at_row_checked(fake_beats: &[f32], fake_lengths: &[f32], row: i32) -> Looked
-    ensures { λ r. ⌜ r ≡ looked (askedNumber (rowIn row)) (atRow (fakeBy (now («fake_beats» .entry)) (now («fake_lengths» .entry))) row) ⌝ }
+    ensures { λ r.
+        let fakes = listColumns «fake_beats».entry.now «fake_lengths».entry.now in
+        ⌜ r ≡ looked (askedNumber (rowIn row)) (atRow (fakeBy fakes) row) ⌝ }
 {
     if limits::row_taken(row) {
         let at = beat_of_row(row);
@@ -335,7 +340,9 @@ pub fn is_fake_at_row_checked(fake_beats: &[f32], fake_lengths: &[f32], row: i32
 
 // Whether the row of a beat is fake.
 pub fn is_fake_at_beat_checked(fake_beats: &[f32], fake_lengths: &[f32], beat: f64) -> Looked
-    ensures { λ r. ⌜ r ≡ looked (askedNumber (inRange (rangeOf Kind.Beat) beat)) (atRow (fakeBy (now («fake_beats» .entry)) (now («fake_lengths» .entry))) (askedRow beat)) ⌝ }
+    ensures { λ r.
+        let fakes = listColumns «fake_beats».entry.now «fake_lengths».entry.now in
+        ⌜ r ≡ looked (askedNumber (inRange (rangeOf Kind.Beat) beat)) (atRow (fakeBy fakes) (askedRow beat)) ⌝ }
 {
     if limits::taken(Kind::Beat, beat) {
         let row = lookup::asked_row(beat);
@@ -361,11 +368,10 @@ pub fn is_judgable_at_row_checked(
     fake_lengths: &[f32],
     row: i32,
 ) -> Looked
-    ensures { λ r. ⌜ r ≡ looked (askedNumber (rowIn row)) (atRow (judgableBy
-        (now («stop_beats» .entry)) (now («stop_values» .entry))
-        (now («delay_beats» .entry)) (now («delay_values» .entry))
-        (now («warp_beats» .entry)) (now («warp_lengths» .entry))
-        (now («fake_beats» .entry)) (now («fake_lengths» .entry))) row) ⌝ }
+    ensures { λ r.
+        let lists = lookupLists «stop_beats».entry.now «stop_values».entry.now «delay_beats».entry.now «delay_values».entry.now
+        «warp_beats».entry.now «warp_lengths».entry.now «fake_beats».entry.now «fake_lengths».entry.now in
+        ⌜ r ≡ looked (askedNumber (rowIn row)) (atRow (judgableBy lists) row) ⌝ }
 {
     if limits::row_taken(row) {
         let at = beat_of_row(row);
@@ -401,11 +407,10 @@ pub fn is_judgable_at_beat_checked(
     fake_lengths: &[f32],
     beat: f64,
 ) -> Looked
-    ensures { λ r. ⌜ r ≡ looked (askedNumber (inRange (rangeOf Kind.Beat) beat)) (atRow (judgableBy
-        (now («stop_beats» .entry)) (now («stop_values» .entry))
-        (now («delay_beats» .entry)) (now («delay_values» .entry))
-        (now («warp_beats» .entry)) (now («warp_lengths» .entry))
-        (now («fake_beats» .entry)) (now («fake_lengths» .entry))) (askedRow beat)) ⌝ }
+    ensures { λ r.
+        let lists = lookupLists «stop_beats».entry.now «stop_values».entry.now «delay_beats».entry.now «delay_values».entry.now
+        «warp_beats».entry.now «warp_lengths».entry.now «fake_beats».entry.now «fake_lengths».entry.now in
+        ⌜ r ≡ looked (askedNumber (inRange (rangeOf Kind.Beat) beat)) (atRow (judgableBy lists) (askedRow beat)) ⌝ }
 {
     if limits::taken(Kind::Beat, beat) {
         let row = lookup::asked_row(beat);

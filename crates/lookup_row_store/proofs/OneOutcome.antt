@@ -2,14 +2,12 @@
 use mathlib.Core.Path.{_≡_}
 use mathlib.Core.List.{List}
 use lib.IntN.{ℤ}
-use lib.Ieee.{Float}
+use Rattle.lookup_tests.specs.LookupLists.{LookupLists}
 use Rattle.lookup_row_store.specs.declared.Stored.{Stored}
 use Rattle.lookup_row_store.specs.RowStore.{RowsStored}
 
-pub one-outcome : {stopBeats stopValues delayBeats delayValues warpBeats warpLengths fakeBeats fakeLengths : List Float} {a b : Stored} {old newA newB : List ℤ}
-    → RowsStored stopBeats stopValues delayBeats delayValues warpBeats warpLengths fakeBeats fakeLengths a old newA
-    → RowsStored stopBeats stopValues delayBeats delayValues warpBeats warpLengths fakeBeats fakeLengths b old newB
-    → (a ≡ b) × (newA ≡ newB)
+pub one-outcome : {lists : LookupLists} {a b : Stored} {old newA newB : List ℤ}
+    → RowsStored lists a old newA → RowsStored lists b old newB → (a ≡ b) × (newA ≡ newB)
 one-outcome {a = a} {b = b} x y =
     let same : _≡_ {A = Stored} (record { number = a .number; stops = a .stops; delays = a .delays; warps = a .warps; fakes = a .fakes }) (record { number = b .number; stops = b .stops; delays = b .delays; warps = b .warps; fakes = b .fakes }) = cc in
     (same, cc)

@@ -15,6 +15,7 @@ use Rattle.limits.specs.Refusals.{lower, listNumber}
 use Rattle.order.specs.Order.{ordered, tidied, laid}
 use Rattle.rows.specs.RowKey.{rowKey}
 use Rattle.columns.specs.Laying.{roomNumber, given}
+use Rattle.lookup_tests.specs.LookupLists.{LookupLists}
 use Rattle.lookup_row_store.specs.declared.Stored.{Stored}
 
 -- whether an entry has a row in the store: of stops and delays, the pauses, those above 0
@@ -32,19 +33,19 @@ givenRows pauses (beat ∷ beats) (value ∷ values) =
 unfoldable pub storePart : Bool → List Float → List Float → List ℤ
 storePart pauses beats values = pick pauses (tidied rowKey (givenRows pauses beats values)) (ordered rowKey (givenRows pauses beats values))
 
--- ---- the call: the columns of the four lists, and the room for all rows
-module _ (stopBeats stopValues delayBeats delayValues warpBeats warpLengths fakeBeats fakeLengths : List Float) where
+-- ---- the call: the four lists, and the room for all rows
+module _ (lists : LookupLists) where
   abbrev pub stopsPart : List ℤ
-  stopsPart = storePart true stopBeats stopValues
+  stopsPart = storePart true (lists .stops .beats) (lists .stops .values)
 
   abbrev pub delaysPart : List ℤ
-  delaysPart = storePart true delayBeats delayValues
+  delaysPart = storePart true (lists .delays .beats) (lists .delays .values)
 
   abbrev pub warpsPart : List ℤ
-  warpsPart = storePart false warpBeats warpLengths
+  warpsPart = storePart false (lists .warps .beats) (lists .warps .values)
 
   abbrev pub fakesPart : List ℤ
-  fakesPart = storePart false fakeBeats fakeLengths
+  fakesPart = storePart false (lists .fakes .beats) (lists .fakes .values)
 
   -- the parts, one behind another
   abbrev pub packed : List ℤ
@@ -54,8 +55,12 @@ module _ (stopBeats stopValues delayBeats delayValues warpBeats warpLengths fake
   abbrev pub storedListsNumber : ℕ
   storedListsNumber =
       lower
-      (lower (listNumber (rangeOf Beat) (rangeOf Pause) stopBeats stopValues) (listNumber (rangeOf Beat) (rangeOf Pause) delayBeats delayValues))
-      (lower (listNumber (rangeOf Beat) (rangeOf Value) warpBeats warpLengths) (listNumber (rangeOf Beat) (rangeOf Value) fakeBeats fakeLengths))
+      (lower
+      (listNumber (rangeOf Beat) (rangeOf Pause) (lists .stops .beats) (lists .stops .values))
+      (listNumber (rangeOf Beat) (rangeOf Pause) (lists .delays .beats) (lists .delays .values)))
+      (lower
+      (listNumber (rangeOf Beat) (rangeOf Value) (lists .warps .beats) (lists .warps .values))
+      (listNumber (rangeOf Beat) (rangeOf Value) (lists .fakes .beats) (lists .fakes .values)))
 
   -- the one outcome: the number, the length of each part, and the room to its last place
   pub record RowsStored (outcome : Stored) (old new : List ℤ) : Type 0 where

@@ -1,2 +1,3 @@
+pub mod LookupLists
 pub mod Refused
 pub mod inside

@@ -13,6 +13,7 @@ use Rattle.limits.specs.declared.Range.{Range}
 use Rattle.limits.specs.Numbers.{rangeOf}
 use Rattle.limits.specs.Refusals.{lower, listNumber}
 use Rattle.rows.specs.RowKey.{rowKey}
+use Rattle.lookup_tests.specs.LookupLists.{ListColumns, WarpLists, LookupLists, butFakes}
 
 -- a beat's f32 row, as a key
 abbrev pub keyOf : Float → ℕ
@@ -33,19 +34,23 @@ rowsRise (beat ∷ beats) = pick (isBelow beat beats) (rowsRise beats) false
 
 -- a list by itself: 1 to 4, and 5 where its rows do not rise
 unfoldable pub risingNumber : Range → List Float → List Float → ℕ
-risingNumber value beats values = pick (eqb (listNumber (rangeOf Beat) value beats values) 0) (pick (rowsRise beats) 0 notRising) (listNumber (rangeOf Beat) value beats values)
+risingNumber value beats values =
+    pick (eqb (listNumber (rangeOf Beat) value beats values) 0) (pick (rowsRise beats) 0 notRising) (listNumber (rangeOf Beat) value beats values)
 
 abbrev pub askedNumber : Bool → ℕ
 askedNumber allowed = pick allowed 0 badBeat
 
 -- the lowest over the lists that a question takes, and what is asked
-abbrev pub warpNumber : List Float → List Float → List Float → List Float → List Float → List Float → Bool → ℕ
-warpNumber stopBeats stopValues delayBeats delayValues warpBeats warpLengths allowed =
-    lower (lower (risingNumber (rangeOf Pause) stopBeats stopValues) (risingNumber (rangeOf Pause) delayBeats delayValues)) (lower (risingNumber (rangeOf Value) warpBeats warpLengths) (askedNumber allowed))
+abbrev pub warpNumber : WarpLists → Bool → ℕ
+warpNumber lists allowed =
+    lower
+    (lower
+    (risingNumber (rangeOf Pause) (lists .stops .beats) (lists .stops .values))
+    (risingNumber (rangeOf Pause) (lists .delays .beats) (lists .delays .values)))
+    (lower (risingNumber (rangeOf Value) (lists .warps .beats) (lists .warps .values)) (askedNumber allowed))
 
-abbrev pub fakeNumber : List Float → List Float → Bool → ℕ
-fakeNumber fakeBeats fakeLengths allowed = lower (risingNumber (rangeOf Value) fakeBeats fakeLengths) (askedNumber allowed)
+abbrev pub fakeNumber : (fakes : ListColumns) → Bool → ℕ
+fakeNumber fakes allowed = lower (risingNumber (rangeOf Value) (fakes .beats) (fakes .values)) (askedNumber allowed)
 
-abbrev pub judgableNumber : List Float → List Float → List Float → List Float → List Float → List Float → List Float → List Float → Bool → ℕ
-judgableNumber stopBeats stopValues delayBeats delayValues warpBeats warpLengths fakeBeats fakeLengths allowed =
-    lower (warpNumber stopBeats stopValues delayBeats delayValues warpBeats warpLengths allowed) (fakeNumber fakeBeats fakeLengths allowed)
+abbrev pub judgableNumber : LookupLists → Bool → ℕ
+judgableNumber lists allowed = lower (warpNumber (butFakes lists) allowed) (fakeNumber (lists .fakes) allowed)

@@ -2,6 +2,7 @@
 use limits::Kind;
 ghost use mathlib.Core.Path.{_≡_};
 ghost use Rattle.limits.specs.Numbers.{rangeOf, every, miss, rowIn};
+ghost use Rattle.lookup_tests.specs.LookupLists.{listColumns, warpLists, lookupLists};
 ghost use Rattle.lookup_tests.specs.Refused.{keyOf, rowsRise, risingNumber, askedNumber, warpNumber, fakeNumber, judgableNumber};
 ghost use Rattle.lookup_tests.specs.inside.CountNotAbove.{countNotAbove};
 
@@ -20,7 +21,7 @@ fn one_not_above(before: f32, beat: f32) -> usize
 
 // All are counted, which a loop does for several entries at a time.
 fn rows_rise(beats: &[f32]) -> bool
-    ensures { λ r. ⌜ r ≡ rowsRise (now (beats .entry)) ⌝ }
+    ensures { λ r. ⌜ r ≡ rowsRise beats.entry.now ⌝ }
 {
     if beats.len() == 0 {
         return true;
@@ -39,7 +40,7 @@ fn rows_rise(beats: &[f32]) -> bool
 
 // What a list answers by itself: 1, 2, 3 or 4, 5 where its rows do not rise, and 0 where it is taken.
 fn rising_number(value_kind: Kind, beats: &[f32], values: &[f32]) -> u32
-    ensures { λ r. ⌜ r ≡ risingNumber (rangeOf «value_kind») (now (beats .entry)) (now (values .entry)) ⌝ }
+    ensures { λ r. ⌜ r ≡ risingNumber (rangeOf «value_kind») beats.entry.now values.entry.now ⌝ }
 {
     let number = limits_f32::list_number_f32(Kind::Beat, value_kind, beats, values);
     if number == limits::TAKEN {
@@ -71,7 +72,10 @@ pub fn warp_number(
     warp_lengths: &[f32],
     allowed: bool,
 ) -> u32
-    ensures { λ r. ⌜ r ≡ warpNumber (now («stop_beats» .entry)) (now («stop_values» .entry)) (now («delay_beats» .entry)) (now («delay_values» .entry)) (now («warp_beats» .entry)) (now («warp_lengths» .entry)) allowed ⌝ }
+    ensures { λ r.
+        let lists = warpLists «stop_beats».entry.now «stop_values».entry.now «delay_beats».entry.now «delay_values».entry.now
+        «warp_beats».entry.now «warp_lengths».entry.now in
+        ⌜ r ≡ warpNumber lists allowed ⌝ }
 {
     let stops = rising_number(Kind::Pause, stop_beats, stop_values);
     let delays = rising_number(Kind::Pause, delay_beats, delay_values);
@@ -84,7 +88,7 @@ pub fn warp_number(
 
 // The same of a question about fakes.
 pub fn fake_number(fake_beats: &[f32], fake_lengths: &[f32], allowed: bool) -> u32
-    ensures { λ r. ⌜ r ≡ fakeNumber (now («fake_beats» .entry)) (now («fake_lengths» .entry)) allowed ⌝ }
+    ensures { λ r. ⌜ r ≡ fakeNumber (listColumns «fake_beats».entry.now «fake_lengths».entry.now) allowed ⌝ }
 {
     limits::lower_of(
         rising_number(Kind::Value, fake_beats, fake_lengths),
@@ -104,7 +108,10 @@ pub fn judgable_number(
     fake_lengths: &[f32],
     allowed: bool,
 ) -> u32
-    ensures { λ r. ⌜ r ≡ judgableNumber (now («stop_beats» .entry)) (now («stop_values» .entry)) (now («delay_beats» .entry)) (now («delay_values» .entry)) (now («warp_beats» .entry)) (now («warp_lengths» .entry)) (now («fake_beats» .entry)) (now («fake_lengths» .entry)) allowed ⌝ }
+    ensures { λ r.
+        let lists = lookupLists «stop_beats».entry.now «stop_values».entry.now «delay_beats».entry.now «delay_values».entry.now
+        «warp_beats».entry.now «warp_lengths».entry.now «fake_beats».entry.now «fake_lengths».entry.now in
+        ⌜ r ≡ judgableNumber lists allowed ⌝ }
 {
     limits::lower_of(
         warp_number(
@@ -130,7 +137,7 @@ fn one_beyond(row: i32) -> usize
 
 // Whether every row is within the limit.
 pub fn rows_taken(rows: &[i32]) -> bool
-    ensures { λ r. ⌜ r ≡ every rowIn (now (rows .entry)) ⌝ }
+    ensures { λ r. ⌜ r ≡ every rowIn rows.entry.now ⌝ }
 {
     let mut beyond: usize = 0;
     let mut i = 0;

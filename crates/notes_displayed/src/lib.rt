@@ -32,7 +32,7 @@ fn one_fall(beat: f32, next: f32) -> usize
 
 // Whether no beat is above the next. All falls are counted, which a loop does for several entries at a time.
 fn never_fall(beats: &[f32]) -> bool
-    ensures { λ r. ⌜ r ≡ everyTwo notFalling (now (beats .entry)) ⌝ }
+    ensures { λ r. ⌜ r ≡ everyTwo notFalling beats.entry.now ⌝ }
 {
     let mut falls: usize = 0;
     let mut i = 0;
@@ -45,7 +45,7 @@ fn never_fall(beats: &[f32]) -> bool
 
 // What the scrolls answer by themselves: 1, 2, 3 or 4, 5 where their beats fall, and 0 where they are taken.
 fn scroll_columns_number(scroll_beats: &[f32], scroll_ratios: &[f32]) -> u32
-    ensures { λ r. ⌜ r ≡ scrollColumnsNumber (now («scroll_beats» .entry)) (now («scroll_ratios» .entry)) ⌝ }
+    ensures { λ r. ⌜ r ≡ scrollColumnsNumber «scroll_beats».entry.now «scroll_ratios».entry.now ⌝ }
 {
     let number = limits_f32::list_number_f32(Kind::Beat, Kind::Value, scroll_beats, scroll_ratios);
     if number == limits::TAKEN {
@@ -75,8 +75,8 @@ fn displayed_from(shown: f64, from: f64, ratio: f64, beat: f64) -> f64
 
 // Passes the scrolls up to the beat, one after the other.
 fn walk_to(scroll_beats: &[f32], scroll_ratios: &[f32], beat: f64) -> f64
-    requires { ⌜ length (now «scroll_beats») ≡ length (now «scroll_ratios») ⌝ }
-    ensures { λ r. ⌜ r ≡ displayedBeat (now («scroll_beats» .entry)) (now («scroll_ratios» .entry)) beat ⌝ }
+    requires { ⌜ length «scroll_beats».now ≡ length «scroll_ratios».now ⌝ }
+    ensures { λ r. ⌜ r ≡ displayedBeat «scroll_beats».entry.now «scroll_ratios».entry.now beat ⌝ }
 {
     let mut shown = 0.0;
     let mut from = 0.0;
@@ -104,7 +104,7 @@ fn walk_to(scroll_beats: &[f32], scroll_ratios: &[f32], beat: f64) -> f64
 
 // Where a beat is drawn: at the beat itself before the first scroll and where there is none. Tests the scrolls and the beat: 1 to 5, of several the lowest.
 pub fn get_displayed_beat(scroll_beats: &[f32], scroll_ratios: &[f32], beat: f64) -> Displayed
-    ensures { λ r. ⌜ r ≡ displayedAt (now («scroll_beats» .entry)) (now («scroll_ratios» .entry)) beat ⌝ }
+    ensures { λ r. ⌜ r ≡ displayedAt «scroll_beats».entry.now «scroll_ratios».entry.now beat ⌝ }
 {
     let scrolls = scroll_columns_number(scroll_beats, scroll_ratios);
     let number = limits::lower_of(scrolls, clock_tests::beat_number(beat));
@@ -124,8 +124,8 @@ pub fn get_displayed_beat(scroll_beats: &[f32], scroll_ratios: &[f32], beat: f64
 
 // How far the display has moved at each scroll, over the front of the room.
 fn lay_prefix(scroll_beats: &[f32], scroll_ratios: &[f32], prefix: &mut [f64])
-    requires { ⌜ (length (now «scroll_beats») ≡ length (now «scroll_ratios»)) × (length (now «scroll_beats») ≤ length (now prefix)) ⌝ }
-    ensures { λ _. ⌜ now (prefix .exit) ≡ laid (scrollPrefix (now («scroll_beats» .entry)) (now («scroll_ratios» .entry))) (now (prefix .entry)) ⌝ }
+    requires { ⌜ (length «scroll_beats».now ≡ length «scroll_ratios».now) × (length «scroll_beats».now ≤ length prefix.now) ⌝ }
+    ensures { λ _. ⌜ prefix.exit.now ≡ laid (scrollPrefix «scroll_beats».entry.now «scroll_ratios».entry.now) prefix.entry.now ⌝ }
 {
     let mut shown = 0.0;
     let mut from = 0.0;
@@ -147,7 +147,7 @@ pub fn build_scroll_prefix(
     scroll_ratios: &[f32],
     prefix: &mut [f64],
 ) -> Outcome
-    ensures { λ r. ⌜ PrefixLaid (now («scroll_beats» .entry)) (now («scroll_ratios» .entry)) r (now (prefix .entry)) (now (prefix .exit)) ⌝ }
+    ensures { λ r. ⌜ PrefixLaid «scroll_beats».entry.now «scroll_ratios».entry.now r prefix.entry.now prefix.exit.now ⌝ }
 {
     let number = scroll_columns_number(scroll_beats, scroll_ratios);
     if number != limits::TAKEN {
@@ -167,7 +167,7 @@ pub fn build_scroll_prefix(
 
 // The number at a place of a column; a NaN past its end.
 fn number_at(column: &[f64], place: usize) -> f64
-    ensures { λ r. ⌜ r ≡ getD (now (column .entry)) place nan ⌝ }
+    ensures { λ r. ⌜ r ≡ getD column.entry.now place nan ⌝ }
 {
     if place < column.len() {
         return column[place];
@@ -176,7 +176,7 @@ fn number_at(column: &[f64], place: usize) -> f64
 }
 
 fn number_at_f32(column: &[f32], place: usize) -> f64
-    ensures { λ r. ⌜ r ≡ getD (now (column .entry)) place nan ⌝ }
+    ensures { λ r. ⌜ r ≡ getD column.entry.now place nan ⌝ }
 {
     if place < column.len() {
         return std::num::f32_to_f64_with_nan(column[place]);
@@ -192,7 +192,7 @@ fn draw_behind(
     count: usize,
     beat: f64,
 ) -> f64
-    ensures { λ r. ⌜ r ≡ behindScrolls (now («scroll_beats» .entry)) (now («scroll_ratios» .entry)) (now (prefix .entry)) count beat ⌝ }
+    ensures { λ r. ⌜ r ≡ behindScrolls «scroll_beats».entry.now «scroll_ratios».entry.now prefix.entry.now count beat ⌝ }
 {
     if count == 0 {
         return beat;
@@ -208,7 +208,7 @@ fn draw_behind(
 
 // How many scrolls a search finds at or before a beat.
 fn count_up_to(scroll_beats: &[f32], beat: f64) -> usize
-    ensures { λ r. ⌜ r ≡ foundUpTo beat (now («scroll_beats» .entry)) ⌝ }
+    ensures { λ r. ⌜ r ≡ foundUpTo beat «scroll_beats».entry.now ⌝ }
 {
     order_search::place_of(scroll_beats, order_search::f32_up_to(beat))
 }
@@ -221,7 +221,7 @@ pub fn get_displayed_beat_checked(
     prefix: &[f64],
     beat: f64,
 ) -> Displayed
-    ensures { λ r. ⌜ r ≡ checkedAt (now («scroll_beats» .entry)) (now («scroll_ratios» .entry)) (now (prefix .entry)) beat ⌝ }
+    ensures { λ r. ⌜ r ≡ checkedAt «scroll_beats».entry.now «scroll_ratios».entry.now prefix.entry.now beat ⌝ }
 {
     let number = clock_tests::beat_number(beat);
     if number == limits::TAKEN {
@@ -241,8 +241,8 @@ pub fn get_displayed_beat_checked(
 
 // The searches come first, all of them, and what they find waits in the column of numbers: what is made of it then is at hand when a test depends on it.
 fn count_each(scroll_beats: &[f32], beats: &[f64], numbers: &mut [u32])
-    requires { ⌜ (length (now «scroll_beats») ≤ mostEntries) × (length (now beats) ≤ length (now numbers)) ⌝ }
-    ensures { λ _. ⌜ now (numbers .exit) ≡ laidEach (λ (beat : Float). foundUpTo beat (now («scroll_beats» .entry))) (now (beats .entry)) (now (numbers .entry)) ⌝ }
+    requires { ⌜ (length «scroll_beats».now ≤ mostEntries) × (length beats.now ≤ length numbers.now) ⌝ }
+    ensures { λ _. ⌜ numbers.exit.now ≡ laidEach (λ (beat : Float). foundUpTo beat «scroll_beats».entry.now) beats.entry.now numbers.entry.now ⌝ }
 {
     let mut i = 0;
     while i < beats.len() {
@@ -259,7 +259,7 @@ fn answer_behind(
     count: usize,
     beat: f64,
 ) -> Displayed
-    ensures { λ r. ⌜ r ≡ displayed (beatNumber beat) (behindScrolls (now («scroll_beats» .entry)) (now («scroll_ratios» .entry)) (now (prefix .entry)) count beat) ⌝ }
+    ensures { λ r. ⌜ r ≡ displayed (beatNumber beat) (behindScrolls «scroll_beats».entry.now «scroll_ratios».entry.now prefix.entry.now count beat) ⌝ }
 {
     let number = clock_tests::beat_number(beat);
     if number == limits::TAKEN {
@@ -283,10 +283,12 @@ fn answer_each(
     numbers: &mut [u32],
     positions: &mut [f64],
 )
-    requires { ⌜ (length (now beats) ≤ length (now numbers)) × (length (now beats) ≤ length (now positions)) × ((i : ℕ) → i < length (now beats) → getD (now numbers) i 0 ≡ foundUpTo (getD (now beats) i nan) (now «scroll_beats»)) ⌝ }
-    ensures { λ _. ⌜
-        (now (numbers .exit) ≡ laidEach (λ (beat : Float). checkedAt (now («scroll_beats» .entry)) (now («scroll_ratios» .entry)) (now (prefix .entry)) beat .number) (now (beats .entry)) (now (numbers .entry)))
-        × (now (positions .exit) ≡ laidEach (λ (beat : Float). checkedAt (now («scroll_beats» .entry)) (now («scroll_ratios» .entry)) (now (prefix .entry)) beat .beat) (now (beats .entry)) (now (positions .entry))) ⌝ }
+    requires { ⌜ (length beats.now ≤ length numbers.now) × (length beats.now ≤ length positions.now)
+        × ((i : ℕ) → i < length beats.now → getD numbers.now i 0 ≡ foundUpTo (getD beats.now i nan) «scroll_beats».now) ⌝ }
+    ensures { λ _.
+        let at = checkedAt «scroll_beats».entry.now «scroll_ratios».entry.now prefix.entry.now in
+        ⌜ (numbers.exit.now ≡ laidEach (λ (beat : Float). at beat .number) beats.entry.now numbers.entry.now)
+        × (positions.exit.now ≡ laidEach (λ (beat : Float). at beat .beat) beats.entry.now positions.entry.now) ⌝ }
 {
     let mut i = 0;
     while i < beats.len() {
@@ -307,8 +309,11 @@ fn show_by(
     numbers: &mut [u32],
     positions: &mut [f64],
 )
-    requires { ⌜ (scrollColumnsNumber (now «scroll_beats») (now «scroll_ratios») ≡ 0) × (length (now «scroll_beats») ≤ length (now prefix)) × (length (now beats) ≤ length (now numbers)) × (length (now beats) ≤ length (now positions)) ⌝ }
-    ensures { λ _. ⌜ AllDisplayed (now («scroll_beats» .entry)) (now («scroll_ratios» .entry)) (now (beats .entry)) (now (numbers .entry)) (now (numbers .exit)) (now (positions .entry)) (now (positions .exit)) ⌝ }
+    requires { ⌜ (scrollColumnsNumber «scroll_beats».now «scroll_ratios».now ≡ 0) × (length «scroll_beats».now ≤ length prefix.now)
+        × (length beats.now ≤ length numbers.now) × (length beats.now ≤ length positions.now) ⌝ }
+    ensures { λ _.
+        ⌜ AllDisplayed «scroll_beats».entry.now «scroll_ratios».entry.now beats.entry.now
+        numbers.entry.now numbers.exit.now positions.entry.now positions.exit.now ⌝ }
 {
     lay_prefix(scroll_beats, scroll_ratios, prefix);
     count_each(scroll_beats, beats, numbers);
@@ -329,8 +334,11 @@ fn show_all(
     numbers: &mut [u32],
     positions: &mut [f64],
 )
-    requires { ⌜ (scrollColumnsNumber (now «scroll_beats») (now «scroll_ratios») ≡ 0) × (length (now beats) ≤ length (now numbers)) × (length (now beats) ≤ length (now positions)) ⌝ }
-    ensures { λ _. ⌜ AllDisplayed (now («scroll_beats» .entry)) (now («scroll_ratios» .entry)) (now (beats .entry)) (now (numbers .entry)) (now (numbers .exit)) (now (positions .entry)) (now (positions .exit)) ⌝ }
+    requires { ⌜ (scrollColumnsNumber «scroll_beats».now «scroll_ratios».now ≡ 0)
+        × (length beats.now ≤ length numbers.now) × (length beats.now ≤ length positions.now) ⌝ }
+    ensures { λ _.
+        ⌜ AllDisplayed «scroll_beats».entry.now «scroll_ratios».entry.now beats.entry.now
+        numbers.entry.now numbers.exit.now positions.entry.now positions.exit.now ⌝ }
 {
     let n = scroll_beats.len();
     let mut prefix = [0.0; limits::MOST_ENTRIES];
@@ -353,7 +361,9 @@ pub fn get_displayed_beats(
     numbers: &mut [u32],
     positions: &mut [f64],
 ) -> Outcome
-    ensures { λ r. ⌜ BeatsDisplayed (now («scroll_beats» .entry)) (now («scroll_ratios» .entry)) (now (beats .entry)) r (now (numbers .entry)) (now (numbers .exit)) (now (positions .entry)) (now (positions .exit)) ⌝ }
+    ensures { λ r.
+        ⌜ BeatsDisplayed «scroll_beats».entry.now «scroll_ratios».entry.now beats.entry.now r
+        numbers.entry.now numbers.exit.now positions.entry.now positions.exit.now ⌝ }
 {
     let number = scroll_columns_number(scroll_beats, scroll_ratios);
     if number != limits::TAKEN {

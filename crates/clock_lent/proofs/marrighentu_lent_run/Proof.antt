@@ -43,7 +43,7 @@ use denote.Triple.Clauses.{ensured, lasts, Lasts}
 use denote.Triple.Walked.{says, Stays, stay-ref, stay-none, stay-none-slice, gave-slice, walkOf, AllGo, goes-none, goes-none-slice, goes-gave-slice, goes-ref, Walks, ends-at, walked, walk-meets}
 use denote.Exit.{yes}
 use Rattle.clock_lent.proofs.CopiedBeside.{beside-none, beside, end-none, end-one}
-use Rattle.clock_run.specs.Run.{RunLaid}
+use Rattle.clock_run.specs.Run.{runColumns, RunLaid}
 use Rattle.chart.specs.Timing.{timing}
 use Rattle.clock.specs.declared.Cursor.{Cursor}
 use Rattle.clock_run.specs.declared.Ran.{Ran}
@@ -103,7 +103,7 @@ module _ {M : Type 1} (𝓤 : URA M) (H : Heap 𝓤) (A : Atoms 𝓤) (W : Given
   asked = qed W ((‵ (flft κ1 q1) ⊛ ‵ (flft κ2 q2) ⊛ ‵ (flft κ3 q3) ⊛ ‵ (flft κ4 q4) ⊛ ‵ (flft κ5 q5) ⊛ ‵ (flft κ6 q6) ⊛ ‵ (flft κ7 q7) ⊛ ‵ (flft κ8 q8) ⊛ ‵ (flft κ9 q9) ⊛ ‵ (flft κ10 q10) ⊛ ‵ (flft κ11 q11) ⊛ ‵ (flft κ12 q12) ⊛ ‵ ftrue) ∷ ‵ (owns (R ∷ ShrSlice (named 0) κ1 f32 ∷ ShrSlice (named 1) κ2 f32 ∷ ShrSlice (named 2) κ3 f32 ∷ ShrSlice (named 3) κ4 f32 ∷ ShrSlice (named 4) κ5 f32 ∷ ShrSlice (named 5) κ6 f32 ∷ ShrSlice (named 6) κ7 f32 ∷ ShrSlice (named 7) κ8 f32 ∷ f64 ∷ f64 ∷ ShrSlice (named 8) κ9 f64 ∷ MutSlice (named 9) κ10 u32 ∷ MutSlice (named 10) κ11 f64 ∷ MutSlice (named 11) κ12 usize ∷ []) (h, (tb, (tv, (sb, (sv, (db, (dv, (wb, (wv, (offset, (global, (beats, (numbers, (times, (counts, tt))))))))))))))) (val h, (sliceVal (tb .ptr) (length (tb .now)) ∷ [], (sliceVal (tv .ptr) (length (tv .now)) ∷ [], (sliceVal (sb .ptr) (length (sb .now)) ∷ [], (sliceVal (sv .ptr) (length (sv .now)) ∷ [], (sliceVal (db .ptr) (length (db .now)) ∷ [], (sliceVal (dv .ptr) (length (dv .now)) ∷ [], (sliceVal (wb .ptr) (length (wb .now)) ∷ [], (sliceVal (wv .ptr) (length (wv .now)) ∷ [], (vfloat binary64 offset ∷ [], (vfloat binary64 global ∷ [], (sliceVal (beats .ptr) (length (beats .now)) ∷ [], (sliceVal (numbers .ptr) (length (numbers .now)) ∷ [], (sliceVal (times .ptr) (length (times .now)) ∷ [], (sliceVal (counts .ptr) (length (counts .now)) ∷ [], tt)))))))))))))))) ∷ []) ∵ join ! $ frame ! $ done !
 
   abbrev Said : Ran → List ℕ → List Float → List ℕ → Type 0
-  Said r w1 w2 w3 = RunLaid (timing (now tb) (now tv) (now sb) (now sv) (now db) (now dv) (now wb) (now wv)) offset global h (now beats) r (now numbers) w1 (now times) w2 (now counts) w3
+  Said r w1 w2 w3 = RunLaid (timing (now tb) (now tv) (now sb) (now sv) (now db) (now dv) (now wb) (now wv)) offset global h (now beats) r (runColumns (now numbers) (now times) (now counts)) (runColumns w1 w2 w3)
 
   -- what is said of the columns that were handed on
   abbrev Fins : List ℕ → List Float → List ℕ → Fml

@@ -1,5 +1,4 @@
 -- What the loop of a run leaves: all beats asked with a mark. Definitions only.
-use Prim.Native.Nat.{ℕ}
 use mathlib.Core.List.{List, [], _∷_, map}
 use mathlib.Core.Path.{_≡_}
 use lib.Ieee.{Float}
@@ -10,6 +9,7 @@ use Rattle.clock.specs.Marked.{markedAsking}
 use Rattle.clock.specs.History.{numberOf, timeOf, countOf}
 use Rattle.clock.specs.declared.Cursor.{Cursor}
 use Rattle.clock.specs.declared.Answer.{Answer}
+use Rattle.clock_run.specs.Run.{RunColumns}
 
 -- each beat is asked by the cursor that the one before it left
 unfoldable pub eachAsked : Mark → Timing → Float → Float → Cursor → List Float → List Answer
@@ -21,8 +21,9 @@ unfoldable pub lastAsked : Mark → Timing → Float → Float → Cursor → Li
 lastAsked m t offset global c [] = c
 lastAsked m t offset global c (b ∷ beats) = lastAsked m t offset global (markedAsking m t c offset global b .cursor) beats
 
-pub record AllAsked (m : Mark) (t : Timing) (offset global : Float) (c : Cursor) (beats : List Float) (last : Cursor) (numbersOld numbersNew : List ℕ) (timesOld timesNew : List Float) (countsOld countsNew : List ℕ) : Type 0 where
-  pub cursor : last ≡ lastAsked m t offset global c beats
-  pub numbersAre : numbersNew ≡ laid (map numberOf (eachAsked m t offset global c beats)) numbersOld
-  pub timesAre : timesNew ≡ laid (map timeOf (eachAsked m t offset global c beats)) timesOld
-  pub countsAre : countsNew ≡ laid (map countOf (eachAsked m t offset global c beats)) countsOld
+module _ (m : Mark) (t : Timing) (offset global : Float) (c : Cursor) (beats : List Float) where
+  pub record AllAsked (last : Cursor) (old new : RunColumns) : Type 0 where
+    pub cursor : last ≡ lastAsked m t offset global c beats
+    pub numbersAre : new .numbers ≡ laid (map numberOf (eachAsked m t offset global c beats)) (old .numbers)
+    pub timesAre : new .times ≡ laid (map timeOf (eachAsked m t offset global c beats)) (old .times)
+    pub countsAre : new .counts ≡ laid (map countOf (eachAsked m t offset global c beats)) (old .counts)

@@ -7,6 +7,7 @@ use Prim.Native.Nat.{_-_}
 use lib.IntN.{ℤ, pos}
 use lib.ListN.{length, getD}
 use Rattle.columns.proofs.LaidEach.{LayingEach, begun, turned, ended}
+use Rattle.lookup_tests.specs.LookupLists.{lookupLists}
 use Rattle.lookup.specs.Lookups.{byte, isJudgable}
 use Rattle.lookup.specs.inside.Finding.{AllStand}
 use borrow.Author.Needs.{needs}
@@ -15,7 +16,8 @@ use Rattle.lookup.proofs.judge_rows.Tie as tie
 
 abbrev Inv-loop : tie.InvT-loop
 Inv-loop stop-beats stop-values delay-beats delay-values warp-beats warp-lengths fake-beats fake-lengths rows out₀ cursor₀ i₀ out cursor i =
-    LayingEach (λ (asked : ℤ). byte (isJudgable stop-beats stop-values delay-beats delay-values warp-beats warp-lengths fake-beats fake-lengths asked)) rows out₀ (length rows) out i × AllStand stop-beats delay-beats warp-beats warp-lengths fake-beats fake-lengths cursor
+    let lists = lookupLists stop-beats stop-values delay-beats delay-values warp-beats warp-lengths fake-beats fake-lengths in
+    LayingEach (λ (asked : ℤ). byte (isJudgable lists asked)) rows out₀ (length rows) out i × AllStand lists cursor
 
 abbrev μ-loop : tie.MeasureT-loop
 μ-loop stop-beats stop-values delay-beats delay-values warp-beats warp-lengths fake-beats fake-lengths rows out₀ cursor₀ i₀ out cursor i =
@@ -50,7 +52,8 @@ loop-again c =
     let start = c .before .before .before .before .before .before .before .before .before .before .before .before .before .before in
     let inv = c .before .before .before .loop .inv in
     let asked = getD (start .args .rows .now) (c .before .before .before .loop .i) (pos 0) in
-    let same = ap (λ (asked : ℤ). byte (isJudgable (start .args .stop-beats .now) (start .args .stop-values .now) (start .args .delay-beats .now) (start .args .delay-values .now) (start .args .warp-beats .now) (start .args .warp-lengths .now) (start .args .fake-beats .now) (start .args .fake-lengths .now) asked)) (toZ-ofZ w32 asked (record { sfits = c .before .judge-arg .given })) in
+    let lists = lookupLists (start .args .stop-beats .now) (start .args .stop-values .now) (start .args .delay-beats .now) (start .args .delay-values .now) (start .args .warp-beats .now) (start .args .warp-lengths .now) (start .args .fake-beats .now) (start .args .fake-lengths .now) in
+    let same = ap (λ (asked : ℤ). byte (isJudgable lists asked)) (toZ-ofZ w32 asked (record { sfits = c .before .judge-arg .given })) in
     (turned (inv .0) (pos 0) (c .before .before .loop-test .taken) (c .judge .ensures .1 ∙ same), c .judge .ensures .0)
 
 same-length : tie.Need-same-length Inv-loop μ-loop

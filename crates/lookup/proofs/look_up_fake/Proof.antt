@@ -1,8 +1,8 @@
 -- `lookup::look_up_fake` answers what the definition gives, or the number that refuses. Assumes nothing.
 use Rattle.lookup.proofs.UsableLists.{fake-usable}
+use Rattle.lookup_tests.specs.LookupLists.{listColumns}
 use Rattle.lookup.specs.Lookups.{looked}
 use borrow.Author.Tests.{ne-eqb}
-use mathlib.Core.List.{[]}
 use mathlib.Core.Path.{_≡_, sym, _∙_}
 use mir.ValLaws.{toZ-ofZ}
 use mir.Syntax.{w32}
@@ -23,13 +23,13 @@ key-of-row-requires c κs = search needs
 count-at-requires : tie.Need-count-at-requires
 count-at-requires c κs =
     let start = c .before .before .before .before .before in
-    fake-usable [] [] [] [] [] [] (start .args .fake-beats .now) (start .args .fake-lengths .now) (start .args .allowed) (sym (c .before .before .fake-number .ensures) ∙ c .before .if1 .left) .1
+    fake-usable (listColumns (start .args .fake-beats .now) (start .args .fake-lengths .now)) (start .args .allowed) (sym (c .before .before .fake-number .ensures) ∙ c .before .if1 .left) .1
 
 fake-after-requires : tie.Need-fake-after-requires
 fake-after-requires c κs =
     let start = c .before .before .before .before .before .before in
     let back = toZ-ofZ w32 (start .args .row) (start .fits .row) in
-    let all = fake-usable [] [] [] [] [] [] (start .args .fake-beats .now) (start .args .fake-lengths .now) (start .args .allowed) (sym (c .before .before .before .fake-number .ensures) ∙ c .before .before .if1 .left) in
+    let all = fake-usable (listColumns (start .args .fake-beats .now) (start .args .fake-lengths .now)) (start .args .allowed) (sym (c .before .before .before .fake-number .ensures) ∙ c .before .before .if1 .left) in
     rw back (all, rw (c .before .key-of-row .ensures, back) at (c .count-at .ensures))
 
 returns-2 : tie.Need-returns-2

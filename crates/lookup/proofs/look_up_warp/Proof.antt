@@ -1,14 +1,18 @@
 -- `lookup::look_up_warp` answers what the definition gives, or the number that refuses. Assumes nothing.
 use Rattle.lookup.proofs.UsableLists.{warp-usable}
+use Rattle.lookup_tests.specs.LookupLists.{WarpLists, warpLists}
 use Rattle.lookup.specs.Lookups.{looked}
 use borrow.Author.Tests.{ne-eqb}
-use mathlib.Core.List.{[]}
 use mathlib.Core.Path.{_≡_, sym, _∙_}
 use mir.ValLaws.{toZ-ofZ}
 use mir.Syntax.{w32}
 use borrow.Author.Needs.{needs}
 use Rattle.lookup.proofs.look_up_warp.Statement.{statement}
 use Rattle.lookup.proofs.look_up_warp.Tie as tie
+
+abbrev listsAt : tie.Start → WarpLists
+listsAt start =
+    warpLists (start .args .stop-beats .now) (start .args .stop-values .now) (start .args .delay-beats .now) (start .args .delay-values .now) (start .args .warp-beats .now) (start .args .warp-lengths .now)
 
 warp-number-requires : tie.Need-warp-number-requires
 warp-number-requires c κs = search needs
@@ -23,13 +27,13 @@ key-of-row-requires c κs = search needs
 count-at-requires : tie.Need-count-at-requires
 count-at-requires c κs =
     let start = c .before .before .before .before .before .before .before .before .before in
-    warp-usable (start .args .stop-beats .now) (start .args .stop-values .now) (start .args .delay-beats .now) (start .args .delay-values .now) (start .args .warp-beats .now) (start .args .warp-lengths .now) [] [] (start .args .allowed) (sym (c .before .before .warp-number .ensures) ∙ c .before .if1 .left) .2 .1
+    warp-usable (listsAt start) (start .args .allowed) (sym (c .before .before .warp-number .ensures) ∙ c .before .if1 .left) .2 .1
 
 warped-after-requires : tie.Need-warped-after-requires
 warped-after-requires c κs =
     let start = c .before .before .before .before .before .before .before .before .before .before in
     let back = toZ-ofZ w32 (start .args .row) (start .fits .row) in
-    let all = warp-usable (start .args .stop-beats .now) (start .args .stop-values .now) (start .args .delay-beats .now) (start .args .delay-values .now) (start .args .warp-beats .now) (start .args .warp-lengths .now) [] [] (start .args .allowed) (sym (c .before .before .before .warp-number .ensures) ∙ c .before .before .if1 .left) in
+    let all = warp-usable (listsAt start) (start .args .allowed) (sym (c .before .before .before .warp-number .ensures) ∙ c .before .before .if1 .left) in
     rw back (all .0, all .1, all .2, rw (c .before .key-of-row .ensures, back) at (c .count-at .ensures))
 
 returns-2 : tie.Need-returns-2

@@ -12,6 +12,7 @@ use Rattle.picks.specs.Pick.{pick}
 use Rattle.lookup.specs.declared.Cursor.{Cursor}
 use Rattle.lookup.specs.declared.Place.{Place}
 use Rattle.lookup.specs.declared.Held.{Held}
+use Rattle.lookup_tests.specs.LookupLists.{LookupLists}
 use Rattle.lookup_tests.specs.Refused.{rowsRise}
 pub use Rattle.lookup_tests.specs.Refused.{keyOf, keyAt}
 
@@ -66,7 +67,8 @@ abbrev pub startOf : List Float → ℕ → Float
 startOf beats n = pick (eqb n 0) nan (getD beats (n - 1) nan)
 
 unfoldable pub warpEnd : (beats lengths : List Float) → ℕ → Float
-warpEnd beats lengths n = pick (eqb n 0) nan (pick (lt plusZero (getD lengths (n - 1) nan)) (add binary32 (getD beats (n - 1) nan) (getD lengths (n - 1) nan)) nan)
+warpEnd beats lengths n =
+    pick (eqb n 0) nan (pick (lt plusZero (getD lengths (n - 1) nan)) (add binary32 (getD beats (n - 1) nan) (getD lengths (n - 1) nan)) nan)
 
 unfoldable pub fakeEnd : (beats lengths : List Float) → ℕ → Float
 fakeEnd beats lengths n = pick (eqb n 0) nan (narrow (add binary64 (getD beats (n - 1) nan) (getD lengths (n - 1) nan)))
@@ -81,16 +83,14 @@ abbrev pub HeldStands : (List Float → List Float → ℕ → Float) → (beats
 HeldStands endOf beats lengths held = Holds endOf beats lengths (held .count) (held .from) (held .until) (held .start) (held .end)
 
 -- ---- the cursor
-module _ (stopBeats stopValues delayBeats delayValues warpBeats warpLengths fakeBeats fakeLengths : List Float) where
-  pub record AllUsable : Type 0 where
-    pub stops : Usable stopBeats stopValues
-    pub delays : Usable delayBeats delayValues
-    pub warps : Usable warpBeats warpLengths
-    pub fakes : Usable fakeBeats fakeLengths
+pub record AllUsable (lists : LookupLists) : Type 0 where
+  pub stops : Usable (lists .stops .beats) (lists .stops .values)
+  pub delays : Usable (lists .delays .beats) (lists .delays .values)
+  pub warps : Usable (lists .warps .beats) (lists .warps .values)
+  pub fakes : Usable (lists .fakes .beats) (lists .fakes .values)
 
-module _ (stopBeats delayBeats warpBeats warpLengths fakeBeats fakeLengths : List Float) (cursor : Cursor) where
-  pub record AllStand : Type 0 where
-    pub stops : PlaceStands stopBeats (cursor .stops)
-    pub delays : PlaceStands delayBeats (cursor .delays)
-    pub warps : HeldStands warpEnd warpBeats warpLengths (cursor .warps)
-    pub fakes : HeldStands fakeEnd fakeBeats fakeLengths (cursor .fakes)
+pub record AllStand (lists : LookupLists) (cursor : Cursor) : Type 0 where
+  pub stops : PlaceStands (lists .stops .beats) (cursor .stops)
+  pub delays : PlaceStands (lists .delays .beats) (cursor .delays)
+  pub warps : HeldStands warpEnd (lists .warps .beats) (lists .warps .values) (cursor .warps)
+  pub fakes : HeldStands fakeEnd (lists .fakes .beats) (lists .fakes .values) (cursor .fakes)

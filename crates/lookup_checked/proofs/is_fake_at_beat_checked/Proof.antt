@@ -6,6 +6,7 @@ use mir.ValLaws.{toZ-ofZ}
 use Rattle.limits.specs.declared.Kind.the-variants.{Beat}
 use Rattle.limits.specs.Numbers.{rangeOf, inRange}
 use Rattle.lookup.specs.Lookups.{askedRow}
+use Rattle.lookup_tests.specs.LookupLists.{listColumns}
 use Rattle.lookup_checked.specs.Checked.{fakeBy}
 use Rattle.lookup_checked.proofs.AnswersAtRow.{taken-row, refused-row, near, found-in, asked-in}
 use borrow.Author.Needs.{needs}
@@ -58,12 +59,12 @@ returns c =
     let back = toZ-ofZ w32 (asked .asked-row .result) (record { sfits = asked .asked-row .ok }) ∙ asked .asked-row .ensures in
     let yes = sym (allowed .before .taken .ensures) ∙ allowed .if1 .taken in
     let taken = asked-in (start .args .beat) yes in
-    c .answered .ensures ∙ taken-row (fakeBy (start .args .fake-beats .now) (start .args .fake-lengths .now)) row (inRange (rangeOf Beat) (start .args .beat)) through back yes (beat .beat-of-row .result) (beat .beat-of-row .ensures) (fake .in-fake .result) (rw (found .place-of .ensures) at (fake .in-fake .ensures))
+    c .answered .ensures ∙ taken-row (fakeBy (listColumns (start .args .fake-beats .now) (start .args .fake-lengths .now))) row (inRange (rangeOf Beat) (start .args .beat)) through back yes (beat .beat-of-row .result) (beat .beat-of-row .ensures) (fake .in-fake .result) (rw (found .place-of .ensures) at (fake .in-fake .ensures))
 
 returns-2 : tie.Need-returns-2
 returns-2 c =
     let start = c .before .before .before .before in
-    refused-row (fakeBy (start .args .fake-beats .now) (start .args .fake-lengths .now)) (askedRow (start .args .beat)) (inRange (rangeOf Beat) (start .args .beat)) (sym (c .before .taken .ensures) ∙ c .if1 .left)
+    refused-row (fakeBy (listColumns (start .args .fake-beats .now) (start .args .fake-lengths .now))) (askedRow (start .args .beat)) (inRange (rangeOf Beat) (start .args .beat)) (sym (c .before .taken .ensures) ∙ c .if1 .left)
 
 pub is-fake-at-beat-checked-spec : {M : Type 1} → statement M
 is-fake-at-beat-checked-spec =

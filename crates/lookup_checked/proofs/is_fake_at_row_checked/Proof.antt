@@ -4,6 +4,7 @@ use mir.Syntax.{w32}
 use mir.Val.{toZ, ofZ}
 use mir.ValLaws.{toZ-ofZ}
 use Rattle.limits.specs.Numbers.{rowIn}
+use Rattle.lookup_tests.specs.LookupLists.{listColumns}
 use Rattle.lookup_checked.specs.Checked.{fakeBy}
 use Rattle.lookup_checked.proofs.AnswersAtRow.{taken-row, refused-row, near, found-in}
 use borrow.Author.Needs.{needs}
@@ -51,12 +52,12 @@ returns c =
     let back = toZ-ofZ w32 row (start .fits .row) in
     let yes = sym (rw back at (allowed .before .row-taken .ensures)) ∙ allowed .if1 .taken in
     let taken = yes in
-    c .answered .ensures ∙ taken-row (fakeBy (start .args .fake-beats .now) (start .args .fake-lengths .now)) row (rowIn row) through back yes (beat .beat-of-row .result) (beat .beat-of-row .ensures) (fake .in-fake .result) (rw (found .place-of .ensures) at (fake .in-fake .ensures))
+    c .answered .ensures ∙ taken-row (fakeBy (listColumns (start .args .fake-beats .now) (start .args .fake-lengths .now))) row (rowIn row) through back yes (beat .beat-of-row .result) (beat .beat-of-row .ensures) (fake .in-fake .result) (rw (found .place-of .ensures) at (fake .in-fake .ensures))
 
 returns-2 : tie.Need-returns-2
 returns-2 c =
     let start = c .before .before .before .before in
-    refused-row (fakeBy (start .args .fake-beats .now) (start .args .fake-lengths .now)) (start .args .row) (rowIn (start .args .row)) (sym (rw (toZ-ofZ w32 (start .args .row) (start .fits .row)) at (c .before .row-taken .ensures)) ∙ c .if1 .left)
+    refused-row (fakeBy (listColumns (start .args .fake-beats .now) (start .args .fake-lengths .now))) (start .args .row) (rowIn (start .args .row)) (sym (rw (toZ-ofZ w32 (start .args .row) (start .fits .row)) at (c .before .row-taken .ensures)) ∙ c .if1 .left)
 
 pub is-fake-at-row-checked-spec : {M : Type 1} → statement M
 is-fake-at-row-checked-spec =

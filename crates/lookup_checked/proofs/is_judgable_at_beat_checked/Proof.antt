@@ -10,12 +10,17 @@ use Rattle.limits.specs.Numbers.{rangeOf, inRange}
 use Rattle.rows.specs.RowKey.{rowKey}
 use Rattle.order_search.specs.Search.{placeOf}
 use Rattle.lookup.specs.Lookups.{askedRow, warpCovers}
+use Rattle.lookup_tests.specs.LookupLists.{LookupLists, lookupLists}
 use Rattle.lookup_checked.specs.Checked.{lastCovers, unpausedBy, fakeBy, warpedBy, judgableBy}
 use Rattle.lookup_checked.proofs.LastCounted.{last-covers, last-covers-nothing}
 use Rattle.lookup_checked.proofs.AnswersAtRow.{taken-row, refused-row, near, found-in, still-taken, asked-in, in-warp-only, elsewhere}
 use borrow.Author.Needs.{needs}
 use Rattle.lookup_checked.proofs.is_judgable_at_beat_checked.Statement.{statement}
 use Rattle.lookup_checked.proofs.is_judgable_at_beat_checked.Tie as tie
+
+abbrev listsAt : tie.Start → LookupLists
+listsAt start =
+    lookupLists (start .args .stop-beats .now) (start .args .stop-values .now) (start .args .delay-beats .now) (start .args .delay-values .now) (start .args .warp-beats .now) (start .args .warp-lengths .now) (start .args .fake-beats .now) (start .args .fake-lengths .now)
 
 taken-requires : tie.Need-taken-requires
 taken-requires c κs = search needs
@@ -116,7 +121,7 @@ returns c =
     let hides = rw (second .place-of2 .ensures) at (fake .in-fake .ensures) in
     let at = beat .beat-of-row .result in
     let covers = last-covers (warpCovers at) (first .place-of .result) (placeOf at (start .args .warp-beats .now)) (rowKey through) (first .place-of .ensures) (start .args .warp-beats .now) (start .args .warp-lengths .now) (sym (warp .last-warp-covers .ensures) ∙ inside .if2 .taken) (ap not (sym (next .next-on-row .ensures)) ∙ alone .if4 .taken) in
-    c .answered .ensures ∙ taken-row (judgableBy (start .args .stop-beats .now) (start .args .stop-values .now) (start .args .delay-beats .now) (start .args .delay-values .now) (start .args .warp-beats .now) (start .args .warp-lengths .now) (start .args .fake-beats .now) (start .args .fake-lengths .now)) row (inRange (rangeOf Beat) (start .args .beat)) through back yes (beat .beat-of-row .result) (beat .beat-of-row .ensures) (not (pauses .is-unpaused .result)) (rw (pauses .is-unpaused .ensures) (in-warp-only (lastCovers (warpCovers at) (placeOf at (start .args .warp-beats .now)) (rowKey through) (start .args .warp-beats .now) (start .args .warp-lengths .now)) (fakeBy (start .args .fake-beats .now) (start .args .fake-lengths .now) at (rowKey through)) (unpausedBy (start .args .stop-beats .now) (start .args .stop-values .now) (start .args .delay-beats .now) (start .args .delay-values .now) at (rowKey through)) covers (ap not (sym hides) ∙ shown .if3 .taken)))
+    c .answered .ensures ∙ taken-row (judgableBy (listsAt start)) row (inRange (rangeOf Beat) (start .args .beat)) through back yes (beat .beat-of-row .result) (beat .beat-of-row .ensures) (not (pauses .is-unpaused .result)) (rw (pauses .is-unpaused .ensures) (in-warp-only (lastCovers (warpCovers at) (placeOf at (start .args .warp-beats .now)) (rowKey through) (start .args .warp-beats .now) (start .args .warp-lengths .now)) (fakeBy (listsAt start .fakes) at (rowKey through)) (unpausedBy (listsAt start .stops) (listsAt start .delays) at (rowKey through)) covers (ap not (sym hides) ∙ shown .if3 .taken)))
 
 answered-requires-2 : tie.Need-answered-requires-2
 answered-requires-2 c κs = search needs
@@ -142,7 +147,7 @@ returns-2 c =
     let at = beat .beat-of-row .result in
     let nothing = last-covers-nothing (warpCovers at) (first .place-of .result) (placeOf at (start .args .warp-beats .now)) (rowKey through) (first .place-of .ensures) (start .args .warp-beats .now) (start .args .warp-lengths .now) in
     c .answered2 .ensures
-    ∙ taken-row (judgableBy (start .args .stop-beats .now) (start .args .stop-values .now) (start .args .delay-beats .now) (start .args .delay-values .now) (start .args .warp-beats .now) (start .args .warp-lengths .now) (start .args .fake-beats .now) (start .args .fake-lengths .now)) row (inRange (rangeOf Beat) (start .args .beat)) through back yes (beat .beat-of-row .result) (beat .beat-of-row .ensures) (not (fake .in-fake .result)) (rw hides (elsewhere (lastCovers (warpCovers at) (placeOf at (start .args .warp-beats .now)) (rowKey through) (start .args .warp-beats .now) (start .args .warp-lengths .now)) (fakeBy (start .args .fake-beats .now) (start .args .fake-lengths .now) at (rowKey through)) (unpausedBy (start .args .stop-beats .now) (start .args .stop-values .now) (start .args .delay-beats .now) (start .args .delay-values .now) at (rowKey through)) (elim (other .if2 .came) [
+    ∙ taken-row (judgableBy (listsAt start)) row (inRange (rangeOf Beat) (start .args .beat)) through back yes (beat .beat-of-row .result) (beat .beat-of-row .ensures) (not (fake .in-fake .result)) (rw hides (elsewhere (lastCovers (warpCovers at) (placeOf at (start .args .warp-beats .now)) (rowKey through) (start .args .warp-beats .now) (start .args .warp-lengths .now)) (fakeBy (listsAt start .fakes) at (rowKey through)) (unpausedBy (listsAt start .stops) (listsAt start .delays) at (rowKey through)) (elim (other .if2 .came) [
       | inl p ↦ inr (nothing (inl (ap not (sym (p .2 .ensures)) ∙ p .3 .left)))
       | inr (inl p) ↦ inl (ap not (sym hides) ∙ p .1 .left)
       | inr (inr p) ↦ inr (nothing (inr (sym (warp .last-warp-covers .ensures) ∙ p .left)))
@@ -151,7 +156,7 @@ returns-2 c =
 returns-3 : tie.Need-returns-3
 returns-3 c =
     let start = c .before .before .before .before .before .before .before .before .before .before in
-    refused-row (judgableBy (start .args .stop-beats .now) (start .args .stop-values .now) (start .args .delay-beats .now) (start .args .delay-values .now) (start .args .warp-beats .now) (start .args .warp-lengths .now) (start .args .fake-beats .now) (start .args .fake-lengths .now)) (askedRow (start .args .beat)) (inRange (rangeOf Beat) (start .args .beat)) (sym (c .before .taken .ensures) ∙ c .if1 .left)
+    refused-row (judgableBy (listsAt start)) (askedRow (start .args .beat)) (inRange (rangeOf Beat) (start .args .beat)) (sym (c .before .taken .ensures) ∙ c .if1 .left)
 
 pub is-judgable-at-beat-checked-spec : {M : Type 1} → statement M
 is-judgable-at-beat-checked-spec =

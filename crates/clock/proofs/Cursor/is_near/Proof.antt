@@ -25,13 +25,14 @@ returns-2 c =
     let p = c .before .before .is-past-tempo .ensures (c .before .if2 .taken) in
     let later = tested (a .row) (a .self .asked) (s .fits .row) (record { sfits = first .before .struct-told .given .1 .0 .1 }) false (first .if1 .left) in
     λ e.
-    let only = rw (back (a .row) (s .fits .row)) at (sym (c .is-only-tempos .ensures) ∙ e) in (
-      later,
-      some-tempos (a .tempo-beats .now) (a .stop-beats .now) (a .delay-beats .now) (a .warp-beats .now) (a .self) (a .row) (p .0) (p .1) (p .2) (p .3) (p .4),
-      p .3,
-      only,
-      near-taken (a .tempo-beats .now) (a .stop-beats .now) (a .delay-beats .now) (a .warp-beats .now) (a .self) (a .row) (p .0) (p .1) (p .2) (p .3) (p .4) (p .5) later only,
-    )
+    let only = rw (back (a .row) (s .fits .row)) at (sym (c .is-only-tempos .ensures) ∙ e) in
+    record {
+      later = later;
+      some = some-tempos (a .tempo-beats .now) (a .stop-beats .now) (a .delay-beats .now) (a .warp-beats .now) (a .self) (a .row) p;
+      passed = p .passed;
+      only = only;
+      taken = near-taken (a .tempo-beats .now) (a .stop-beats .now) (a .delay-beats .now) (a .warp-beats .now) (a .self) (a .row) p later only;
+    }
 
 returns-3 : tie.Need-returns-3
 returns-3 c = λ e. no e

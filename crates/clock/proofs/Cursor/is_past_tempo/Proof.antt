@@ -37,14 +37,14 @@ returns-6 c =
     let a = first .before .before .before .args in
     let asked-fits : SFits w32 (a .self .asked) = record { sfits = first .before .struct-told .given .1 .0 .1 } in
     let row-fits : SFits w32 (a .self .state .row) = record { sfits = second .before .struct-told2 .given .1 .1 .1 .1 .0 .1 } in
-    λ e. (
-      not-below (a .self .asked) false asked-fits (first .if1 .left),
-      not-below (a .self .state .row) false row-fits (second .if2 .left),
-      rw (back (a .self .state .row) row-fits) at (third .if3 .left),
-      ne-eqb _ _ (c .before .before .if4 .left),
-      c .before .if5 .left,
-      sym (c .time-and-end-in .ensures) ∙ e,
-    )
+    λ e. record {
+      askedFromZero = not-below (a .self .asked) false asked-fits (first .if1 .left);
+      rowFromZero = not-below (a .self .state .row) false row-fits (second .if2 .left);
+      rowWithin = rw (back (a .self .state .row) row-fits) at (third .if3 .left);
+      passed = ne-eqb _ _ (c .before .before .if4 .left);
+      within = c .before .if5 .left;
+      numbersIn = sym (c .time-and-end-in .ensures) ∙ e;
+    }
 
 pub is-past-tempo-spec : {M : Type 1} → statement M
 is-past-tempo-spec =

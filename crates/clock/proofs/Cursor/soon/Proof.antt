@@ -16,7 +16,7 @@ returns c =
     let s = c .before .before .before .before .before .before .before .before .before in
     let is = back (s .args .row) (s .fits .row) in
     let near = rw is at (c .before .before .is-near .ensures (c .before .if1 .taken)) in
-    λ e. (near .0, near .1, near .2, near .3, near .4, rw is at (c .walk-soon .ensures))
+    λ e. (near, rw is at (c .walk-soon .ensures))
 
 returns-2 : tie.Need-returns-2
 returns-2 c = λ e. no e

@@ -43,7 +43,7 @@ answered-requires c κs =
     let a = c .before .before .before .before .before .before .before .before .before .before .before .before .before .before .before .args in
     let found = c .before .before .before .soon in
     let is-soon = found .ensures (c .before .before .if2 .taken) in
-    let few : found .result .passed ≤ 1 = rw (is-soon .5) (soon-few (a .tempo-beats .now) (a .tempo-values .now) _ (a .self .state)) in
+    let few : found .result .passed ≤ 1 = rw (is-soon .1) (soon-few (a .tempo-beats .now) (a .tempo-values .now) _ (a .self .state)) in
     omega (arith, few)
 
 returns-2 : tie.Need-returns-2
@@ -57,8 +57,8 @@ returns-2 c =
     let whole = c .before .before .before .if2 .taken in
     let is-soon = found .ensures whole in
     let is : r ≡ row binary64 (a .beat) = back (on .result) (record { sfits = on .ok }) ∙ on .ensures in
-    (rw (c .before .quiet-time .ensures) at (c .answered .ensures)) ∙ soon-reply t (a .self) (a .offset) (a .global) (a .beat) r _ is (is-soon .0) (is-soon .1) (soon-walked t r (a .self .state) (found .result) (is-soon .5) whole (is-soon .2) (is-soon .3))
-    ∙ both-taken t (a .self) (a .offset) (a .global) (a .beat) (asked .result) (asked .ensures) (eq-eqb _ _ (c .before .before .before .before .before .before .if1 .left)) _ refl (eq-eqb _ _ (is-soon .4))
+    (rw (c .before .quiet-time .ensures) at (c .answered .ensures)) ∙ soon-reply t (a .self) (a .offset) (a .global) (a .beat) r _ is (is-soon .0 .later) (is-soon .0 .some) (soon-walked t r (a .self .state) (found .result) (is-soon .1) whole (is-soon .0 .passed) (is-soon .0 .only))
+    ∙ both-taken t (a .self) (a .offset) (a .global) (a .beat) (asked .result) (asked .ensures) (eq-eqb _ _ (c .before .before .before .before .before .before .if1 .left)) _ refl (eq-eqb _ _ (is-soon .0 .taken))
 
 refusal-requires : tie.Need-refusal-requires
 refusal-requires c κs = search needs

@@ -1,21 +1,18 @@
 -- What the answers say, as propositions: which entry is tested, when a row is paused, warped and judgable. Assumes nothing.
 use Prim.Native.Nat.{ℕ, zero, suc, _<_}
-use mathlib.Core.Path.{_≡_, refl, sym, ap, _∙_}
+use mathlib.Core.Path.{_≡_, refl, _∙_}
 use mathlib.Core.Bool.{Bool, true, false, not}
-use mathlib.Core.List.{List, [], _∷_, map}
+use mathlib.Core.List.{List, [], _∷_}
 use native.Mathlib.Omega.{arith}
-use borrow.Author.Tests.{eqb-true, eq-eqb, not-true}
+use borrow.Author.Tests.{eqb-true, eq-eqb}
 use lib.Dec.{eqb}
 use lib.IntN.{ℤ}
 use lib.ListN.{length, getD}
 use lib.Ieee.{Float, nan, lt}
 use Rattle.ieee.specs.Constants.{plusZero}
 use Rattle.picks.specs.Pick.{pick}
-use Rattle.order.specs.Order.{laid}
 use Rattle.rows.specs.RowKey.{rowKey}
-use Rattle.columns.specs.declared.Outcome.{Outcome}
-use Rattle.columns.specs.Laying.{given}
-use Rattle.lookup.specs.Lookups.{keyOf, lastPasses, isPaused, inWarp, isWarped, isFake, isJudgable, byte, Judged}
+use Rattle.lookup.specs.Lookups.{WarpLists, LookupLists, butFakes, keyOf, lastPasses, isPaused, inWarp, isWarped, isFake, isJudgable}
 use Rattle.lookup.specs.inside.Finding.{keyAt, Split}
 use Rattle.lookup_tests.proofs.RowsRise.{never}
 use Rattle.lookup.proofs.FoundEntries.{of-next, last-found}
@@ -64,35 +61,36 @@ some-paused key (beat ∷ beats) (value ∷ values) (suc place) h k e l = go (eq
     go false s r = r
 
 -- ---- warped: the last warp covers the row, and it is not paused
-module _ (stopBeats stopValues delayBeats delayValues warpBeats warpLengths fakeBeats fakeLengths : List Float) (asked : ℤ) where
+module _ (lists : WarpLists) (asked : ℤ) where
   pub record Warped : Type 0 where
-    pub covered : inWarp stopBeats stopValues delayBeats delayValues warpBeats warpLengths asked ≡ true
-    pub noStop : isPaused (rowKey asked) stopBeats stopValues ≡ false
-    pub noDelay : isPaused (rowKey asked) delayBeats delayValues ≡ false
+    pub covered : inWarp lists asked ≡ true
+    pub noStop : isPaused (rowKey asked) (lists .stops .beats) (lists .stops .values) ≡ false
+    pub noDelay : isPaused (rowKey asked) (lists .delays .beats) (lists .delays .values) ≡ false
 
-  pub warped-means : isWarped stopBeats stopValues delayBeats delayValues warpBeats warpLengths asked ≡ true → Warped
+  pub warped-means : isWarped lists asked ≡ true → Warped
   unfolding isWarped
-  warped-means h = go (inWarp stopBeats stopValues delayBeats delayValues warpBeats warpLengths asked) (isPaused (rowKey asked) stopBeats stopValues) (isPaused (rowKey asked) delayBeats delayValues) refl refl refl h
+  warped-means h = go (inWarp lists asked) (isPaused (rowKey asked) (lists .stops .beats) (lists .stops .values)) (isPaused (rowKey asked) (lists .delays .beats) (lists .delays .values)) refl refl refl h
     where
-      go : (w s d : Bool) → inWarp stopBeats stopValues delayBeats delayValues warpBeats warpLengths asked ≡ w → isPaused (rowKey asked) stopBeats stopValues ≡ s → isPaused (rowKey asked) delayBeats delayValues ≡ d
+      go : (w s d : Bool) → inWarp lists asked ≡ w → isPaused (rowKey asked) (lists .stops .beats) (lists .stops .values) ≡ s → isPaused (rowKey asked) (lists .delays .beats) (lists .delays .values) ≡ d
           → pick w (pick s false (not d)) false ≡ true → Warped
       go true false false a b c k = record { covered = a; noStop = b; noDelay = c }
       go true false true a b c k = never k
       go true true d a b c k = never k
       go false s d a b c k = never k
 
-  pub warped-so : Warped → isWarped stopBeats stopValues delayBeats delayValues warpBeats warpLengths asked ≡ true
+  pub warped-so : Warped → isWarped lists asked ≡ true
   unfolding isWarped
   warped-so p = rw (p .covered, p .noStop, p .noDelay)
 
-  -- ---- judgable: neither
-  pub judgable-means : isJudgable stopBeats stopValues delayBeats delayValues warpBeats warpLengths fakeBeats fakeLengths asked ≡ true
-      → (isWarped stopBeats stopValues delayBeats delayValues warpBeats warpLengths asked ≡ false) × (isFake fakeBeats fakeLengths asked ≡ false)
+-- ---- judgable: neither
+module _ (lists : LookupLists) (asked : ℤ) where
+  pub judgable-means : isJudgable lists asked ≡ true
+      → (isWarped (butFakes lists) asked ≡ false) × (isFake (lists .fakes) asked ≡ false)
   unfolding isJudgable
-  judgable-means h = go (isWarped stopBeats stopValues delayBeats delayValues warpBeats warpLengths asked) (isFake fakeBeats fakeLengths asked) refl refl h
+  judgable-means h = go (isWarped (butFakes lists) asked) (isFake (lists .fakes) asked) refl refl h
     where
-      go : (w f : Bool) → isWarped stopBeats stopValues delayBeats delayValues warpBeats warpLengths asked ≡ w → isFake fakeBeats fakeLengths asked ≡ f → pick w false (not f) ≡ true
-          → (isWarped stopBeats stopValues delayBeats delayValues warpBeats warpLengths asked ≡ false) × (isFake fakeBeats fakeLengths asked ≡ false)
+      go : (w f : Bool) → isWarped (butFakes lists) asked ≡ w → isFake (lists .fakes) asked ≡ f → pick w false (not f) ≡ true
+          → (isWarped (butFakes lists) asked ≡ false) × (isFake (lists .fakes) asked ≡ false)
       go false false a b k = (a, b)
       go false true a b k = never k
       go true f a b k = never k
