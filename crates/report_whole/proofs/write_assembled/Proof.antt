@@ -78,7 +78,7 @@ compute-timing-segments-requires : tie.Need-compute-timing-segments-requires
 compute-timing-segments-requires c κs = search needs
 
 slice-aggregate-front-f32 : tie.Need-slice-aggregate-front-f32
-slice-aggregate-front-f32 c = sym (c .before .before .before .before .before .before .before .before .before .before .before .before .before .before .before .before .before .before .compute-timing-segments .kept .1 .1 .1 .1 .1 .1 .1 .1 .1 .1 .1 .1 .1 .1 .1 .1 .1 .1 .1 .1 .1 .1 .1 .1 .1 .0)
+slice-aggregate-front-f32 c = sym (c .before .before .before .before .before .before .before .before .before .before .before .before .before .before .before .before .before .compute-timing-segments .kept .1 .1 .1 .1 .1 .1 .1 .1 .1 .1 .1 .1 .1 .1 .1 .1 .1 .1 .1 .1 .1 .1 .1 .1 .1 .0)
 
 front-f32-requires : tie.Need-front-f32-requires
 front-f32-requires c κs = search needs
@@ -143,7 +143,7 @@ same-length c = c .before .before .write-answer .kept .0
 returns : tie.Need-returns
 returns c =
     let made = c .before .before .before .before .before .before .before .before .before .before .before .before .before .before .before .before .before .before .before .before .before .before .before .before .before .before .before .before .before .before .before .before .before .before .before .before .before .before .before .compute-timing-segments .ensures in
-    let sum = c .before .before .before .before .before .before .before .before .before .before .before .before .before .before .before .before .before .before .warped-rows .ensures ∙ ap warpedCount (c .before .before .before .before .before .before .before .before .before .before .before .before .before .before .before .before .before .before .before .front-f32 .ensures) in
+    let sum = c .before .before .before .before .before .before .before .before .before .before .before .before .before .before .before .before .before .before .before .before .warped-rows .ensures ∙ ap warpedCount (c .before .before .before .before .before .before .before .before .before .before .before .before .before .before .before .before .before .before .before .before .before .front-f32 .ensures) in
     let put = c .before .before .write-answer .ensures in
     let text = assembled-text _ _ (length-replicate {A = Float} 256 (ofBits binary32 0)) (length-replicate {A = ℕ} 256 0) made sum in
     (wrote-as text (put .0), put .1)
