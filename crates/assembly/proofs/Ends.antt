@@ -17,7 +17,6 @@ use Rattle.columns.specs.Laying.{roomNumber, LaidPair, LaidList}
 use Rattle.columns.proofs.Rooms.{nothing-given, list-of-pair}
 use Rattle.process_raw.specs.RawLists.{roomFor}
 use Rattle.tidy_speeds_entries.specs.Speed.{SpeedEntry}
-use Rattle.tidy_speeds_entries.specs.LaidSpeeds.{leastOf, LaidSpeeds}
 use Rattle.tidy_speeds.specs.SpeedTidying.{speedListNumber}
 use Rattle.process.specs.ByFormat.{ThreeLists}
 use Rattle.assembly_rows.specs.AssembledRows.{changeBy, assembledRows, RowsUntested, rowsFit}
@@ -25,28 +24,27 @@ use Rattle.assembly_rows.proofs.QuantizedTaken.{quantized-taken}
 use Rattle.assembly_rows.proofs.Untested.{untested-taken}
 use Rattle.assembly_scrolls.specs.AssembledScrolls.{assembledScrolls, scrollsRoomNumber, scrollsLater}
 use Rattle.assembly_scrolls.proofs.Untested as scrolls
-use Rattle.assembly_speeds.specs.AssembledSpeeds.{assembledSpeeds, speedsRoomNumber, speedsLater}
+use Rattle.assembly_speeds.specs.AssembledSpeeds.{assembledSpeeds, speedsRoomNumber, speedsLater, SpeedsOver}
 use Rattle.assembly_speeds.proofs.Untested as speeds
 use Rattle.assembly_tempos.specs.declared.AssembledTempos.{AssembledTempos}
-use Rattle.assembly_tempos.specs.AssembledTempos.{verdict, fitNumber, threeRooms, ThreeLaid}
+use Rattle.assembly_warps.specs.LentLists.{ThreeColumns}
+use Rattle.assembly_tempos.specs.AssembledTempos.{verdict, fitNumber, roomsNumber, ListWritten, ThreeLaid}
 use Rattle.assembly_tempos.proofs.RowsFit.{fit-number}
 use Rattle.chart.specs.declared.TimingFormat.{TimingFormat}
 use Rattle.chart.specs.ChartColumns.{ListColumns, SpeedColumns, ChartColumns}
 use Rattle.assembly.specs.declared.Assembled.{Assembled}
 use Rattle.assembly.specs.inside.ProcessedPart.{processedPart}
-use Rattle.assembly.specs.Assembly.{listTests, assembledDelays, assembledFakes, othersNumber, othersLater, sevenNumber, processedChart, roomOf, ListWritten, SpeedsWritten, SpeedsLaid, Assembles}
+use Rattle.assembly.specs.Assembly.{listTests, assembledDelays, assembledFakes, othersNumber, othersLater, sevenNumber, processedTogether, processedChart, roomOf, SpeedsWritten, Assembles}
 
 -- ---- four columns under one number
 
-pub speeds-refused : {number : ℕ} {result : List SpeedEntry} {beatsOld ratiosOld delaysOld : List Float} {unitsOld : List ℕ} → (number ≡ 0 → ⊥) → SpeedsLaid number result 0 beatsOld beatsOld ratiosOld ratiosOld delaysOld delaysOld unitsOld unitsOld
+pub speeds-refused : {number : ℕ} {result : List SpeedEntry} {old : SpeedColumns} → (number ≡ 0 → ⊥) → SpeedsWritten number result 0 old old
 unfolding laid
 speeds-refused {number} {result} h =
     let none = nothing-given result number h in
     record { counted = rw none; beatsAre = rw none; ratiosAre = rw none; delaysAre = rw none; unitsAre = rw none }
 
-pub speeds-laid : {tests : ℕ} {result : List SpeedEntry} {outcome : Outcome} {beatsOld beatsNew ratiosOld ratiosNew delaysOld delaysNew : List Float} {unitsOld unitsNew : List ℕ}
-    → LaidSpeeds tests result outcome beatsOld beatsNew ratiosOld ratiosNew delaysOld delaysNew unitsOld unitsNew → outcome .number ≡ 0
-    → SpeedsLaid 0 result (outcome .count) beatsOld beatsNew ratiosOld ratiosNew delaysOld delaysNew unitsOld unitsNew
+pub speeds-laid : {tests : ℕ} {result : List SpeedEntry} {outcome : Outcome} {old new : SpeedColumns} → SpeedsOver tests result outcome old new → outcome .number ≡ 0 → SpeedsWritten 0 result (outcome .count) old new
 speeds-laid p h = record { counted = rw h at (p .count); beatsAre = rw h at (p .beatsAre); ratiosAre = rw h at (p .ratiosAre); delaysAre = rw h at (p .delaysAre); unitsAre = rw h at (p .unitsAre) }
 
 -- ---- the number of all
@@ -65,19 +63,16 @@ none-refused raw warps most later h = go (eqb raw 0) (leb warps (min most 1024))
     go false u a k = let z : _≡_ {A = Bool} true false = sym (eq-eqb raw 0 k) ∙ a in let w : _≡_ {A = ℕ} 0 1 = cc in absurd (omega arith)
 
 -- what comes later counts only where the raw lists are taken
-pub same-later : {raw later later′ most : ℕ} {lists : ThreeLists} {outcome : AssembledTempos} {tempoBeatsOld tempoBeatsNew tempoValuesOld tempoValuesNew stopBeatsOld stopBeatsNew stopValuesOld stopValuesNew warpBeatsOld warpBeatsNew warpLengthsOld warpLengthsNew : List Float} → (raw ≡ 0 → later ≡ later′)
-    → ThreeLaid raw later most lists outcome tempoBeatsOld tempoBeatsNew tempoValuesOld tempoValuesNew stopBeatsOld stopBeatsNew stopValuesOld stopValuesNew warpBeatsOld warpBeatsNew warpLengthsOld warpLengthsNew
-    → ThreeLaid raw later′ most lists outcome tempoBeatsOld tempoBeatsNew tempoValuesOld tempoValuesNew stopBeatsOld stopBeatsNew stopValuesOld stopValuesNew warpBeatsOld warpBeatsNew warpLengthsOld warpLengthsNew
+pub same-later : {raw later later′ most : ℕ} {lists : ThreeLists} {outcome : AssembledTempos} {old new : ThreeColumns} → (raw ≡ 0 → later ≡ later′)
+    → ThreeLaid raw later most lists outcome old new
+    → ThreeLaid raw later′ most lists outcome old new
 unfolding verdict
-same-later {raw} {later} {later′} {most} {lists} {outcome} {tempoBeatsOld} {tempoBeatsNew} {tempoValuesOld} {tempoValuesNew} {stopBeatsOld} {stopBeatsNew} {stopValuesOld} {stopValuesNew} {warpBeatsOld} {warpBeatsNew} {warpLengthsOld} h p =
+same-later {raw} {later} {later′} {most} {lists} {outcome} {old} h p =
     record { number = p .number ∙ go (eqb raw 0) (eqb-true raw 0); temposLaid = p .temposLaid; stopsLaid = p .stopsLaid; warpsLaid = p .warpsLaid; offsetIs = p .offsetIs }
   where
-    rooms : ℕ
-    rooms = threeRooms lists (roomFor tempoBeatsOld tempoValuesOld) (roomFor stopBeatsOld stopValuesOld) (roomFor warpBeatsOld warpLengthsOld)
-
     go : (t : Bool) → (t ≡ true → raw ≡ 0)
-        → pick t (pick (leb (length (lists .warps)) (min most 1024)) (lower later (threeRooms lists (roomFor tempoBeatsOld tempoValuesOld) (roomFor stopBeatsOld stopValuesOld) (roomFor warpBeatsOld warpLengthsOld))) 1) raw
-        ≡ pick t (pick (leb (length (lists .warps)) (min most 1024)) (lower later′ (threeRooms lists (roomFor tempoBeatsOld tempoValuesOld) (roomFor stopBeatsOld stopValuesOld) (roomFor warpBeatsOld warpLengthsOld))) 1) raw
+        → pick t (pick (leb (length (lists .warps)) (min most 1024)) (lower later (roomsNumber lists old)) 1) raw
+        ≡ pick t (pick (leb (length (lists .warps)) (min most 1024)) (lower later′ (roomsNumber lists old)) 1) raw
     go true e = rw (h (e refl))
     go false e = refl
 
@@ -103,27 +98,27 @@ module _ (delay : ListColumns) (speed : SpeedColumns) (scroll fake : ListColumns
 
   module _ (delayRoom speedRoom scrollRoom fakeRoom : ℕ) where
     pub later-is : othersNumber delay speed scroll fake ≡ 0
-        → lower (lower (lower (pick (rowsFit false (delay .beats) (delay .values) delayRoom) 0 7) (speedsLater (speed .beats) (speed .ratios) (speed .delays) (speed .units) speedRoom)) (scrollsLater (scroll .beats) (scroll .values) scrollRoom)) (pick (rowsFit true (fake .beats) (fake .values) fakeRoom) 0 7)
+        → lower (lower (lower (pick (rowsFit false (delay .beats) (delay .values) delayRoom) 0 7) (speedsLater speed speedRoom)) (scrollsLater (scroll .beats) (scroll .values) scrollRoom)) (pick (rowsFit true (fake .beats) (fake .values) fakeRoom) 0 7)
         ≡ othersLater delay speed scroll fake delayRoom speedRoom scrollRoom fakeRoom
     later-is h =
         let taken = others-taken h in
         rw (
           fit-number false (delay .beats) (delay .values) delayRoom (taken .delays),
           fit-number true (fake .beats) (fake .values) fakeRoom (taken .fakes),
-          speeds.later-taken (speed .beats) (speed .ratios) (speed .delays) (speed .units) (taken .speeds) speedRoom,
+          speeds.later-taken speed (taken .speeds) speedRoom,
           scrolls.later-taken (scroll .beats) (scroll .values) (taken .scrolls) scrollRoom,
         )
 
     pub record OthersFit : Type 0 where
       pub delaysFit : fitNumber (assembledDelays (delay .beats) (delay .values)) delayRoom ≡ 0
-      pub speedsFit : speedsRoomNumber (speed .beats) (speed .ratios) (speed .delays) (speed .units) speedRoom ≡ 0
+      pub speedsFit : speedsRoomNumber speed speedRoom ≡ 0
       pub scrollsFit : scrollsRoomNumber (scroll .beats) (scroll .values) scrollRoom ≡ 0
       pub fakesFit : fitNumber (assembledFakes (fake .beats) (fake .values)) fakeRoom ≡ 0
 
     pub others-fit : othersLater delay speed scroll fake delayRoom speedRoom scrollRoom fakeRoom ≡ 0 → OthersFit
     others-fit h =
         let d = fitNumber (assembledDelays (delay .beats) (delay .values)) delayRoom in
-        let s = speedsRoomNumber (speed .beats) (speed .ratios) (speed .delays) (speed .units) speedRoom in
+        let s = speedsRoomNumber speed speedRoom in
         let c = scrollsRoomNumber (scroll .beats) (scroll .values) scrollRoom in
         let f = fitNumber (assembledFakes (fake .beats) (fake .values)) fakeRoom in
         let one = lower-none (lower (lower d s) c) f h in
@@ -141,15 +136,15 @@ rows-laid whole beats values {outcome} {beatsOld} {beatsNew} {valuesOld} {values
 
 -- ---- what tempos, stops and warps answer is the number of all
 
-module _ (three other′ later′ : ℕ) {other later most : ℕ} {lists : ThreeLists} {outcome : AssembledTempos} {tempoBeatsOld tempoBeatsNew tempoValuesOld tempoValuesNew stopBeatsOld stopBeatsNew stopValuesOld stopValuesNew warpBeatsOld warpBeatsNew warpLengthsOld warpLengthsNew : List Float} where
+module _ (three other′ later′ : ℕ) {other later most : ℕ} {lists : ThreeLists} {outcome : AssembledTempos} {old new : ThreeColumns} where
   pub as-asked : other ≡ other′ → (other′ ≡ 0 → later ≡ later′)
-      → ThreeLaid (lower three other) later most lists outcome tempoBeatsOld tempoBeatsNew tempoValuesOld tempoValuesNew stopBeatsOld stopBeatsNew stopValuesOld stopValuesNew warpBeatsOld warpBeatsNew warpLengthsOld warpLengthsNew
-      → ThreeLaid (lower three other′) later′ most lists outcome tempoBeatsOld tempoBeatsNew tempoValuesOld tempoValuesNew stopBeatsOld stopBeatsNew stopValuesOld stopValuesNew warpBeatsOld warpBeatsNew warpLengthsOld warpLengthsNew
+      → ThreeLaid (lower three other) later most lists outcome old new
+      → ThreeLaid (lower three other′) later′ most lists outcome old new
   as-asked e h p = same-later (λ z. h (lower-none three other′ z .1)) (rw e at p)
 
-module _ {raw later most : ℕ} {lists : ThreeLists} {outcome : AssembledTempos} {tempoBeatsOld tempoBeatsNew tempoValuesOld tempoValuesNew stopBeatsOld stopBeatsNew stopValuesOld stopValuesNew warpBeatsOld warpBeatsNew warpLengthsOld warpLengthsNew : List Float}
-    (p : ThreeLaid raw later most lists outcome tempoBeatsOld tempoBeatsNew tempoValuesOld tempoValuesNew stopBeatsOld stopBeatsNew stopValuesOld stopValuesNew warpBeatsOld warpBeatsNew warpLengthsOld warpLengthsNew) (taken : outcome .number ≡ 0) where
-  pub taken-part : ThreeLaid raw later most lists (record { number = 0; tempos = outcome .tempos; stops = outcome .stops; warps = outcome .warps; offset = outcome .offset }) tempoBeatsOld tempoBeatsNew tempoValuesOld tempoValuesNew stopBeatsOld stopBeatsNew stopValuesOld stopValuesNew warpBeatsOld warpBeatsNew warpLengthsOld warpLengthsNew
+module _ {raw later most : ℕ} {lists : ThreeLists} {outcome : AssembledTempos} {old new : ThreeColumns}
+    (p : ThreeLaid raw later most lists outcome old new) (taken : outcome .number ≡ 0) where
+  pub taken-part : ThreeLaid raw later most lists (record { number = 0; tempos = outcome .tempos; stops = outcome .stops; warps = outcome .warps; offset = outcome .offset }) old new
   taken-part = record {
     number = sym taken ∙ p .number;
     temposLaid = rw taken at (p .temposLaid);
@@ -160,7 +155,7 @@ module _ {raw later most : ℕ} {lists : ThreeLists} {outcome : AssembledTempos}
 
   pub all-passed : (raw ≡ 0) × (later ≡ 0)
   all-passed =
-      let rooms = threeRooms lists (roomFor tempoBeatsOld tempoValuesOld) (roomFor stopBeatsOld stopValuesOld) (roomFor warpBeatsOld warpLengthsOld) in
+      let rooms = roomsNumber lists old in
       let passed = none-refused raw (length (lists .warps)) most (lower later rooms) (sym (p .number) ∙ taken) in
       (passed .rawTaken, lower-none later rooms (passed .laterTaken) .0)
 
@@ -169,9 +164,9 @@ module _ {raw later most : ℕ} {lists : ThreeLists} {outcome : AssembledTempos}
 -- what tempos, stops and warps leave, and what each other list does
 pub assembles : {most : ℕ} {format : TimingFormat} {raw : ChartColumns} {outcome : Assembled} {old new : ChartColumns}
     → ThreeLaid (sevenNumber raw) (othersLater (raw .delays) (raw .speeds) (raw .scrolls) (raw .fakes) (roomOf old .delays) (roomOf old .speeds) (roomOf old .scrolls) (roomOf old .fakes)) most (processedChart format raw) (processedPart outcome)
-    (old .tempos .beats) (new .tempos .beats) (old .tempos .values) (new .tempos .values) (old .stops .beats) (new .stops .beats) (old .stops .values) (new .stops .values) (old .warps .beats) (new .warps .beats) (old .warps .values) (new .warps .values)
+    (processedTogether old) (processedTogether new)
     → ListWritten (outcome .number) (assembledDelays (raw .delays .beats) (raw .delays .values)) (outcome .delays) (old .delays) (new .delays)
-    → SpeedsWritten (outcome .number) (assembledSpeeds (raw .speeds .beats) (raw .speeds .ratios) (raw .speeds .delays) (raw .speeds .units)) (outcome .speeds) (old .speeds) (new .speeds)
+    → SpeedsWritten (outcome .number) (assembledSpeeds (raw .speeds)) (outcome .speeds) (old .speeds) (new .speeds)
     → ListWritten (outcome .number) (assembledScrolls (raw .scrolls .beats) (raw .scrolls .values)) (outcome .scrolls) (old .scrolls) (new .scrolls)
     → ListWritten (outcome .number) (assembledFakes (raw .fakes .beats) (raw .fakes .values)) (outcome .fakes) (old .fakes) (new .fakes)
     → Assembles most format raw outcome old new

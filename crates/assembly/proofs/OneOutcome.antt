@@ -2,19 +2,15 @@
 use Prim.Native.Nat.{ℕ}
 use mathlib.Core.Path.{_≡_, sym, _∙_}
 use mathlib.Core.List.{List}
-use lib.Ieee.{Float}
 use Rattle.columns.proofs.OneOutcome.{one-list}
 use Rattle.chart.specs.declared.TimingFormat.{TimingFormat}
-use Rattle.chart.specs.ChartColumns.{ChartColumns}
+use Rattle.chart.specs.ChartColumns.{SpeedColumns, ChartColumns}
 use Rattle.tidy_speeds_entries.specs.Speed.{SpeedEntry}
 use Rattle.assembly.specs.declared.Assembled.{Assembled}
-use Rattle.assembly.specs.Assembly.{SpeedsLaid, Assembles}
+use Rattle.assembly.specs.Assembly.{SpeedsWritten, Assembles}
 
-one-speeds : {number : ℕ} {result : List SpeedEntry} {countA countB : ℕ}
-    {beatsOld beatsA beatsB ratiosOld ratiosA ratiosB delaysOld delaysA delaysB : List Float} {unitsOld unitsA unitsB : List ℕ}
-    → SpeedsLaid number result countA beatsOld beatsA ratiosOld ratiosA delaysOld delaysA unitsOld unitsA
-    → SpeedsLaid number result countB beatsOld beatsB ratiosOld ratiosB delaysOld delaysB unitsOld unitsB
-    → (countA ≡ countB) × (beatsA ≡ beatsB) × (ratiosA ≡ ratiosB) × (delaysA ≡ delaysB) × (unitsA ≡ unitsB)
+one-speeds : {number : ℕ} {result : List SpeedEntry} {countA countB : ℕ} {old newA newB : SpeedColumns} → SpeedsWritten number result countA old newA → SpeedsWritten number result countB old newB
+    → (countA ≡ countB) × (newA .beats ≡ newB .beats) × (newA .ratios ≡ newB .ratios) × (newA .delays ≡ newB .delays) × (newA .units ≡ newB .units)
 one-speeds x y = (cc, cc, cc, cc, cc)
 
 pub one-outcome : {most : ℕ} {format : TimingFormat} {raw old newA newB : ChartColumns} {a b : Assembled}

@@ -23,6 +23,8 @@ use Rattle.stops_for_sm.specs.Filling as filling
 use Rattle.stops_for_sm.specs.Filling.{flat}
 use Rattle.chart.specs.declared.TimingFormat.{TimingFormat}
 use Rattle.process.specs.ByFormat.{ThreeLists}
+use Rattle.chart.specs.ChartColumns.{listColumns}
+use Rattle.assembly_warps.specs.LentLists.{threeColumns}
 use Rattle.assembly_warps.specs.MergedWarps.{warpsNumber, threeNumber, mergedLists}
 use Rattle.assembly_rows.specs.AssembledRows.{changeBy, assembledRows}
 use Rattle.assembly_rows.proofs.QuantizedTaken.{quantized-taken}
@@ -43,29 +45,29 @@ pub fakes-tidy : (beats lengths : List Float) → listTests beats lengths ≡ 0 
 fakes-tidy beats lengths h = lengths-tidy (changeBy true) beats lengths (quantized-taken beats lengths true h)
 
 -- ---- lists that are processed first: raw lists that are taken, and no more warps than a list may have
-module _ (format : TimingFormat) (tempoBeats tempoValues stopBeats stopValues warpBeats warpLengths : List Float) (taken : threeNumber tempoBeats tempoValues stopBeats stopValues warpBeats warpLengths ≡ 0) where
+module _ (format : TimingFormat) (tempoBeats tempoValues stopBeats stopValues warpBeats warpLengths : List Float) (taken : threeNumber (threeColumns tempoBeats tempoValues stopBeats stopValues warpBeats warpLengths) ≡ 0) where
   abbrev lists : ThreeLists
-  lists = mergedLists format tempoBeats tempoValues stopBeats stopValues warpBeats warpLengths
+  lists = mergedLists format (threeColumns tempoBeats tempoValues stopBeats stopValues warpBeats warpLengths)
 
   -- stops are on rows, so that quantising them again changes nothing
   stops-are : assembledStops lists ≡ assembledRows (changeBy false) (map first (lists .stops)) (map second (lists .stops))
   unfolding assembledRows
-  stops-are = rw (stops-on-rows format tempoBeats tempoValues stopBeats stopValues warpBeats warpLengths taken, map-id (map second (lists .stops)))
+  stops-are = rw (stops-on-rows format (threeColumns tempoBeats tempoValues stopBeats stopValues warpBeats warpLengths) taken, map-id (map second (lists .stops)))
 
   pub stops-tidy : TidyRows (rangeOf Pause) (assembledStops lists)
   stops-tidy =
       rw stops-are
       (pauses-tidy (changeBy false) (map first (lists .stops)) (map second (lists .stops))
-      (quantized-taken (map first (lists .stops)) (map second (lists .stops)) false (merged-stops format tempoBeats tempoValues stopBeats stopValues warpBeats warpLengths taken)))
+      (quantized-taken (map first (lists .stops)) (map second (lists .stops)) false (merged-stops format (threeColumns tempoBeats tempoValues stopBeats stopValues warpBeats warpLengths) taken)))
 
   pub warps-tidy : length (lists .warps) ≤ 1024 → TidyRows (rangeOf Value) (assembledWarps lists)
   warps-tidy few =
       lengths-tidy (changeBy true) (map first (lists .warps)) (map second (lists .warps))
-      (quantized-taken (map first (lists .warps)) (map second (lists .warps)) true (merged-warps format tempoBeats tempoValues stopBeats stopValues warpBeats warpLengths taken (rw (length-map (lists .warps) first) few)))
+      (quantized-taken (map first (lists .warps)) (map second (lists .warps)) true (merged-warps format (threeColumns tempoBeats tempoValues stopBeats stopValues warpBeats warpLengths) taken (rw (length-map (lists .warps) first) few)))
 
   -- tempos start at beat 0, rise strictly by row, and none is 0
   pub tempos-tidy : TidyTempos (assembledTempos lists)
-  tempos-tidy = processed.tempos-tidy format tempoBeats tempoValues stopBeats stopValues (lower-none (rawNumbers tempoBeats tempoValues stopBeats stopValues) (warpsNumber warpBeats warpLengths) taken .0)
+  tempos-tidy = processed.tempos-tidy format tempoBeats tempoValues stopBeats stopValues (lower-none (rawNumbers tempoBeats tempoValues stopBeats stopValues) (warpsNumber (listColumns warpBeats warpLengths)) taken .0)
 
   -- ---- all lists
   module _ (few : length (lists .warps) ≤ 1024) (delayBeats delayValues : List Float) (delays : listTests delayBeats delayValues ≡ 0) where

@@ -34,7 +34,8 @@ scrollsRoomNumber beats values room = roomNumber (assembledScrollsNumber beats v
 
 -- the same of a list that is known to be taken: 0 at once where the room holds all that is given and no beat is above the next
 unfoldable pub scrollsLater : List Float → List Float → ℕ → ℕ
-scrollsLater beats values room = pick (leb (length beats) room) (pick (everyTwo notFalling beats) 0 (scrollsRoomNumber beats values room)) (scrollsRoomNumber beats values room)
+scrollsLater beats values room =
+    pick (leb (length beats) room) (pick (everyTwo notFalling beats) 0 (scrollsRoomNumber beats values room)) (scrollsRoomNumber beats values room)
 
 -- ---- a list that is not tested first
 
@@ -44,7 +45,8 @@ riseApart beats values = pick (everyTwo lt beats) (everyTwo farFrom values) fals
 
 -- whether each is laid by itself: columns of one length, that of a list, and quantised beats with their values as that says
 unfoldable pub scrollsByThemselves : List Float → List Float → Bool
-scrollsByThemselves beats values = pick (eqb (length beats) (length values)) (pick (leb (length beats) mostEntries) (riseApart (map quantized beats) values) false) false
+scrollsByThemselves beats values =
+    pick (eqb (length beats) (length values)) (pick (leb (length beats) mostEntries) (riseApart (map quantized beats) values) false) false
 
 -- the one outcome of the call that tests no number: any other list is assembled. Of a list that is taken both are the same
 abbrev pub ScrollsUntested : List Float → List Float → Outcome → List Float → List Float → List Float → List Float → Type 0

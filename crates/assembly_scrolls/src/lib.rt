@@ -15,8 +15,8 @@ fn assemble_in(
     out_beats: &mut [f32],
     out_values: &mut [f32],
 ) -> Outcome
-    requires { ⌜ (length (now «work_beats») ≡ length (now beats)) × (length (now «tidy_beats») ≡ length (now beats)) × (length (now «tidy_values») ≡ length (now beats)) ⌝ }
-    ensures { λ r. ⌜ ScrollsAssembled (now (beats .entry)) (now (values .entry)) r (now («out_beats» .entry)) (now («out_beats» .exit)) (now («out_values» .entry)) (now («out_values» .exit)) ⌝ }
+    requires { ⌜ (length «work_beats».now ≡ length beats.now) × (length «tidy_beats».now ≡ length beats.now) × (length «tidy_values».now ≡ length beats.now) ⌝ }
+    ensures { λ r. ⌜ ScrollsAssembled beats.entry.now values.entry.now r «out_beats».entry.now «out_beats».exit.now «out_values».entry.now «out_values».exit.now ⌝ }
 {
     assembly_rows::quantize_column(beats, work_beats);
     let tidied = tidy_scrolls::tidy_scroll_segments(work_beats, values, tidy_beats, tidy_values);
@@ -37,8 +37,8 @@ fn assemble_few(
     out_beats: &mut [f32],
     out_values: &mut [f32],
 ) -> Outcome
-    requires { ⌜ length (now beats) ≤ 64 ⌝ }
-    ensures { λ r. ⌜ ScrollsAssembled (now (beats .entry)) (now (values .entry)) r (now («out_beats» .entry)) (now («out_beats» .exit)) (now («out_values» .entry)) (now («out_values» .exit)) ⌝ }
+    requires { ⌜ length beats.now ≤ 64 ⌝ }
+    ensures { λ r. ⌜ ScrollsAssembled beats.entry.now values.entry.now r «out_beats».entry.now «out_beats».exit.now «out_values».entry.now «out_values».exit.now ⌝ }
 {
     let n = beats.len();
     let mut work_beats = [0.0; limits::FEW];
@@ -62,8 +62,8 @@ fn assemble_many(
     out_beats: &mut [f32],
     out_values: &mut [f32],
 ) -> Outcome
-    requires { ⌜ length (now beats) ≤ 1024 ⌝ }
-    ensures { λ r. ⌜ ScrollsAssembled (now (beats .entry)) (now (values .entry)) r (now («out_beats» .entry)) (now («out_beats» .exit)) (now («out_values» .entry)) (now («out_values» .exit)) ⌝ }
+    requires { ⌜ length beats.now ≤ 1024 ⌝ }
+    ensures { λ r. ⌜ ScrollsAssembled beats.entry.now values.entry.now r «out_beats».entry.now «out_beats».exit.now «out_values».entry.now «out_values».exit.now ⌝ }
 {
     let n = beats.len();
     let mut work_beats = [0.0; limits::MOST_ENTRIES];
@@ -86,8 +86,8 @@ fn assemble_any(
     out_beats: &mut [f32],
     out_values: &mut [f32],
 ) -> Outcome
-    requires { ⌜ length (now beats) ≤ 1024 ⌝ }
-    ensures { λ r. ⌜ ScrollsAssembled (now (beats .entry)) (now (values .entry)) r (now («out_beats» .entry)) (now («out_beats» .exit)) (now («out_values» .entry)) (now («out_values» .exit)) ⌝ }
+    requires { ⌜ length beats.now ≤ 1024 ⌝ }
+    ensures { λ r. ⌜ ScrollsAssembled beats.entry.now values.entry.now r «out_beats».entry.now «out_beats».exit.now «out_values».entry.now «out_values».exit.now ⌝ }
 {
     if beats.len() <= limits::FEW {
         return assemble_few(beats, values, out_beats, out_values);
@@ -99,7 +99,7 @@ fn assemble_any(
 
 // Whether each beat is below the next, and no value near the one before it.
 pub fn rise_apart(beats: &[f32], values: &[f64]) -> bool
-    ensures { λ r. ⌜ r ≡ riseApart (now (beats .entry)) (now (values .entry)) ⌝ }
+    ensures { λ r. ⌜ r ≡ riseApart beats.entry.now values.entry.now ⌝ }
 {
     if assembly_rows::rise(beats) {
         return tidy_kept::all_apart(values);
@@ -114,8 +114,8 @@ fn assemble_by(
     out_beats: &mut [f32],
     out_values: &mut [f32],
 ) -> Outcome
-    requires { ⌜ (length (now beats) ≤ 1024) × (length (now values) ≡ length (now beats)) × (length (now quantised) ≡ length (now beats)) ⌝ }
-    ensures { λ r. ⌜ ScrollsUntested (now (beats .entry)) (now (values .entry)) r (now («out_beats» .entry)) (now («out_beats» .exit)) (now («out_values» .entry)) (now («out_values» .exit)) ⌝ }
+    requires { ⌜ (length beats.now ≤ 1024) × (length values.now ≡ length beats.now) × (length quantised.now ≡ length beats.now) ⌝ }
+    ensures { λ r. ⌜ ScrollsUntested beats.entry.now values.entry.now r «out_beats».entry.now «out_beats».exit.now «out_values».entry.now «out_values».exit.now ⌝ }
 {
     assembly_rows::quantize_column_f32(beats, quantised);
     if rise_apart(quantised, values) {
@@ -130,8 +130,8 @@ fn assemble_by_few(
     out_beats: &mut [f32],
     out_values: &mut [f32],
 ) -> Outcome
-    requires { ⌜ (length (now beats) ≤ 64) × (length (now values) ≡ length (now beats)) ⌝ }
-    ensures { λ r. ⌜ ScrollsUntested (now (beats .entry)) (now (values .entry)) r (now («out_beats» .entry)) (now («out_beats» .exit)) (now («out_values» .entry)) (now («out_values» .exit)) ⌝ }
+    requires { ⌜ (length beats.now ≤ 64) × (length values.now ≡ length beats.now) ⌝ }
+    ensures { λ r. ⌜ ScrollsUntested beats.entry.now values.entry.now r «out_beats».entry.now «out_beats».exit.now «out_values».entry.now «out_values».exit.now ⌝ }
 {
     let n = beats.len();
     let mut quantised = [0.0f32; limits::FEW];
@@ -144,8 +144,8 @@ fn assemble_by_many(
     out_beats: &mut [f32],
     out_values: &mut [f32],
 ) -> Outcome
-    requires { ⌜ (length (now beats) ≤ 1024) × (length (now values) ≡ length (now beats)) ⌝ }
-    ensures { λ r. ⌜ ScrollsUntested (now (beats .entry)) (now (values .entry)) r (now («out_beats» .entry)) (now («out_beats» .exit)) (now («out_values» .entry)) (now («out_values» .exit)) ⌝ }
+    requires { ⌜ (length beats.now ≤ 1024) × (length values.now ≡ length beats.now) ⌝ }
+    ensures { λ r. ⌜ ScrollsUntested beats.entry.now values.entry.now r «out_beats».entry.now «out_beats».exit.now «out_values».entry.now «out_values».exit.now ⌝ }
 {
     let n = beats.len();
     let mut quantised = [0.0f32; limits::MOST_ENTRIES];
@@ -162,7 +162,7 @@ pub fn assemble_scrolls(
     out_beats: &mut [f32],
     out_values: &mut [f32],
 ) -> Outcome
-    ensures { λ r. ⌜ ScrollsAssembled (now (beats .entry)) (now (values .entry)) r (now («out_beats» .entry)) (now («out_beats» .exit)) (now («out_values» .entry)) (now («out_values» .exit)) ⌝ }
+    ensures { λ r. ⌜ ScrollsAssembled beats.entry.now values.entry.now r «out_beats».entry.now «out_beats».exit.now «out_values».entry.now «out_values».exit.now ⌝ }
 {
     if beats.len() <= limits::MOST_ENTRIES {
         return assemble_any(beats, values, out_beats, out_values);
@@ -178,7 +178,7 @@ pub fn assemble_untested(
     out_beats: &mut [f32],
     out_values: &mut [f32],
 ) -> Outcome
-    ensures { λ r. ⌜ ScrollsUntested (now (beats .entry)) (now (values .entry)) r (now («out_beats» .entry)) (now («out_beats» .exit)) (now («out_values» .entry)) (now («out_values» .exit)) ⌝ }
+    ensures { λ r. ⌜ ScrollsUntested beats.entry.now values.entry.now r «out_beats».entry.now «out_beats».exit.now «out_values».entry.now «out_values».exit.now ⌝ }
 {
     if beats.len() != values.len() {
         return assemble_scrolls(beats, values, out_beats, out_values);
@@ -193,7 +193,7 @@ pub fn assemble_untested(
 }
 
 fn number_in(beats: &[f64], values: &[f64], room: usize) -> u32
-    ensures { λ r. ⌜ r ≡ scrollsRoomNumber (now (beats .entry)) (now (values .entry)) room ⌝ }
+    ensures { λ r. ⌜ r ≡ scrollsRoomNumber beats.entry.now values.entry.now room ⌝ }
 {
     if beats.len() > limits::MOST_ENTRIES {
         return limits::TOO_LONG;
@@ -208,7 +208,7 @@ fn number_in(beats: &[f64], values: &[f64], room: usize) -> u32
 // What `assemble_scrolls` answers where the shorter room has a length. Where that is no less than the list's and no beat is above the next it is 0 at once,
 // as it is of every such list that is taken: no number is tested.
 pub fn scrolls_number(beats: &[f64], values: &[f64], room: usize) -> u32
-    ensures { λ r. ⌜ r ≡ scrollsLater (now (beats .entry)) (now (values .entry)) room ⌝ }
+    ensures { λ r. ⌜ r ≡ scrollsLater beats.entry.now values.entry.now room ⌝ }
 {
     if beats.len() > room {
         return number_in(beats, values, room);

@@ -2,3 +2,4 @@ pub mod NarrowedSpeeds
 pub mod QuantizedTaken
 pub mod Outcomes
 pub mod Untested
+pub mod OneOutcome

@@ -12,6 +12,7 @@ use Rattle.order.specs.Entries.{entries, first, second}
 use Rattle.order.proofs.Columns.{length-entries, first-entries, second-entries}
 use Rattle.columns.specs.Each.{laidEach}
 use Rattle.columns.proofs.EachOverFront.{each-over-front}
+use Rattle.chart.specs.ChartColumns.{SpeedColumns, speedColumns}
 use Rattle.tidy_speeds_entries.specs.Speed.{SpeedEntry, speedValues, speedEntries}
 use Rattle.tidy_speeds_entries.specs.LaidSpeeds.{ratioOf, delayOf, unitOf, leastOf}
 use Rattle.tidy_speeds_entries.proofs.SpeedColumns.{many-values, many-speeds}
@@ -77,54 +78,54 @@ module _ (beats ratios delays : List Float) (units : List ℕ) (r : length beats
   units-so = sym (map-map second (λ (e : SpeedEntry). e .1 .1) list) ∙ ap (map second) (sym (map-map second second list) ∙ ap (map second) values-so ∙ lasts-so) ∙ second-entries delays units (omega arith)
 
 -- ---- a front, narrowed
-module _ (count n : ℕ) (beats ratios delays : List Float) (units : List ℕ) (h : n ≡ min count (leastOf (length beats) (length ratios) (length delays) (length units))) where
+module _ (count n : ℕ) (l : SpeedColumns) (h : n ≡ min count (leastOf (length (l .beats)) (length (l .ratios)) (length (l .delays)) (length (l .units)))) where
   abbrev front : List SpeedEntry
-  front = speedEntries (take n beats) (take n ratios) (take n delays) (take n units)
+  front = speedEntries (take n (l .beats)) (take n (l .ratios)) (take n (l .delays)) (take n (l .units))
 
-  is : narrowedSpeeds count beats ratios delays units ≡ map narrowedSpeed front
+  is : narrowedSpeeds count l ≡ map narrowedSpeed front
   is =
       ap (map narrowedSpeed)
-      (take-speeds count beats ratios delays units ∙ take-there count n (speedEntries beats ratios delays units) (omega (arith, many-speeds ratios delays units beats)) ∙ sym (take-speeds n beats ratios delays units))
+      (take-speeds count (l .beats) (l .ratios) (l .delays) (l .units) ∙ take-there count n (speedEntries (l .beats) (l .ratios) (l .delays) (l .units)) (omega (arith, many-speeds (l .ratios) (l .delays) (l .units) (l .beats))) ∙ sym (take-speeds n (l .beats) (l .ratios) (l .delays) (l .units)))
 
-  long : {A : Type 0} (l : List A) → n ≤ length l → length (take n l) ≡ n
-  long l k = length-take-le n l k
+  long : {A : Type 0} (column : List A) → n ≤ length column → length (take n column) ≡ n
+  long column k = length-take-le n column k
 
-  beats-long : length (take n beats) ≡ n
-  beats-long = long beats (omega arith)
+  beats-long : length (take n (l .beats)) ≡ n
+  beats-long = long (l .beats) (omega arith)
 
-  with-ratios : length (take n beats) ≡ length (take n ratios)
-  with-ratios = beats-long ∙ sym (long ratios (omega arith))
+  with-ratios : length (take n (l .beats)) ≡ length (take n (l .ratios))
+  with-ratios = beats-long ∙ sym (long (l .ratios) (omega arith))
 
-  with-delays : length (take n beats) ≡ length (take n delays)
-  with-delays = beats-long ∙ sym (long delays (omega arith))
+  with-delays : length (take n (l .beats)) ≡ length (take n (l .delays))
+  with-delays = beats-long ∙ sym (long (l .delays) (omega arith))
 
-  with-units : length (take n beats) ≡ length (take n units)
-  with-units = beats-long ∙ sym (long units (omega arith))
+  with-units : length (take n (l .beats)) ≡ length (take n (l .units))
+  with-units = beats-long ∙ sym (long (l .units) (omega arith))
 
-  pub front-length : length (narrowedSpeeds count beats ratios delays units) ≡ n
+  pub front-length : length (narrowedSpeeds count l) ≡ n
   front-length =
       ap length is ∙ length-map front narrowedSpeed ∙ sym (length-map front first)
-      ∙ ap length (beats-so (take n beats) (take n ratios) (take n delays) (take n units) with-ratios with-delays with-units) ∙ beats-long
+      ∙ ap length (beats-so (take n (l .beats)) (take n (l .ratios)) (take n (l .delays)) (take n (l .units)) with-ratios with-delays with-units) ∙ beats-long
 
-  pub front-beats : map first (narrowedSpeeds count beats ratios delays units) ≡ map narrow (take n beats)
+  pub front-beats : map first (narrowedSpeeds count l) ≡ map narrow (take n (l .beats))
   front-beats =
       ap (map first) is ∙ map-map first narrowedSpeed front ∙ sym (map-map narrow first front)
-      ∙ ap (map narrow) (beats-so (take n beats) (take n ratios) (take n delays) (take n units) with-ratios with-delays with-units)
+      ∙ ap (map narrow) (beats-so (take n (l .beats)) (take n (l .ratios)) (take n (l .delays)) (take n (l .units)) with-ratios with-delays with-units)
 
-  pub front-ratios : map ratioOf (narrowedSpeeds count beats ratios delays units) ≡ map narrow (take n ratios)
+  pub front-ratios : map ratioOf (narrowedSpeeds count l) ≡ map narrow (take n (l .ratios))
   front-ratios =
       ap (map ratioOf) is ∙ map-map ratioOf narrowedSpeed front ∙ sym (map-map narrow ratioOf front)
-      ∙ ap (map narrow) (ratios-so (take n beats) (take n ratios) (take n delays) (take n units) with-ratios with-delays with-units)
+      ∙ ap (map narrow) (ratios-so (take n (l .beats)) (take n (l .ratios)) (take n (l .delays)) (take n (l .units)) with-ratios with-delays with-units)
 
-  pub front-delays : map delayOf (narrowedSpeeds count beats ratios delays units) ≡ map narrow (take n delays)
+  pub front-delays : map delayOf (narrowedSpeeds count l) ≡ map narrow (take n (l .delays))
   front-delays =
       ap (map delayOf) is ∙ map-map delayOf narrowedSpeed front ∙ sym (map-map narrow delayOf front)
-      ∙ ap (map narrow) (delays-so (take n beats) (take n ratios) (take n delays) (take n units) with-ratios with-delays with-units)
+      ∙ ap (map narrow) (delays-so (take n (l .beats)) (take n (l .ratios)) (take n (l .delays)) (take n (l .units)) with-ratios with-delays with-units)
 
-  pub front-units : map unitOf (narrowedSpeeds count beats ratios delays units) ≡ take n units
+  pub front-units : map unitOf (narrowedSpeeds count l) ≡ take n (l .units)
   front-units =
       ap (map unitOf) is ∙ map-map unitOf narrowedSpeed front
-      ∙ units-so (take n beats) (take n ratios) (take n delays) (take n units) with-ratios with-delays with-units
+      ∙ units-so (take n (l .beats)) (take n (l .ratios)) (take n (l .delays)) (take n (l .units)) with-ratios with-delays with-units
 
 -- ---- a result that lies over the fronts of four columns
 speeds-back : (result : List SpeedEntry) → speedEntries (map first result) (map ratioOf result) (map delayOf result) (map unitOf result) ≡ result
@@ -132,11 +133,11 @@ unfolding entries
 speeds-back [] = refl
 speeds-back (e ∷ result) = ap (_∷_ e) (speeds-back result)
 
-pub front-of-result : (result : List SpeedEntry) (beatsOld ratiosOld delaysOld : List Float) (unitsOld : List ℕ) (count : ℕ) → count ≡ length result
-    → narrowedSpeeds count (laid (map first result) beatsOld) (laid (map ratioOf result) ratiosOld) (laid (map delayOf result) delaysOld) (laid (map unitOf result) unitsOld) ≡ map narrowedSpeed result
-front-of-result result beatsOld ratiosOld delaysOld unitsOld count h =
+pub front-of-result : (result : List SpeedEntry) (old : SpeedColumns) (count : ℕ) → count ≡ length result
+    → narrowedSpeeds count (speedColumns (laid (map first result) (old .beats)) (laid (map ratioOf result) (old .ratios)) (laid (map delayOf result) (old .delays)) (laid (map unitOf result) (old .units))) ≡ map narrowedSpeed result
+front-of-result result old count h =
     ap (map narrowedSpeed)
-    (ap₂ entries (front-laid (map first result) beatsOld count (h ∙ sym (length-map result first)))
-    (ap₂ entries (front-laid (map ratioOf result) ratiosOld count (h ∙ sym (length-map result ratioOf)))
-    (ap₂ entries (front-laid (map delayOf result) delaysOld count (h ∙ sym (length-map result delayOf))) (front-laid (map unitOf result) unitsOld count (h ∙ sym (length-map result unitOf)))))
+    (ap₂ entries (front-laid (map first result) (old .beats) count (h ∙ sym (length-map result first)))
+    (ap₂ entries (front-laid (map ratioOf result) (old .ratios) count (h ∙ sym (length-map result ratioOf)))
+    (ap₂ entries (front-laid (map delayOf result) (old .delays) count (h ∙ sym (length-map result delayOf))) (front-laid (map unitOf result) (old .units) count (h ∙ sym (length-map result unitOf)))))
     ∙ speeds-back result)

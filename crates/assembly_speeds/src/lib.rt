@@ -3,9 +3,10 @@ use columns::Outcome;
 ghost use mathlib.Core.Path.{_≡_};
 ghost use Prim.Native.Nat.{_≤_};
 ghost use lib.ListN.{length};
-ghost use Rattle.tidy_speeds_entries.specs.LaidSpeeds.{LaidSpeeds};
-ghost use Rattle.assembly_speeds.specs.AssembledSpeeds.{SpeedsAssembled, speedsRoomNumber, speedsLater, sameLengths, eachSpeed, SpeedsUntested};
-ghost use Rattle.assembly_speeds.specs.inside.NarrowedSpeeds.{narrowedSpeeds};
+ghost use Rattle.chart.specs.ChartColumns.{speedColumns, lentSpeeds, speedsBefore, speedsAfter};
+ghost use Rattle.assembly_speeds.specs.AssembledSpeeds.{SpeedsOver, SpeedsAssembled, SpeedsUntested};
+ghost use Rattle.assembly_speeds.specs.AssembledSpeeds.{speedsRoomNumber, speedsLater, sameLengths, eachSpeed};
+ghost use Rattle.assembly_speeds.specs.inside.NarrowedSpeeds.{narrowedSpeeds, EvenSpeeds};
 
 // A result of four columns as f32: its first entries over the fronts of the rooms, or the number it was refused by, or 7 where the rooms are too short.
 fn lay_narrowed(
@@ -20,7 +21,10 @@ fn lay_narrowed(
     out_delays: &mut [f32],
     out_units: &mut [u8],
 ) -> Outcome
-    ensures { λ r. ⌜ LaidSpeeds number (narrowedSpeeds count (now (beats .entry)) (now (ratios .entry)) (now (delays .entry)) (now (units .entry))) r (now («out_beats» .entry)) (now («out_beats» .exit)) (now («out_ratios» .entry)) (now («out_ratios» .exit)) (now («out_delays» .entry)) (now («out_delays» .exit)) (now («out_units» .entry)) (now («out_units» .exit)) ⌝ }
+    ensures { λ r.
+        let list = speedColumns beats.entry.now ratios.entry.now delays.entry.now units.entry.now in
+        let rooms = lentSpeeds «out_beats» «out_ratios» «out_delays» «out_units» in
+        ⌜ SpeedsOver number (narrowedSpeeds count list) r (speedsBefore rooms) (speedsAfter rooms) ⌝ }
 {
     if number != limits::TAKEN {
         return columns::refused(number);
@@ -62,8 +66,13 @@ fn assemble_in(
     out_delays: &mut [f32],
     out_units: &mut [u8],
 ) -> Outcome
-    requires { ⌜ (length (now «work_beats») ≡ length (now beats)) × (length (now «tidy_beats») ≡ length (now beats)) × (length (now «tidy_ratios») ≡ length (now beats)) × (length (now «tidy_delays») ≡ length (now beats)) × (length (now «tidy_units») ≡ length (now beats)) ⌝ }
-    ensures { λ r. ⌜ SpeedsAssembled (now (beats .entry)) (now (ratios .entry)) (now (delays .entry)) (now (units .entry)) r (now («out_beats» .entry)) (now («out_beats» .exit)) (now («out_ratios» .entry)) (now («out_ratios» .exit)) (now («out_delays» .entry)) (now («out_delays» .exit)) (now («out_units» .entry)) (now («out_units» .exit)) ⌝ }
+    requires { ⌜ (length «work_beats».now ≡ length beats.now)
+        × (length «tidy_beats».now ≡ length beats.now) × (length «tidy_ratios».now ≡ length beats.now)
+        × (length «tidy_delays».now ≡ length beats.now) × (length «tidy_units».now ≡ length beats.now) ⌝ }
+    ensures { λ r.
+        let raw = speedColumns beats.entry.now ratios.entry.now delays.entry.now units.entry.now in
+        let rooms = lentSpeeds «out_beats» «out_ratios» «out_delays» «out_units» in
+        ⌜ SpeedsAssembled raw r (speedsBefore rooms) (speedsAfter rooms) ⌝ }
 {
     assembly_rows::quantize_column(beats, work_beats);
     let tidied = tidy_speeds::tidy_speed_segments(
@@ -101,8 +110,11 @@ fn assemble_few(
     out_delays: &mut [f32],
     out_units: &mut [u8],
 ) -> Outcome
-    requires { ⌜ length (now beats) ≤ 64 ⌝ }
-    ensures { λ r. ⌜ SpeedsAssembled (now (beats .entry)) (now (ratios .entry)) (now (delays .entry)) (now (units .entry)) r (now («out_beats» .entry)) (now («out_beats» .exit)) (now («out_ratios» .entry)) (now («out_ratios» .exit)) (now («out_delays» .entry)) (now («out_delays» .exit)) (now («out_units» .entry)) (now («out_units» .exit)) ⌝ }
+    requires { ⌜ length beats.now ≤ 64 ⌝ }
+    ensures { λ r.
+        let raw = speedColumns beats.entry.now ratios.entry.now delays.entry.now units.entry.now in
+        let rooms = lentSpeeds «out_beats» «out_ratios» «out_delays» «out_units» in
+        ⌜ SpeedsAssembled raw r (speedsBefore rooms) (speedsAfter rooms) ⌝ }
 {
     let n = beats.len();
     let mut work_beats = [0.0; limits::FEW];
@@ -138,8 +150,11 @@ fn assemble_many(
     out_delays: &mut [f32],
     out_units: &mut [u8],
 ) -> Outcome
-    requires { ⌜ length (now beats) ≤ 1024 ⌝ }
-    ensures { λ r. ⌜ SpeedsAssembled (now (beats .entry)) (now (ratios .entry)) (now (delays .entry)) (now (units .entry)) r (now («out_beats» .entry)) (now («out_beats» .exit)) (now («out_ratios» .entry)) (now («out_ratios» .exit)) (now («out_delays» .entry)) (now («out_delays» .exit)) (now («out_units» .entry)) (now («out_units» .exit)) ⌝ }
+    requires { ⌜ length beats.now ≤ 1024 ⌝ }
+    ensures { λ r.
+        let raw = speedColumns beats.entry.now ratios.entry.now delays.entry.now units.entry.now in
+        let rooms = lentSpeeds «out_beats» «out_ratios» «out_delays» «out_units» in
+        ⌜ SpeedsAssembled raw r (speedsBefore rooms) (speedsAfter rooms) ⌝ }
 {
     let n = beats.len();
     let mut work_beats = [0.0; limits::MOST_ENTRIES];
@@ -174,8 +189,11 @@ fn assemble_any(
     out_delays: &mut [f32],
     out_units: &mut [u8],
 ) -> Outcome
-    requires { ⌜ length (now beats) ≤ 1024 ⌝ }
-    ensures { λ r. ⌜ SpeedsAssembled (now (beats .entry)) (now (ratios .entry)) (now (delays .entry)) (now (units .entry)) r (now («out_beats» .entry)) (now («out_beats» .exit)) (now («out_ratios» .entry)) (now («out_ratios» .exit)) (now («out_delays» .entry)) (now («out_delays» .exit)) (now («out_units» .entry)) (now («out_units» .exit)) ⌝ }
+    requires { ⌜ length beats.now ≤ 1024 ⌝ }
+    ensures { λ r.
+        let raw = speedColumns beats.entry.now ratios.entry.now delays.entry.now units.entry.now in
+        let rooms = lentSpeeds «out_beats» «out_ratios» «out_delays» «out_units» in
+        ⌜ SpeedsAssembled raw r (speedsBefore rooms) (speedsAfter rooms) ⌝ }
 {
     if beats.len() <= limits::FEW {
         return assemble_few(
@@ -225,8 +243,11 @@ fn lay_each(
     out_delays: &mut [f32],
     out_units: &mut [u8],
 ) -> Outcome
-    requires { ⌜ (length (now quantised) ≡ length (now ratios)) × (length (now quantised) ≡ length (now delays)) × (length (now quantised) ≡ length (now units)) ⌝ }
-    ensures { λ r. ⌜ LaidSpeeds 0 (eachSpeed (now (quantised .entry)) (now (ratios .entry)) (now (delays .entry)) (now (units .entry))) r (now («out_beats» .entry)) (now («out_beats» .exit)) (now («out_ratios» .entry)) (now («out_ratios» .exit)) (now («out_delays» .entry)) (now («out_delays» .exit)) (now («out_units» .entry)) (now («out_units» .exit)) ⌝ }
+    requires { ⌜ EvenSpeeds (speedColumns quantised.now ratios.now delays.now units.now) ⌝ }
+    ensures { λ r.
+        let list = speedColumns quantised.entry.now ratios.entry.now delays.entry.now units.entry.now in
+        let rooms = lentSpeeds «out_beats» «out_ratios» «out_delays» «out_units» in
+        ⌜ SpeedsOver 0 (eachSpeed list) r (speedsBefore rooms) (speedsAfter rooms) ⌝ }
 {
     let count = quantised.len();
     let room = tidy_speeds_entries::least_of(
@@ -259,9 +280,12 @@ fn assemble_by(
     out_delays: &mut [f32],
     out_units: &mut [u8],
 ) -> Outcome
-    requires { ⌜ (length (now beats) ≡ length (now ratios)) × (length (now beats) ≡ length (now delays)) × (length (now beats) ≡ length (now units)) ⌝ }
-    requires { ⌜ (length (now beats) ≤ 1024) × (length (now quantised) ≡ length (now beats)) ⌝ }
-    ensures { λ r. ⌜ SpeedsUntested (now (beats .entry)) (now (ratios .entry)) (now (delays .entry)) (now (units .entry)) r (now («out_beats» .entry)) (now («out_beats» .exit)) (now («out_ratios» .entry)) (now («out_ratios» .exit)) (now («out_delays» .entry)) (now («out_delays» .exit)) (now («out_units» .entry)) (now («out_units» .exit)) ⌝ }
+    requires { ⌜ EvenSpeeds (speedColumns beats.now ratios.now delays.now units.now) ⌝ }
+    requires { ⌜ (length beats.now ≤ 1024) × (length quantised.now ≡ length beats.now) ⌝ }
+    ensures { λ r.
+        let raw = speedColumns beats.entry.now ratios.entry.now delays.entry.now units.entry.now in
+        let rooms = lentSpeeds «out_beats» «out_ratios» «out_delays» «out_units» in
+        ⌜ SpeedsUntested raw r (speedsBefore rooms) (speedsAfter rooms) ⌝ }
 {
     assembly_rows::quantize_column_f32(beats, quantised);
     if assembly_scrolls::rise_apart(quantised, ratios) {
@@ -298,9 +322,12 @@ fn assemble_by_few(
     out_delays: &mut [f32],
     out_units: &mut [u8],
 ) -> Outcome
-    requires { ⌜ (length (now beats) ≡ length (now ratios)) × (length (now beats) ≡ length (now delays)) × (length (now beats) ≡ length (now units)) ⌝ }
-    requires { ⌜ length (now beats) ≤ 64 ⌝ }
-    ensures { λ r. ⌜ SpeedsUntested (now (beats .entry)) (now (ratios .entry)) (now (delays .entry)) (now (units .entry)) r (now («out_beats» .entry)) (now («out_beats» .exit)) (now («out_ratios» .entry)) (now («out_ratios» .exit)) (now («out_delays» .entry)) (now («out_delays» .exit)) (now («out_units» .entry)) (now («out_units» .exit)) ⌝ }
+    requires { ⌜ EvenSpeeds (speedColumns beats.now ratios.now delays.now units.now) ⌝ }
+    requires { ⌜ length beats.now ≤ 64 ⌝ }
+    ensures { λ r.
+        let raw = speedColumns beats.entry.now ratios.entry.now delays.entry.now units.entry.now in
+        let rooms = lentSpeeds «out_beats» «out_ratios» «out_delays» «out_units» in
+        ⌜ SpeedsUntested raw r (speedsBefore rooms) (speedsAfter rooms) ⌝ }
 {
     let n = beats.len();
     let mut quantised = [0.0f32; limits::FEW];
@@ -327,9 +354,12 @@ fn assemble_by_many(
     out_delays: &mut [f32],
     out_units: &mut [u8],
 ) -> Outcome
-    requires { ⌜ (length (now beats) ≡ length (now ratios)) × (length (now beats) ≡ length (now delays)) × (length (now beats) ≡ length (now units)) ⌝ }
-    requires { ⌜ length (now beats) ≤ 1024 ⌝ }
-    ensures { λ r. ⌜ SpeedsUntested (now (beats .entry)) (now (ratios .entry)) (now (delays .entry)) (now (units .entry)) r (now («out_beats» .entry)) (now («out_beats» .exit)) (now («out_ratios» .entry)) (now («out_ratios» .exit)) (now («out_delays» .entry)) (now («out_delays» .exit)) (now («out_units» .entry)) (now («out_units» .exit)) ⌝ }
+    requires { ⌜ EvenSpeeds (speedColumns beats.now ratios.now delays.now units.now) ⌝ }
+    requires { ⌜ length beats.now ≤ 1024 ⌝ }
+    ensures { λ r.
+        let raw = speedColumns beats.entry.now ratios.entry.now delays.entry.now units.entry.now in
+        let rooms = lentSpeeds «out_beats» «out_ratios» «out_delays» «out_units» in
+        ⌜ SpeedsUntested raw r (speedsBefore rooms) (speedsAfter rooms) ⌝ }
 {
     let n = beats.len();
     let mut quantised = [0.0f32; limits::MOST_ENTRIES];
@@ -360,7 +390,10 @@ pub fn assemble_speeds(
     out_delays: &mut [f32],
     out_units: &mut [u8],
 ) -> Outcome
-    ensures { λ r. ⌜ SpeedsAssembled (now (beats .entry)) (now (ratios .entry)) (now (delays .entry)) (now (units .entry)) r (now («out_beats» .entry)) (now («out_beats» .exit)) (now («out_ratios» .entry)) (now («out_ratios» .exit)) (now («out_delays» .entry)) (now («out_delays» .exit)) (now («out_units» .entry)) (now («out_units» .exit)) ⌝ }
+    ensures { λ r.
+        let raw = speedColumns beats.entry.now ratios.entry.now delays.entry.now units.entry.now in
+        let rooms = lentSpeeds «out_beats» «out_ratios» «out_delays» «out_units» in
+        ⌜ SpeedsAssembled raw r (speedsBefore rooms) (speedsAfter rooms) ⌝ }
 {
     if beats.len() <= limits::MOST_ENTRIES {
         return assemble_any(
@@ -389,7 +422,10 @@ pub fn assemble_untested(
     out_delays: &mut [f32],
     out_units: &mut [u8],
 ) -> Outcome
-    ensures { λ r. ⌜ SpeedsUntested (now (beats .entry)) (now (ratios .entry)) (now (delays .entry)) (now (units .entry)) r (now («out_beats» .entry)) (now («out_beats» .exit)) (now («out_ratios» .entry)) (now («out_ratios» .exit)) (now («out_delays» .entry)) (now («out_delays» .exit)) (now («out_units» .entry)) (now («out_units» .exit)) ⌝ }
+    ensures { λ r.
+        let raw = speedColumns beats.entry.now ratios.entry.now delays.entry.now units.entry.now in
+        let rooms = lentSpeeds «out_beats» «out_ratios» «out_delays» «out_units» in
+        ⌜ SpeedsUntested raw r (speedsBefore rooms) (speedsAfter rooms) ⌝ }
 {
     if !same_lengths(beats.len(), ratios.len(), delays.len(), units.len()) {
         return assemble_speeds(
@@ -440,7 +476,9 @@ pub fn assemble_untested(
 }
 
 fn number_in(beats: &[f64], ratios: &[f64], delays: &[f64], units: &[u8], room: usize) -> u32
-    ensures { λ r. ⌜ r ≡ speedsRoomNumber (now (beats .entry)) (now (ratios .entry)) (now (delays .entry)) (now (units .entry)) room ⌝ }
+    ensures { λ r.
+        let raw = speedColumns beats.entry.now ratios.entry.now delays.entry.now units.entry.now in
+        ⌜ r ≡ speedsRoomNumber raw room ⌝ }
 {
     if beats.len() > limits::MOST_ENTRIES {
         return limits::TOO_LONG;
@@ -472,7 +510,9 @@ pub fn speeds_number(
     units: &[u8],
     room: usize,
 ) -> u32
-    ensures { λ r. ⌜ r ≡ speedsLater (now (beats .entry)) (now (ratios .entry)) (now (delays .entry)) (now (units .entry)) room ⌝ }
+    ensures { λ r.
+        let raw = speedColumns beats.entry.now ratios.entry.now delays.entry.now units.entry.now in
+        ⌜ r ≡ speedsLater raw room ⌝ }
 {
     if beats.len() > room {
         return number_in(beats, ratios, delays, units, room);

@@ -1,22 +1,20 @@
 -- What is said of tempos, stops and warps assembled leaves one outcome: the number, of each list its count and its rooms, and the offset. Assumes nothing.
 use Prim.Native.Nat.{ℕ}
 use mathlib.Core.Path.{_≡_, sym}
-use mathlib.Core.List.{List}
-use lib.Ieee.{Float}
 use Rattle.columns.proofs.OneOutcome.{one-list}
 use Rattle.process.specs.ByFormat.{ThreeLists}
+use Rattle.assembly_warps.specs.LentLists.{ThreeColumns}
+use Rattle.assembly_warps.proofs.OneOutcome.{eachColumn}
 use Rattle.assembly_tempos.specs.declared.AssembledTempos.{AssembledTempos}
 use Rattle.assembly_tempos.specs.AssembledTempos.{ThreeLaid}
 
-pub one-outcome : {raw later most : ℕ} {lists : ThreeLists} {a b : AssembledTempos}
-    {tempoBeatsOld tempoBeatsA tempoBeatsB tempoValuesOld tempoValuesA tempoValuesB stopBeatsOld stopBeatsA stopBeatsB stopValuesOld stopValuesA stopValuesB warpBeatsOld warpBeatsA warpBeatsB warpLengthsOld warpLengthsA warpLengthsB : List Float}
-    → ThreeLaid raw later most lists a tempoBeatsOld tempoBeatsA tempoValuesOld tempoValuesA stopBeatsOld stopBeatsA stopValuesOld stopValuesA warpBeatsOld warpBeatsA warpLengthsOld warpLengthsA
-    → ThreeLaid raw later most lists b tempoBeatsOld tempoBeatsB tempoValuesOld tempoValuesB stopBeatsOld stopBeatsB stopValuesOld stopValuesB warpBeatsOld warpBeatsB warpLengthsOld warpLengthsB
-    → (a ≡ b) × (tempoBeatsA ≡ tempoBeatsB) × (tempoValuesA ≡ tempoValuesB) × (stopBeatsA ≡ stopBeatsB) × (stopValuesA ≡ stopValuesB) × (warpBeatsA ≡ warpBeatsB) × (warpLengthsA ≡ warpLengthsB)
-one-outcome {a = a} {b = b} x y =
+pub one-outcome : {raw later most : ℕ} {lists : ThreeLists} {a b : AssembledTempos} {old newA newB : ThreeColumns}
+    → ThreeLaid raw later most lists a old newA → ThreeLaid raw later most lists b old newB → (a ≡ b) × (newA ≡ newB)
+one-outcome {a = a} {b = b} {newA = newA} {newB = newB} x y =
     let number : a .number ≡ b .number = cc in
     let tempos = one-list (x .temposLaid) (rw (sym number) at (y .temposLaid)) in
     let stops = one-list (x .stopsLaid) (rw (sym number) at (y .stopsLaid)) in
     let warps = one-list (x .warpsLaid) (rw (sym number) at (y .warpsLaid)) in
     let same : _≡_ {A = AssembledTempos} (record { number = a .number; tempos = a .tempos; stops = a .stops; warps = a .warps; offset = a .offset }) (record { number = b .number; tempos = b .tempos; stops = b .stops; warps = b .warps; offset = b .offset }) = cc in
-    (same, tempos .1, tempos .2, stops .1, stops .2, warps .1, warps .2)
+    let rooms : eachColumn newA ≡ eachColumn newB = cc in
+    (same, rooms)

@@ -22,6 +22,7 @@ use Rattle.columns.specs.Each.{laidEach}
 use Rattle.columns.proofs.Rooms.{list-laid, list-of-pair}
 use Rattle.columns.proofs.EachOverFront.{each-over-front}
 use Rattle.process_raw.specs.RawLists.{roomFor}
+use Rattle.assembly_warps.specs.LentLists.{ThreeColumns}
 use Rattle.assembly_rows.specs.AssembledRows.{narrowedEntry, changeBy, assembledRows, RowsUntested, rowsFit}
 use Rattle.assembly_rows.proofs.QuantizedTaken.{quantized-taken}
 use Rattle.assembly_rows.proofs.Untested.{untested-taken}
@@ -47,56 +48,56 @@ module _ (beats values : List Float) (even : length beats ≡ length values) whe
   narrowed-seconds : map second (map narrowedEntry (entries beats values)) ≡ map narrow values
   narrowed-seconds = map-map second narrowedEntry (entries beats values) ∙ sym (map-map narrow second (entries beats values)) ∙ ap (map narrow) (second-entries beats values even)
 
-module _ (tempoBeats tempoValues stopBeats stopValues warpBeats warpLengths : List Float) (offset : Float) (p : Processed tempoBeats tempoValues stopBeats stopValues warpBeats warpLengths) where
-  tempos-count : length (assembledTempos (listsOf tempoBeats tempoValues stopBeats stopValues warpBeats warpLengths offset)) ≡ length tempoBeats
-  tempos-count = length-map (entries tempoBeats tempoValues) narrowedEntry ∙ length-entries tempoBeats tempoValues (p .tempos)
+module _ (columns : ThreeColumns) (offset : Float) (p : Processed columns) where
+  tempos-count : length (assembledTempos (listsOf columns offset)) ≡ length (columns .tempos .beats)
+  tempos-count = length-map (entries (columns .tempos .beats) (columns .tempos .values)) narrowedEntry ∙ length-entries (columns .tempos .beats) (columns .tempos .values) (p .tempos)
 
-  stops-are : assembledStops (listsOf tempoBeats tempoValues stopBeats stopValues warpBeats warpLengths offset) ≡ assembledRows (changeBy false) stopBeats stopValues
+  stops-are : assembledStops (listsOf columns offset) ≡ assembledRows (changeBy false) (columns .stops .beats) (columns .stops .values)
   unfolding assembledRows
   stops-are =
       let even = list-taken (p .stops) .even in
-      rw (first-entries stopBeats stopValues even, second-entries stopBeats stopValues even, p .onRows, map-id stopValues)
+      rw (first-entries (columns .stops .beats) (columns .stops .values) even, second-entries (columns .stops .beats) (columns .stops .values) even, p .onRows, map-id (columns .stops .values))
 
-  warps-are : assembledWarps (listsOf tempoBeats tempoValues stopBeats stopValues warpBeats warpLengths offset) ≡ assembledRows (changeBy true) warpBeats warpLengths
-  warps-are = rw (first-entries warpBeats warpLengths (p .even), second-entries warpBeats warpLengths (p .even))
+  warps-are : assembledWarps (listsOf columns offset) ≡ assembledRows (changeBy true) (columns .warps .beats) (columns .warps .values)
+  warps-are = rw (first-entries (columns .warps .beats) (columns .warps .values) (p .even), second-entries (columns .warps .beats) (columns .warps .values) (p .even))
 
-  pub warps-count : length (entries warpBeats warpLengths) ≡ length warpBeats
-  warps-count = length-entries warpBeats warpLengths (p .even)
+  pub warps-count : length (entries (columns .warps .beats) (columns .warps .values)) ≡ length (columns .warps .beats)
+  warps-count = length-entries (columns .warps .beats) (columns .warps .values) (p .even)
 
-  module _ (few : length warpBeats ≤ 1024) where
+  module _ (few : length (columns .warps .beats) ≤ 1024) where
     -- the numbers of the rooms, as they are asked
     pub rooms-are : (tempoRoom stopRoom warpRoom : ℕ)
-        → lower (lower (pick (leb (length tempoBeats) tempoRoom) 0 7) (pick (rowsFit false stopBeats stopValues stopRoom) 0 7)) (pick (rowsFit true warpBeats warpLengths warpRoom) 0 7)
-        ≡ threeRooms (listsOf tempoBeats tempoValues stopBeats stopValues warpBeats warpLengths offset) tempoRoom stopRoom warpRoom
+        → lower (lower (pick (leb (length (columns .tempos .beats)) tempoRoom) 0 7) (pick (rowsFit false (columns .stops .beats) (columns .stops .values) stopRoom) 0 7)) (pick (rowsFit true (columns .warps .beats) (columns .warps .values) warpRoom) 0 7)
+        ≡ threeRooms (listsOf columns offset) tempoRoom stopRoom warpRoom
     rooms-are tempoRoom stopRoom warpRoom =
-        rw (fit-number false stopBeats stopValues stopRoom (p .stops), fit-number true warpBeats warpLengths warpRoom (p .warps few), stops-are, warps-are, tempos-count)
+        rw (fit-number false (columns .stops .beats) (columns .stops .values) stopRoom (p .stops), fit-number true (columns .warps .beats) (columns .warps .values) warpRoom (p .warps few), stops-are, warps-are, tempos-count)
         (unfold roomNumber in refl)
 
   -- rooms that hold the three lists: each is laid
   module _ {firstOld firstNew secondOld secondNew : List Float} where
-    pub tempos-laid : fitNumber (assembledTempos (listsOf tempoBeats tempoValues stopBeats stopValues warpBeats warpLengths offset)) (roomFor firstOld secondOld) ≡ 0
-        → firstNew ≡ laidEach (λ (x : Float). x) tempoBeats firstOld → secondNew ≡ laidEach narrow tempoValues secondOld
-        → LaidList 0 (assembledTempos (listsOf tempoBeats tempoValues stopBeats stopValues warpBeats warpLengths offset)) (length tempoBeats) firstOld firstNew secondOld secondNew
+    pub tempos-laid : fitNumber (assembledTempos (listsOf columns offset)) (roomFor firstOld secondOld) ≡ 0
+        → firstNew ≡ laidEach (λ (x : Float). x) (columns .tempos .beats) firstOld → secondNew ≡ laidEach narrow (columns .tempos .values) secondOld
+        → LaidList 0 (assembledTempos (listsOf columns offset)) (length (columns .tempos .beats)) firstOld firstNew secondOld secondNew
     tempos-laid fit firsts seconds =
-        let fits : length tempoBeats ≤ roomFor firstOld secondOld = omega (arith, tempos-count, fitting _ (roomFor firstOld secondOld) fit) in
+        let fits : length (columns .tempos .beats) ≤ roomFor firstOld secondOld = omega (arith, tempos-count, fitting _ (roomFor firstOld secondOld) fit) in
         list-laid (sym tempos-count)
-        (firsts ∙ held-laid tempoBeats firstOld (on-row-held tempoBeats (p .temposOnRows)) ∙ each-over-front narrow tempoBeats firstOld (omega (arith, fits)) ∙ ap (λ (l : List Float). laid l firstOld) (sym (narrowed-firsts tempoBeats tempoValues (p .tempos))))
-        (seconds ∙ each-over-front narrow tempoValues secondOld (omega (arith, fits, p .tempos)) ∙ ap (λ (l : List Float). laid l secondOld) (sym (narrowed-seconds tempoBeats tempoValues (p .tempos))))
+        (firsts ∙ held-laid (columns .tempos .beats) firstOld (on-row-held (columns .tempos .beats) (p .temposOnRows)) ∙ each-over-front narrow (columns .tempos .beats) firstOld (omega (arith, fits)) ∙ ap (λ (l : List Float). laid l firstOld) (sym (narrowed-firsts (columns .tempos .beats) (columns .tempos .values) (p .tempos))))
+        (seconds ∙ each-over-front narrow (columns .tempos .values) secondOld (omega (arith, fits, p .tempos)) ∙ ap (λ (l : List Float). laid l secondOld) (sym (narrowed-seconds (columns .tempos .beats) (columns .tempos .values) (p .tempos))))
 
-    pub stops-laid : {outcome : Outcome} → fitNumber (assembledStops (listsOf tempoBeats tempoValues stopBeats stopValues warpBeats warpLengths offset)) (roomFor firstOld secondOld) ≡ 0
-        → RowsUntested false stopBeats stopValues outcome firstOld firstNew secondOld secondNew
-        → LaidList 0 (assembledStops (listsOf tempoBeats tempoValues stopBeats stopValues warpBeats warpLengths offset)) (outcome .count) firstOld firstNew secondOld secondNew
+    pub stops-laid : {outcome : Outcome} → fitNumber (assembledStops (listsOf columns offset)) (roomFor firstOld secondOld) ≡ 0
+        → RowsUntested false (columns .stops .beats) (columns .stops .values) outcome firstOld firstNew secondOld secondNew
+        → LaidList 0 (assembledStops (listsOf columns offset)) (outcome .count) firstOld firstNew secondOld secondNew
     stops-laid {outcome} fit q =
-        let q′ : LaidPair 0 (assembledStops (listsOf tempoBeats tempoValues stopBeats stopValues warpBeats warpLengths offset)) outcome firstOld firstNew secondOld secondNew =
-        rw stops-are (rw (quantized-taken stopBeats stopValues false (p .stops)) at (untested-taken stopBeats stopValues false (p .stops) q)) in
+        let q′ : LaidPair 0 (assembledStops (listsOf columns offset)) outcome firstOld firstNew secondOld secondNew =
+        rw stops-are (rw (quantized-taken (columns .stops .beats) (columns .stops .values) false (p .stops)) at (untested-taken (columns .stops .beats) (columns .stops .values) false (p .stops) q)) in
         list-of-pair q′ (q′ .number ∙ fit)
 
-    pub warps-laid : {outcome : Outcome} → length warpBeats ≤ 1024 → fitNumber (assembledWarps (listsOf tempoBeats tempoValues stopBeats stopValues warpBeats warpLengths offset)) (roomFor firstOld secondOld) ≡ 0
-        → RowsUntested true warpBeats warpLengths outcome firstOld firstNew secondOld secondNew
-        → LaidList 0 (assembledWarps (listsOf tempoBeats tempoValues stopBeats stopValues warpBeats warpLengths offset)) (outcome .count) firstOld firstNew secondOld secondNew
+    pub warps-laid : {outcome : Outcome} → length (columns .warps .beats) ≤ 1024 → fitNumber (assembledWarps (listsOf columns offset)) (roomFor firstOld secondOld) ≡ 0
+        → RowsUntested true (columns .warps .beats) (columns .warps .values) outcome firstOld firstNew secondOld secondNew
+        → LaidList 0 (assembledWarps (listsOf columns offset)) (outcome .count) firstOld firstNew secondOld secondNew
     warps-laid {outcome} few fit q =
-        let q′ : LaidPair 0 (assembledWarps (listsOf tempoBeats tempoValues stopBeats stopValues warpBeats warpLengths offset)) outcome firstOld firstNew secondOld secondNew =
-        rw warps-are (rw (quantized-taken warpBeats warpLengths true (p .warps few)) at (untested-taken warpBeats warpLengths true (p .warps few) q)) in
+        let q′ : LaidPair 0 (assembledWarps (listsOf columns offset)) outcome firstOld firstNew secondOld secondNew =
+        rw warps-are (rw (quantized-taken (columns .warps .beats) (columns .warps .values) true (p .warps few)) at (untested-taken (columns .warps .beats) (columns .warps .values) true (p .warps few) q)) in
         list-of-pair q′ (q′ .number ∙ fit)
 
 pub record AllFit (later tempos stops warps : ℕ) : Type 0 where

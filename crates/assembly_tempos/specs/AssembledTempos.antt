@@ -14,9 +14,11 @@ use Rattle.limits.specs.Refusals.{lower}
 use Rattle.order.specs.Entries.{first, second}
 use Rattle.columns.specs.Laying.{roomNumber, LaidList}
 use Rattle.tidy_rows.specs.RowTidying.{tidyRows}
+use Rattle.chart.specs.ChartColumns.{ListColumns}
 use Rattle.process_raw.specs.RawLists.{roomFor}
 use Rattle.process.specs.ByFormat.{ThreeLists}
 use Rattle.assembly_rows.specs.AssembledRows.{narrowedEntry, changeBy, assembledRows}
+use Rattle.assembly_warps.specs.LentLists.{ThreeColumns}
 use Rattle.assembly_tempos.specs.declared.AssembledTempos.{AssembledTempos}
 
 -- ---- the lists, of what processing leaves
@@ -48,14 +50,23 @@ abbrev pub threeRooms : ThreeLists → (tempoRoom stopRoom warpRoom : ℕ) → �
 threeRooms lists tempoRoom stopRoom warpRoom =
     lower (lower (fitNumber (assembledTempos lists) tempoRoom) (fitNumber (assembledStops lists) stopRoom)) (fitNumber (assembledWarps lists) warpRoom)
 
--- ---- the one outcome: the number of all lists, of which `raw` and `later` are known; under it the three lists, and the offset, which is 0 after a refusal
-pub record ThreeLaid (raw later most : ℕ) (lists : ThreeLists) (outcome : AssembledTempos)
-    (tempoBeatsOld tempoBeatsNew tempoValuesOld tempoValuesNew stopBeatsOld stopBeatsNew stopValuesOld stopValuesNew warpBeatsOld warpBeatsNew warpLengthsOld warpLengthsNew : List Float) : Type 0 where
-  pub number :
-      outcome .number
-      ≡ verdict raw (length (lists .warps)) most
-      (lower later (threeRooms lists (roomFor tempoBeatsOld tempoValuesOld) (roomFor stopBeatsOld stopValuesOld) (roomFor warpBeatsOld warpLengthsOld)))
-  pub temposLaid : LaidList (outcome .number) (assembledTempos lists) (outcome .tempos) tempoBeatsOld tempoBeatsNew tempoValuesOld tempoValuesNew
-  pub stopsLaid : LaidList (outcome .number) (assembledStops lists) (outcome .stops) stopBeatsOld stopBeatsNew stopValuesOld stopValuesNew
-  pub warpsLaid : LaidList (outcome .number) (assembledWarps lists) (outcome .warps) warpBeatsOld warpBeatsNew warpLengthsOld warpLengthsNew
+-- how many entries a list of two columns has room for
+abbrev pub listRoom : ListColumns → ℕ
+listRoom list = roomFor (list .beats) (list .values)
+
+abbrev pub roomsNumber : ThreeLists → (rooms : ThreeColumns) → ℕ
+roomsNumber lists rooms = threeRooms lists (listRoom (rooms .tempos)) (listRoom (rooms .stops)) (listRoom (rooms .warps))
+
+-- ---- the one outcome
+
+-- A list written over the front of its room where the number is 0; after a refusal nothing is.
+abbrev pub ListWritten : (number : ℕ) (result : List (Float × Float)) (count : ℕ) (old new : ListColumns) → Type 0
+ListWritten number result count old new = LaidList number result count (old .beats) (new .beats) (old .values) (new .values)
+
+-- The number of all lists, of which `raw` and `later` are known; under it the three lists, and the offset, which is 0 after a refusal.
+pub record ThreeLaid (raw later most : ℕ) (lists : ThreeLists) (outcome : AssembledTempos) (old new : ThreeColumns) : Type 0 where
+  pub number : outcome .number ≡ verdict raw (length (lists .warps)) most (lower later (roomsNumber lists old))
+  pub temposLaid : ListWritten (outcome .number) (assembledTempos lists) (outcome .tempos) (old .tempos) (new .tempos)
+  pub stopsLaid : ListWritten (outcome .number) (assembledStops lists) (outcome .stops) (old .stops) (new .stops)
+  pub warpsLaid : ListWritten (outcome .number) (assembledWarps lists) (outcome .warps) (old .warps) (new .warps)
   pub offsetIs : outcome .offset ≡ pick (eqb (outcome .number) 0) (narrow (lists .offset)) plusZero

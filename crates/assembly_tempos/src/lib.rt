@@ -15,6 +15,7 @@ ghost use Rattle.columns.specs.Each.{laidEach};
 ghost use Rattle.tidy_rows.specs.RowTidying.{rowsNumber};
 ghost use Rattle.assembly_rows.specs.AssembledRows.{RowsUntested};
 ghost use Rattle.limits.specs.Refusals.{lower};
+ghost use Rattle.assembly_warps.specs.LentLists.{threeColumns, lentThree, threeBefore, threeAfter};
 ghost use Rattle.assembly_warps.specs.MergedWarps.{threeNumber, mergedLists};
 ghost use Rattle.assembly_tempos.specs.AssembledTempos.{threeRooms, ThreeLaid};
 ghost use Rattle.assembly_tempos.specs.inside.Refusal.{nothingAssembled};
@@ -55,8 +56,17 @@ fn rooms_number(
     stop_room: usize,
     warp_room: usize,
 ) -> u32
-    requires { ⌜ Processed (now «tempo_beats») (now «tempo_values») (now «stop_beats») (now «stop_values») (now «warp_beats») (now «warp_lengths») × (length (now «warp_beats») ≤ 1024) ⌝ }
-    ensures { λ r. ⌜ ((offset : Float) → r ≡ threeRooms (listsOf (now («tempo_beats» .entry)) (now («tempo_values» .entry)) (now («stop_beats» .entry)) (now («stop_values» .entry)) (now («warp_beats» .entry)) (now («warp_lengths» .entry)) offset) «tempo_room» «stop_room» «warp_room») ⌝ }
+    requires { let columns = threeColumns
+        «tempo_beats».now «tempo_values».now
+        «stop_beats».now «stop_values».now
+        «warp_beats».now «warp_lengths».now in
+        ⌜ Processed columns × (length «warp_beats».now ≤ 1024) ⌝ }
+    ensures { λ r.
+        let columns = threeColumns
+        «tempo_beats».entry.now «tempo_values».entry.now
+        «stop_beats».entry.now «stop_values».entry.now
+        «warp_beats».entry.now «warp_lengths».entry.now in
+        ⌜ ((offset : Float) → r ≡ threeRooms (listsOf columns offset) «tempo_room» «stop_room» «warp_room») ⌝ }
 {
     let tempos = limits::no_room(tempo_beats.len() <= tempo_room);
     let stops = limits::no_room(assembly_rows::rows_fit(stop_beats, stop_values, false, stop_room));
@@ -118,7 +128,8 @@ fn assemble_stops(
     out_values: &mut [f32],
 ) -> Outcome
     requires { ⌜ (rowsNumber (now beats) (now values) ≡ 0) × (map quantized (now beats) ≡ now beats) × Held format (now values) ⌝ }
-    ensures { λ r. ⌜ RowsUntested false (now (beats .entry)) (now (values .entry)) r (now («out_beats» .entry)) (now («out_beats» .exit)) (now («out_values» .entry)) (now («out_values» .exit)) ⌝ }
+    ensures { λ r.
+        ⌜ RowsUntested false beats.entry.now values.entry.now r «out_beats».entry.now «out_beats».exit.now «out_values».entry.now «out_values».exit.now ⌝ }
 {
     if beats.len() > columns::room_of(out_beats.len(), out_values.len()) {
         return assembly_rows::assemble_untested(beats, values, false, out_beats, out_values);
@@ -155,8 +166,18 @@ fn lay_lists(
     out_warp_beats: &mut [f32],
     out_warp_lengths: &mut [f32],
 ) -> AssembledTempos
-    requires { ⌜ Processed (now «tempo_beats») (now «tempo_values») (now «stop_beats») (now «stop_values») (now «warp_beats») (now «warp_lengths») × Held format (now «tempo_values») × Held format (now «stop_values») ⌝ }
-    ensures { λ r. ⌜ ThreeLaid 0 later «most_warps» (listsOf (now («tempo_beats» .entry)) (now («tempo_values» .entry)) (now («stop_beats» .entry)) (now («stop_values» .entry)) (now («warp_beats» .entry)) (now («warp_lengths» .entry)) offset) r (now («out_tempo_beats» .entry)) (now («out_tempo_beats» .exit)) (now («out_tempo_values» .entry)) (now («out_tempo_values» .exit)) (now («out_stop_beats» .entry)) (now («out_stop_beats» .exit)) (now («out_stop_values» .entry)) (now («out_stop_values» .exit)) (now («out_warp_beats» .entry)) (now («out_warp_beats» .exit)) (now («out_warp_lengths» .entry)) (now («out_warp_lengths» .exit)) ⌝ }
+    requires { let columns = threeColumns
+        «tempo_beats».now «tempo_values».now
+        «stop_beats».now «stop_values».now
+        «warp_beats».now «warp_lengths».now in
+        ⌜ Processed columns × Held format «tempo_values».now × Held format «stop_values».now ⌝ }
+    ensures { λ r.
+        let columns = threeColumns
+        «tempo_beats».entry.now «tempo_values».entry.now
+        «stop_beats».entry.now «stop_values».entry.now
+        «warp_beats».entry.now «warp_lengths».entry.now in
+        let rooms = lentThree «out_tempo_beats» «out_tempo_values» «out_stop_beats» «out_stop_values» «out_warp_beats» «out_warp_lengths» in
+        ⌜ ThreeLaid 0 later «most_warps» (listsOf columns offset) r (threeBefore rooms) (threeAfter rooms) ⌝ }
 {
     if warp_beats.len() > columns::room_of(most_warps, limits::MOST_ENTRIES) {
         return refused(limits::TOO_LONG);
@@ -227,8 +248,22 @@ fn assemble_in(
     out_warp_beats: &mut [f32],
     out_warp_lengths: &mut [f32],
 ) -> AssembledTempos
-    requires { ⌜ WorkRooms (threeNumber (now «tempo_beats») (now «tempo_values») (now «stop_beats») (now «stop_values») (now «warp_beats») (now «warp_lengths»)) (mergedLists format (now «tempo_beats») (now «tempo_values») (now «stop_beats») (now «stop_values») (now «warp_beats») (now «warp_lengths»)) (now «work_tempo_beats») (now «work_tempo_values») (now «work_stop_beats») (now «work_stop_values») (now «work_warp_beats») (now «work_warp_lengths») ⌝ }
-    ensures { λ r. ⌜ ThreeLaid (lower (threeNumber (now («tempo_beats» .entry)) (now («tempo_values» .entry)) (now («stop_beats» .entry)) (now («stop_values» .entry)) (now («warp_beats» .entry)) (now («warp_lengths» .entry))) other) later «most_warps» (mergedLists format (now («tempo_beats» .entry)) (now («tempo_values» .entry)) (now («stop_beats» .entry)) (now («stop_values» .entry)) (now («warp_beats» .entry)) (now («warp_lengths» .entry))) r (now («out_tempo_beats» .entry)) (now («out_tempo_beats» .exit)) (now («out_tempo_values» .entry)) (now («out_tempo_values» .exit)) (now («out_stop_beats» .entry)) (now («out_stop_beats» .exit)) (now («out_stop_values» .entry)) (now («out_stop_values» .exit)) (now («out_warp_beats» .entry)) (now («out_warp_beats» .exit)) (now («out_warp_lengths» .entry)) (now («out_warp_lengths» .exit)) ⌝ }
+    requires { let raw = threeColumns
+        «tempo_beats».now «tempo_values».now
+        «stop_beats».now «stop_values».now
+        «warp_beats».now «warp_lengths».now in
+        let work = threeColumns
+        «work_tempo_beats».now «work_tempo_values».now
+        «work_stop_beats».now «work_stop_values».now
+        «work_warp_beats».now «work_warp_lengths».now in
+        ⌜ WorkRooms (threeNumber raw) (mergedLists format raw) work ⌝ }
+    ensures { λ r.
+        let raw = threeColumns
+        «tempo_beats».entry.now «tempo_values».entry.now
+        «stop_beats».entry.now «stop_values».entry.now
+        «warp_beats».entry.now «warp_lengths».entry.now in
+        let rooms = lentThree «out_tempo_beats» «out_tempo_values» «out_stop_beats» «out_stop_values» «out_warp_beats» «out_warp_lengths» in
+        ⌜ ThreeLaid (lower (threeNumber raw) other) later «most_warps» (mergedLists format raw) r (threeBefore rooms) (threeAfter rooms) ⌝ }
 {
     let processed = assembly_warps::process_with_warps(
         format,
@@ -296,8 +331,14 @@ fn assemble_few(
     out_warp_beats: &mut [f32],
     out_warp_lengths: &mut [f32],
 ) -> AssembledTempos
-    requires { ⌜ (length (now «tempo_beats») ≤ 64) × (length (now «stop_beats») ≤ 64) × (length (now «warp_beats») ≤ 64) ⌝ }
-    ensures { λ r. ⌜ ThreeLaid (lower (threeNumber (now («tempo_beats» .entry)) (now («tempo_values» .entry)) (now («stop_beats» .entry)) (now («stop_values» .entry)) (now («warp_beats» .entry)) (now («warp_lengths» .entry))) other) later «most_warps» (mergedLists format (now («tempo_beats» .entry)) (now («tempo_values» .entry)) (now («stop_beats» .entry)) (now («stop_values» .entry)) (now («warp_beats» .entry)) (now («warp_lengths» .entry))) r (now («out_tempo_beats» .entry)) (now («out_tempo_beats» .exit)) (now («out_tempo_values» .entry)) (now («out_tempo_values» .exit)) (now («out_stop_beats» .entry)) (now («out_stop_beats» .exit)) (now («out_stop_values» .entry)) (now («out_stop_values» .exit)) (now («out_warp_beats» .entry)) (now («out_warp_beats» .exit)) (now («out_warp_lengths» .entry)) (now («out_warp_lengths» .exit)) ⌝ }
+    requires { ⌜ (length «tempo_beats».now ≤ 64) × (length «stop_beats».now ≤ 64) × (length «warp_beats».now ≤ 64) ⌝ }
+    ensures { λ r.
+        let raw = threeColumns
+        «tempo_beats».entry.now «tempo_values».entry.now
+        «stop_beats».entry.now «stop_values».entry.now
+        «warp_beats».entry.now «warp_lengths».entry.now in
+        let rooms = lentThree «out_tempo_beats» «out_tempo_values» «out_stop_beats» «out_stop_values» «out_warp_beats» «out_warp_lengths» in
+        ⌜ ThreeLaid (lower (threeNumber raw) other) later «most_warps» (mergedLists format raw) r (threeBefore rooms) (threeAfter rooms) ⌝ }
 {
     let mut work_tempo_beats = [0.0; limits::FEW];
     let mut work_tempo_values = [0.0; limits::FEW];
@@ -350,7 +391,13 @@ fn assemble_many(
     out_warp_beats: &mut [f32],
     out_warp_lengths: &mut [f32],
 ) -> AssembledTempos
-    ensures { λ r. ⌜ ThreeLaid (lower (threeNumber (now («tempo_beats» .entry)) (now («tempo_values» .entry)) (now («stop_beats» .entry)) (now («stop_values» .entry)) (now («warp_beats» .entry)) (now («warp_lengths» .entry))) other) later «most_warps» (mergedLists format (now («tempo_beats» .entry)) (now («tempo_values» .entry)) (now («stop_beats» .entry)) (now («stop_values» .entry)) (now («warp_beats» .entry)) (now («warp_lengths» .entry))) r (now («out_tempo_beats» .entry)) (now («out_tempo_beats» .exit)) (now («out_tempo_values» .entry)) (now («out_tempo_values» .exit)) (now («out_stop_beats» .entry)) (now («out_stop_beats» .exit)) (now («out_stop_values» .entry)) (now («out_stop_values» .exit)) (now («out_warp_beats» .entry)) (now («out_warp_beats» .exit)) (now («out_warp_lengths» .entry)) (now («out_warp_lengths» .exit)) ⌝ }
+    ensures { λ r.
+        let raw = threeColumns
+        «tempo_beats».entry.now «tempo_values».entry.now
+        «stop_beats».entry.now «stop_values».entry.now
+        «warp_beats».entry.now «warp_lengths».entry.now in
+        let rooms = lentThree «out_tempo_beats» «out_tempo_values» «out_stop_beats» «out_stop_values» «out_warp_beats» «out_warp_lengths» in
+        ⌜ ThreeLaid (lower (threeNumber raw) other) later «most_warps» (mergedLists format raw) r (threeBefore rooms) (threeAfter rooms) ⌝ }
 {
     let mut work_tempo_beats = [0.0; limits::MOST_ENTRIES];
     let mut work_tempo_values = [0.0; limits::MOST_ENTRIES];
@@ -406,7 +453,13 @@ pub fn assemble_tempos(
     out_warp_beats: &mut [f32],
     out_warp_lengths: &mut [f32],
 ) -> AssembledTempos
-    ensures { λ r. ⌜ ThreeLaid (lower (threeNumber (now («tempo_beats» .entry)) (now («tempo_values» .entry)) (now («stop_beats» .entry)) (now («stop_values» .entry)) (now («warp_beats» .entry)) (now («warp_lengths» .entry))) other) later «most_warps» (mergedLists format (now («tempo_beats» .entry)) (now («tempo_values» .entry)) (now («stop_beats» .entry)) (now («stop_values» .entry)) (now («warp_beats» .entry)) (now («warp_lengths» .entry))) r (now («out_tempo_beats» .entry)) (now («out_tempo_beats» .exit)) (now («out_tempo_values» .entry)) (now («out_tempo_values» .exit)) (now («out_stop_beats» .entry)) (now («out_stop_beats» .exit)) (now («out_stop_values» .entry)) (now («out_stop_values» .exit)) (now («out_warp_beats» .entry)) (now («out_warp_beats» .exit)) (now («out_warp_lengths» .entry)) (now («out_warp_lengths» .exit)) ⌝ }
+    ensures { λ r.
+        let raw = threeColumns
+        «tempo_beats».entry.now «tempo_values».entry.now
+        «stop_beats».entry.now «stop_values».entry.now
+        «warp_beats».entry.now «warp_lengths».entry.now in
+        let rooms = lentThree «out_tempo_beats» «out_tempo_values» «out_stop_beats» «out_stop_values» «out_warp_beats» «out_warp_lengths» in
+        ⌜ ThreeLaid (lower (threeNumber raw) other) later «most_warps» (mergedLists format raw) r (threeBefore rooms) (threeAfter rooms) ⌝ }
 {
     if tempo_beats.len() <= limits::FEW {
         if stop_beats.len() <= limits::FEW {

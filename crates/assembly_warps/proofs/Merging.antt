@@ -26,7 +26,9 @@ use Rattle.process_raw.specs.RawLists.{rawNumbers, roomFor, processedNothing}
 use Rattle.process.specs.ByFormat.{ThreeLists, ListsLaid}
 use Rattle.process_sm_lent.proofs.Ends.{by-tests, for-stops, for-warps}
 use Rattle.assembly_warps.specs.inside.OrNoRoom.{orNoRoom}
-use Rattle.assembly_warps.specs.MergedWarps.{behindGiven}
+use Rattle.chart.specs.ChartColumns.{ListColumns, listColumns}
+use Rattle.assembly_warps.specs.LentLists.{ThreeColumns}
+use Rattle.assembly_warps.specs.MergedWarps.{behindGiven, ListsOver}
 
 -- ---- the number
 
@@ -81,28 +83,27 @@ copied column made old back at a room lent same =
 
 -- ---- the ends of the call
 
-abbrev LeftAs : (raw warps : ℕ) → ThreeLists → (tempoBeatsOld tempoValuesOld stopBeatsOld stopValuesOld warpBeatsOld warpLengthsOld : List Float) → ℕ → Type 0
-LeftAs raw warps merged tempoBeatsOld tempoValuesOld stopBeatsOld stopValuesOld warpBeatsOld warpLengthsOld number =
-    ListsLaid (lower raw warps) merged (processedNothing number) tempoBeatsOld tempoBeatsOld tempoValuesOld tempoValuesOld stopBeatsOld stopBeatsOld stopValuesOld stopValuesOld warpBeatsOld warpBeatsOld warpLengthsOld warpLengthsOld
+abbrev LeftAs : (raw warps : ℕ) → ThreeLists → (old : ThreeColumns) → ℕ → Type 0
+LeftAs raw warps merged old number = ListsOver (lower raw warps) merged (processedNothing number) old old
 
-merged-length : (lists : ThreeLists) (warpBeats warpLengths : List Float) → length warpBeats ≡ length warpLengths → length (behindGiven warpBeats warpLengths lists .warps) ≡ length warpBeats + length (lists .warps)
-merged-length lists warpBeats warpLengths even = simp length-append (rw (length-entries warpBeats warpLengths even))
+merged-length : (lists : ThreeLists) (warps : ListColumns) → length (warps .beats) ≡ length (warps .values) → length (behindGiven warps lists .warps) ≡ length (warps .beats) + length (lists .warps)
+merged-length lists warps even = simp length-append (rw (length-entries (warps .beats) (warps .values) even))
 
-module _ (raw warps : ℕ) (lists : ThreeLists) (warpBeats warpLengths : List Float) {tempoBeatsOld tempoValuesOld stopBeatsOld stopValuesOld warpBeatsOld warpLengthsOld : List Float} where
-  pub refused-warps : (warps ≡ 0 → ⊥) → LeftAs raw warps (behindGiven warpBeats warpLengths lists) tempoBeatsOld tempoValuesOld stopBeatsOld stopValuesOld warpBeatsOld warpLengthsOld (orNoRoom (lower raw warps))
+module _ (raw warps : ℕ) (lists : ThreeLists) (list : ListColumns) {old : ThreeColumns} where
+  pub refused-warps : (warps ≡ 0 → ⊥) → LeftAs raw warps (behindGiven list lists) old (orNoRoom (lower raw warps))
   unfolding orNoRoom
   refused-warps h =
       let some : lower raw warps ≡ 0 → ⊥ = λ e. h (lower-none raw warps e .1) in
       rw (ne-eqb (lower raw warps) 0 some) (by-tests some)
 
-  pub no-room : length warpBeats ≡ length warpLengths → roomFor warpBeatsOld warpLengthsOld < length warpBeats → LeftAs raw warps (behindGiven warpBeats warpLengths lists) tempoBeatsOld tempoValuesOld stopBeatsOld stopValuesOld warpBeatsOld warpLengthsOld (orNoRoom (lower raw warps))
+  pub no-room : length (list .beats) ≡ length (list .values) → roomFor (old .warps .beats) (old .warps .values) < length (list .beats) → LeftAs raw warps (behindGiven list lists) old (orNoRoom (lower raw warps))
   unfolding orNoRoom
-  no-room even short = go (eqb (lower raw warps) 0) (leb (length (lists .stops)) (roomFor stopBeatsOld stopValuesOld)) refl refl
+  no-room even short = go (eqb (lower raw warps) 0) (leb (length (lists .stops)) (roomFor (old .stops .beats) (old .stops .values))) refl refl
     where
-      long : roomFor warpBeatsOld warpLengthsOld < length (behindGiven warpBeats warpLengths lists .warps)
-      long = omega (arith, merged-length lists warpBeats warpLengths even)
+      long : roomFor (old .warps .beats) (old .warps .values) < length (behindGiven list lists .warps)
+      long = omega (arith, merged-length lists list even)
 
-      go : (t u : Bool) → eqb (lower raw warps) 0 ≡ t → leb (length (lists .stops)) (roomFor stopBeatsOld stopValuesOld) ≡ u → LeftAs raw warps (behindGiven warpBeats warpLengths lists) tempoBeatsOld tempoValuesOld stopBeatsOld stopValuesOld warpBeatsOld warpLengthsOld (pick t 7 (lower raw warps))
+      go : (t u : Bool) → eqb (lower raw warps) 0 ≡ t → leb (length (lists .stops)) (roomFor (old .stops .beats) (old .stops .values)) ≡ u → LeftAs raw warps (behindGiven list lists) old (pick t 7 (lower raw warps))
       go true true a b = for-warps (eqb-true (lower raw warps) 0 a) (leb-true _ _ b) long
       go true false a b = for-stops (eqb-true (lower raw warps) 0 a) (leb-false _ _ b)
       go false u a b = by-tests (λ e. let z : _≡_ {A = Bool} true false = sym (eq-eqb (lower raw warps) 0 e) ∙ a in let w : _≡_ {A = ℕ} 0 1 = cc in absurd (omega arith))
@@ -115,20 +116,20 @@ module _ (raw : ℕ) {warps : ℕ} (h : warps ≡ 0) (lists : ThreeLists) (warpB
   merged-number :
       outcome .number
       ≡ roomNumber
-      (roomNumber (roomNumber (lower raw warps) (length (lists .stops)) (roomFor stopBeatsOld stopValuesOld)) (length (behindGiven warpBeats warpLengths lists .warps)) (roomFor warpBeatsOld warpLengthsOld))
+      (roomNumber (roomNumber (lower raw warps) (length (lists .stops)) (roomFor stopBeatsOld stopValuesOld)) (length (behindGiven (listColumns warpBeats warpLengths) lists .warps)) (roomFor warpBeatsOld warpLengthsOld))
       (length (lists .tempos)) (roomFor tempoBeatsOld tempoValuesOld)
   merged-number =
       let lowered : lower raw warps ≡ raw = rw h (lower-than-none raw) in
       let at = length warpBeats in
       let rooms : roomFor (take (length warpBeatsOld - at) (drop at warpBeatsOld)) (take (length warpLengthsOld - at) (drop at warpLengthsOld)) + at ≡ roomFor warpBeatsOld warpLengthsOld =
       rw (part-length at warpBeatsOld, part-length at warpLengthsOld) (omega arith) in
-      rw (lowered, merged-length lists warpBeats warpLengths even)
+      rw (lowered, merged-length lists (listColumns warpBeats warpLengths) even)
       (p .number
       ∙ ap (λ (n : ℕ). roomNumber n (length (lists .tempos)) (roomFor tempoBeatsOld tempoValuesOld))
       (same-room (roomNumber raw (length (lists .stops)) (roomFor stopBeatsOld stopValuesOld)) (length (lists .warps)) at (roomFor (take (length warpBeatsOld - at) (drop at warpBeatsOld)) (take (length warpLengthsOld - at) (drop at warpLengthsOld))) (roomFor warpBeatsOld warpLengthsOld) rooms))
 
   pub passed-on : (outcome .number ≡ 0 → ⊥)
-      → ListsLaid (lower raw warps) (behindGiven warpBeats warpLengths lists) outcome tempoBeatsOld tempoBeatsNew tempoValuesOld tempoValuesNew stopBeatsOld stopBeatsNew stopValuesOld stopValuesNew
+      → ListsLaid (lower raw warps) (behindGiven (listColumns warpBeats warpLengths) lists) outcome tempoBeatsOld tempoBeatsNew tempoValuesOld tempoValuesNew stopBeatsOld stopBeatsNew stopValuesOld stopValuesNew
       warpBeatsOld (putMid (length warpBeats) (length warpBeatsOld - length warpBeats) warpBeatsOld warpBeatsBack) warpLengthsOld (putMid (length warpBeats) (length warpLengthsOld - length warpBeats) warpLengthsOld warpLengthsBack)
   passed-on some =
       let same = one-list (p .warpsLaid) (list-refused some) in
@@ -153,10 +154,10 @@ module _ (raw : ℕ) {warps : ℕ} (h : warps ≡ 0) (lists : ThreeLists) (warpB
     made-fit =
         let fit = taken-fits (sym (taken-fits (sym taken ∙ merged-number) .0)) .1 in
         let made : outcome .warps ≡ length (lists .warps) = made-laid .counted in
-        omega (arith, merged-length lists warpBeats warpLengths even)
+        omega (arith, merged-length lists (listColumns warpBeats warpLengths) even)
 
     pub all-laid : length warpBeatsBack ≡ length warpBeatsOld - length warpBeats → length warpLengthsBack ≡ length warpLengthsOld - length warpBeats
-        → ListsLaid (lower raw warps) (behindGiven warpBeats warpLengths lists) (record { number = 0; tempos = outcome .tempos; stops = outcome .stops; warps = length warpBeats + outcome .warps; offset = outcome .offset }) tempoBeatsOld tempoBeatsNew tempoValuesOld tempoValuesNew stopBeatsOld stopBeatsNew stopValuesOld stopValuesNew
+        → ListsLaid (lower raw warps) (behindGiven (listColumns warpBeats warpLengths) lists) (record { number = 0; tempos = outcome .tempos; stops = outcome .stops; warps = length warpBeats + outcome .warps; offset = outcome .offset }) tempoBeatsOld tempoBeatsNew tempoValuesOld tempoValuesNew stopBeatsOld stopBeatsNew stopValuesOld stopValuesNew
         warpBeatsOld (laidEach (λ (x : Float). x) warpBeats (putMid (length warpBeats) (length warpBeatsOld - length warpBeats) warpBeatsOld warpBeatsBack)) warpLengthsOld (laidEach (λ (x : Float). x) warpLengths (putMid (length warpBeats) (length warpLengthsOld - length warpBeats) warpLengthsOld warpLengthsBack))
     unfolding given
     all-laid beatsLong lengthsLong =
@@ -166,7 +167,7 @@ module _ (raw : ℕ) {warps : ℕ} (h : warps ≡ 0) (lists : ThreeLists) (warpB
           temposLaid = rw taken at (p .temposLaid);
           stopsLaid = rw taken at (p .stopsLaid);
           warpsLaid =
-              list-laid (omega (arith, merged-length lists warpBeats warpLengths even))
+              list-laid (omega (arith, merged-length lists (listColumns warpBeats warpLengths) even))
               (rw (map-append, first-entries warpBeats warpLengths even) (copied warpBeats (map first (lists .warps)) warpBeatsOld warpBeatsBack (length warpBeats) refl (omega arith) (made-laid .firstIs) beatsLong))
               (rw (map-append, second-entries warpBeats warpLengths even) (copied warpLengths (map second (lists .warps)) warpLengthsOld warpLengthsBack (length warpBeats) even (omega arith) (made-laid .secondIs) lengthsLong));
           offsetIs = rw taken at (p .offsetIs);

@@ -1,2 +1,3 @@
+pub mod LentLists
 pub mod MergedWarps
 pub mod inside

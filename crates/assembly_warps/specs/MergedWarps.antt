@@ -1,7 +1,6 @@
 -- Tempos and stops processed, with the warps that they make behind the warps that are given. Definitions only.
 use Prim.Native.Nat.{ℕ}
-use mathlib.Core.List.{List, _++_}
-use lib.Ieee.{Float}
+use mathlib.Core.List.{_++_}
 use Rattle.limits.specs.declared.Kind.the-variants.{Beat, Value}
 use Rattle.limits.specs.Numbers.{rangeOf}
 use Rattle.limits.specs.Refusals.{lower, listNumber}
@@ -9,33 +8,39 @@ use Rattle.order.specs.Entries.{entries}
 use Rattle.process_raw.specs.declared.Processed.{Processed}
 use Rattle.process_raw.specs.RawLists.{rawNumbers}
 use Rattle.chart.specs.declared.TimingFormat.{TimingFormat}
+use Rattle.chart.specs.ChartColumns.{ListColumns}
 use Rattle.process.specs.ByFormat.{ThreeLists, processedLists, ListsLaid}
+use Rattle.assembly_warps.specs.LentLists.{ThreeColumns}
 
 -- given warps by themselves: too many, columns that differ in length, a beat, a length
-abbrev pub warpsNumber : List Float → List Float → ℕ
-warpsNumber beats lengths = listNumber (rangeOf Beat) (rangeOf Value) beats lengths
+abbrev pub warpsNumber : ListColumns → ℕ
+warpsNumber warps = listNumber (rangeOf Beat) (rangeOf Value) (warps .beats) (warps .values)
 
 -- the lowest of the three lists
-abbrev pub threeNumber : (tempoBeats tempoValues stopBeats stopValues warpBeats warpLengths : List Float) → ℕ
-threeNumber tempoBeats tempoValues stopBeats stopValues warpBeats warpLengths =
-    lower (rawNumbers tempoBeats tempoValues stopBeats stopValues) (warpsNumber warpBeats warpLengths)
+abbrev pub threeNumber : ThreeColumns → ℕ
+threeNumber raw = lower (rawNumbers (raw .tempos .beats) (raw .tempos .values) (raw .stops .beats) (raw .stops .values)) (warpsNumber (raw .warps))
 
 -- warps that are given come before those that are made
-abbrev pub behindGiven : List Float → List Float → ThreeLists → ThreeLists
-behindGiven warpBeats warpLengths lists = record {
+abbrev pub behindGiven : (warps : ListColumns) → ThreeLists → ThreeLists
+behindGiven warps lists = record {
   tempos = lists .tempos;
   stops = lists .stops;
-  warps = entries warpBeats warpLengths ++ lists .warps;
+  warps = entries (warps .beats) (warps .values) ++ lists .warps;
   offset = lists .offset;
 }
 
-abbrev pub mergedLists : TimingFormat → (tempoBeats tempoValues stopBeats stopValues warpBeats warpLengths : List Float) → ThreeLists
-mergedLists format tempoBeats tempoValues stopBeats stopValues warpBeats warpLengths =
-    behindGiven warpBeats warpLengths (processedLists format tempoBeats tempoValues stopBeats stopValues)
+abbrev pub mergedLists : TimingFormat → ThreeColumns → ThreeLists
+mergedLists format raw =
+    behindGiven (raw .warps) (processedLists format (raw .tempos .beats) (raw .tempos .values) (raw .stops .beats) (raw .stops .values))
+
+-- lists of processing, laid over the three rooms as they were and as they are
+abbrev pub ListsOver : (tests : ℕ) → ThreeLists → Processed → (old new : ThreeColumns) → Type 0
+ListsOver tests lists outcome old new =
+    ListsLaid tests lists outcome
+    (old .tempos .beats) (new .tempos .beats) (old .tempos .values) (new .tempos .values)
+    (old .stops .beats) (new .stops .beats) (old .stops .values) (new .stops .values)
+    (old .warps .beats) (new .warps .beats) (old .warps .values) (new .warps .values)
 
 -- the one outcome of the call
-abbrev pub MergedBy : TimingFormat → (tempoBeats tempoValues stopBeats stopValues warpBeats warpLengths : List Float) → Processed
-    → (tempoBeatsOld tempoBeatsNew tempoValuesOld tempoValuesNew stopBeatsOld stopBeatsNew stopValuesOld stopValuesNew warpBeatsOld warpBeatsNew warpLengthsOld warpLengthsNew : List Float) → Type 0
-MergedBy format tempoBeats tempoValues stopBeats stopValues warpBeats warpLengths outcome =
-    ListsLaid (threeNumber tempoBeats tempoValues stopBeats stopValues warpBeats warpLengths)
-    (mergedLists format tempoBeats tempoValues stopBeats stopValues warpBeats warpLengths) outcome
+abbrev pub MergedBy : TimingFormat → (raw : ThreeColumns) → Processed → (old new : ThreeColumns) → Type 0
+MergedBy format raw = ListsOver (threeNumber raw) (mergedLists format raw)

@@ -6,6 +6,7 @@ ghost use mathlib.Core.Path.{_≡_};
 ghost use Rattle.limits.specs.Refusals.{lower};
 ghost use Rattle.process_raw.specs.RawLists.{rawNumbers, processedNothing};
 ghost use Rattle.assembly_warps.specs.inside.OrNoRoom.{orNoRoom};
+ghost use Rattle.assembly_warps.specs.LentLists.{threeColumns, lentThree, threeBefore, threeAfter};
 ghost use Rattle.assembly_warps.specs.MergedWarps.{MergedBy};
 
 // Where the given warps are refused, or have no room: the lowest number of the three lists, and 7 where they are taken.
@@ -16,7 +17,9 @@ fn refuse(
     stop_values: &[f64],
     warps: u32,
 ) -> Processed
-    ensures { λ r. ⌜ r ≡ processedNothing (orNoRoom (lower (rawNumbers (now («tempo_beats» .entry)) (now («tempo_values» .entry)) (now («stop_beats» .entry)) (now («stop_values» .entry))) warps)) ⌝ }
+    ensures { λ r.
+        let raw = rawNumbers «tempo_beats».entry.now «tempo_values».entry.now «stop_beats».entry.now «stop_values».entry.now in
+        ⌜ r ≡ processedNothing (orNoRoom (lower raw warps)) ⌝ }
 {
     let number = limits::lower_of(
         process_raw::number_of(tempo_beats, tempo_values, stop_beats, stop_values),
@@ -44,7 +47,13 @@ pub fn process_with_warps(
     out_warp_beats: &mut [f64],
     out_warp_lengths: &mut [f64],
 ) -> Processed
-    ensures { λ r. ⌜ MergedBy format (now («tempo_beats» .entry)) (now («tempo_values» .entry)) (now («stop_beats» .entry)) (now («stop_values» .entry)) (now («warp_beats» .entry)) (now («warp_lengths» .entry)) r (now («out_tempo_beats» .entry)) (now («out_tempo_beats» .exit)) (now («out_tempo_values» .entry)) (now («out_tempo_values» .exit)) (now («out_stop_beats» .entry)) (now («out_stop_beats» .exit)) (now («out_stop_values» .entry)) (now («out_stop_values» .exit)) (now («out_warp_beats» .entry)) (now («out_warp_beats» .exit)) (now («out_warp_lengths» .entry)) (now («out_warp_lengths» .exit)) ⌝ }
+    ensures { λ r.
+        let raw = threeColumns
+        «tempo_beats».entry.now «tempo_values».entry.now
+        «stop_beats».entry.now «stop_values».entry.now
+        «warp_beats».entry.now «warp_lengths».entry.now in
+        let rooms = lentThree «out_tempo_beats» «out_tempo_values» «out_stop_beats» «out_stop_values» «out_warp_beats» «out_warp_lengths» in
+        ⌜ MergedBy format raw r (threeBefore rooms) (threeAfter rooms) ⌝ }
 {
     let given = warp_beats.len();
     let warps = limits::list_number(Kind::Beat, Kind::Value, warp_beats, warp_lengths);

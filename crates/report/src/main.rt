@@ -11,8 +11,8 @@ const PAGE: usize = 65536;
 
 // Reads all of standard input and writes its report on the page.
 fn write_input(page: &mut [u8]) -> usize
-    ensures { λ r. ⌜ ReportOfSome r (now (page .entry)) (now (page .exit)) ⌝ }
-    ensures { λ r. ⌜ Counts r (now (page .exit)) ⌝ }
+    ensures { λ r. ⌜ ReportOfSome r page.entry.now page.exit.now ⌝ }
+    ensures { λ r. ⌜ Counts r page.exit.now ⌝ }
 {
     let mut counts = [0u64; report_form::COUNTS];
     let mut tempo_beats = [0.0; report_form::MOST_REPORTED];

@@ -2,13 +2,14 @@
 ghost use mathlib.Core.Path.{_≡_};
 ghost use lib.ListN.{take};
 ghost use Rattle.io.specs.Counts.{Counts};
+ghost use Rattle.chart.specs.ChartColumns.{lentColumns, lentSpeeds, LentChart, ChartRoom, before};
 ghost use Rattle.text_page.specs.Page.{Wrote};
 ghost use Rattle.report_text.specs.Output.{answerLine};
 ghost use Rattle.report_answer.specs.Report.{doneText};
 
 // The first units of a column, or bytes of a text.
 pub fn front_units(column: &[u8], count: usize) -> &[u8]
-    ensures { λ r. ⌜ now r ≡ take count (now (column .entry)) ⌝ }
+    ensures { λ r. ⌜ now r ≡ take count column.entry.now ⌝ }
 {
     if count < column.len() {
         return &column[..count];
@@ -16,12 +17,13 @@ pub fn front_units(column: &[u8], count: usize) -> &[u8]
     column
 }
 
-// Writes the answer from the page's first byte on: assembly's number, and where that is 0 the offset and the first entries of each list, as
-// many as are counted. Answers how many bytes it has. A page of 45,000 bytes holds every answer of lists of 256 entries.
+// Writes the answer from the page's first byte on: assembly's number, and where that is 0 the offset, the first entries of each list, as
+// many as are counted, and the rows that are warped. Answers how many bytes it has. A page of 45,400 bytes holds every answer of lists of 256 entries.
 pub fn write_answer(
     page: &mut [u8],
     number: u32,
     offset: f32,
+    warped: u64,
     tempos: usize,
     stops: usize,
     delays: usize,
@@ -46,8 +48,27 @@ pub fn write_answer(
     fake_beats: &[f32],
     fake_lengths: &[f32],
 ) -> usize
-    ensures { λ r. ⌜ Wrote (doneText number offset tempos stops delays warps speeds scrolls fakes (now («tempo_beats» .entry)) (now («tempo_values» .entry)) (now («stop_beats» .entry)) (now («stop_values» .entry)) (now («delay_beats» .entry)) (now («delay_values» .entry)) (now («warp_beats» .entry)) (now («warp_lengths» .entry)) (now («speed_beats» .entry)) (now («speed_ratios» .entry)) (now («speed_delays» .entry)) (now («speed_units» .entry)) (now («scroll_beats» .entry)) (now («scroll_values» .entry)) (now («fake_beats» .entry)) (now («fake_lengths» .entry))) 0 r (now (page .entry)) (now (page .exit)) ⌝ }
-    ensures { λ r. ⌜ Counts r (now (page .exit)) ⌝ }
+    ensures { λ r.
+        let lists : LentChart = record {
+          tempos = lentColumns «tempo_beats» «tempo_values»;
+          stops = lentColumns «stop_beats» «stop_values»;
+          delays = lentColumns «delay_beats» «delay_values»;
+          warps = lentColumns «warp_beats» «warp_lengths»;
+          speeds = lentSpeeds «speed_beats» «speed_ratios» «speed_delays» «speed_units»;
+          scrolls = lentColumns «scroll_beats» «scroll_values»;
+          fakes = lentColumns «fake_beats» «fake_lengths»;
+        } in
+        let counts : ChartRoom = record {
+          tempos = tempos;
+          stops = stops;
+          delays = delays;
+          warps = warps;
+          speeds = speeds;
+          scrolls = scrolls;
+          fakes = fakes;
+        } in
+        ⌜ Wrote (doneText number offset warped counts (before lists)) 0 r page.entry.now page.exit.now ⌝ }
+    ensures { λ r. ⌜ Counts r page.exit.now ⌝ }
 {
     let at = report_text::put_answer(page, 0, number);
     if number != 0 {
@@ -57,6 +78,7 @@ pub fn write_answer(
         page,
         at,
         offset,
+        warped,
         tempos,
         stops,
         delays,
@@ -85,8 +107,8 @@ pub fn write_answer(
 
 // Writes the answer line of a refusal, from the page's first byte on, and answers how many bytes it has.
 pub fn write_refusal(page: &mut [u8], number: u32) -> usize
-    ensures { λ r. ⌜ Wrote (answerLine number) 0 r (now (page .entry)) (now (page .exit)) ⌝ }
-    ensures { λ r. ⌜ Counts r (now (page .exit)) ⌝ }
+    ensures { λ r. ⌜ Wrote (answerLine number) 0 r page.entry.now page.exit.now ⌝ }
+    ensures { λ r. ⌜ Counts r page.exit.now ⌝ }
 {
     report_text::put_answer(page, 0, number)
 }

@@ -2,11 +2,11 @@
 ghost use Rattle.io.specs.Counts.{Counts};
 ghost use Rattle.report_whole.specs.Whole.{reportOf, Reported};
 
-// Writes the report of an input's bytes, from the page's first byte on, and answers how many bytes it has. A page of 45,000 bytes holds
+// Writes the report of an input's bytes, from the page's first byte on, and answers how many bytes it has. A page of 45,400 bytes holds
 // every report; a shorter one holds its beginning.
 pub fn report_of(page: &mut [u8], input: &[u8]) -> usize
-    ensures { λ r. ⌜ Reported (reportOf (now (input .entry))) r (now (page .entry)) (now (page .exit)) ⌝ }
-    ensures { λ r. ⌜ Counts r (now (page .exit)) ⌝ }
+    ensures { λ r. ⌜ Reported (reportOf input.entry.now) r page.entry.now page.exit.now ⌝ }
+    ensures { λ r. ⌜ Counts r page.exit.now ⌝ }
 {
     let mut counts = [0u64; report_form::COUNTS];
     let mut tempo_beats = [0.0; report_form::MOST_REPORTED];

@@ -1,7 +1,8 @@
 // The report program's input as an automaton: one step a byte over a small state, and what each byte completes.
 ghost use mathlib.Core.Path.{_≡_};
 ghost use Prim.Native.Nat.{_<_};
-ghost use Rattle.report_form.specs.Form.{start, broken, grown, letterOf, hexOf, unitRead, characterOf, listNamed, follows, opened, namedOf, widthOf, lastDigits, commaOf, more, closed, formatEnded, entryEnded, endedOf, stepOf, whole, over, answerOf};
+ghost use Rattle.report_form.specs.Form.{start, broken, grown, letterOf, hexOf, unitRead, characterOf, listNamed, follows, opened, namedOf};
+ghost use Rattle.report_form.specs.Form.{widthOf, lastDigits, commaOf, more, closed, formatEnded, entryEnded, endedOf, stepOf, whole, over, answerOf};
 ghost use Rattle.report_form.specs.Stores.{nothing, complete, storeOf};
 
 // How far the input is read: whether it is of the form so far, its format, the list of the last line, the part of the line that is being

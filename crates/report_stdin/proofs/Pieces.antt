@@ -3,7 +3,7 @@ use Prim.Native.Nat.{ℕ}
 use mathlib.Core.Path.{_≡_, refl, sym, ap, _∙_}
 use mathlib.Core.List.{List, [], _∷_, _++_}
 use lib.IntN.{ℤ, pos, negsuc}
-use lib.Ieee.{Float}
+use Rattle.chart.specs.ChartColumns.{ChartColumns}
 use Rattle.report_form.specs.declared.Reading.{Reading}
 use Rattle.report_form.specs.declared.Store.{Store}
 use Rattle.report_form.specs.Form.{stepOf, readOn}
@@ -27,8 +27,8 @@ column-join change reading (byte ∷ bytes) more column = column-join change (st
 joined : {A : Type 0} (change : Store → A → A) (begun half : Reading) (bytes more : List ℕ) (old middle new : A) → half ≡ readOn begun bytes → middle ≡ columnAfter change begun bytes old → new ≡ columnAfter change half more middle → new ≡ columnAfter change begun (bytes ++ more) old
 joined change begun half bytes more old middle new h m n = n ∙ ap (λ (r : Reading). columnAfter change r more middle) h ∙ ap (columnAfter change (readOn begun bytes) more) m ∙ column-join change begun bytes more old
 
-pub fed-none : {begun reading : Reading} {counts : List ℕ} {tempoBeats tempoValues stopBeats stopValues delayBeats delayValues warpBeats warpLengths speedBeats speedRatios speedDelays : List Float} {speedUnits : List ℕ} {scrollBeats scrollValues fakeBeats fakeLengths : List Float}
-    → reading ≡ begun → Fed begun reading counts counts tempoBeats tempoBeats tempoValues tempoValues stopBeats stopBeats stopValues stopValues delayBeats delayBeats delayValues delayValues warpBeats warpBeats warpLengths warpLengths speedBeats speedBeats speedRatios speedRatios speedDelays speedDelays speedUnits speedUnits scrollBeats scrollBeats scrollValues scrollValues fakeBeats fakeBeats fakeLengths fakeLengths
+pub fed-none : {begun reading : Reading} {counts : List ℕ} {lists : ChartColumns}
+    → reading ≡ begun → Fed begun reading counts counts lists lists
 unfolding readOn columnAfter
 fed-none same = record { bytes = []; read = same; counts = refl; tempoBeats = refl; tempoValues = refl; stopBeats = refl; stopValues = refl; delayBeats = refl; delayValues = refl; warpBeats = refl; warpLengths = refl; speedBeats = refl; speedRatios = refl; speedDelays = refl; speedUnits = refl; scrollBeats = refl; scrollValues = refl; fakeBeats = refl; fakeLengths = refl }
 
@@ -37,8 +37,8 @@ idle : {A : Type 0} (change : Store → A → A) (reading : Reading) (column : A
 unfolding columnAfter
 idle change reading column e = e ∙ ap (λ (store : Store). change store column) (sym (zero-no-store reading (stepOf reading 0)))
 
-pub fed-zero : {begun reading : Reading} {counts : List ℕ} {tempoBeats tempoValues stopBeats stopValues delayBeats delayValues warpBeats warpLengths speedBeats speedRatios speedDelays : List Float} {speedUnits : List ℕ} {scrollBeats scrollValues fakeBeats fakeLengths : List Float}
-    → reading ≡ stepOf begun 0 → Fed begun reading counts counts tempoBeats tempoBeats tempoValues tempoValues stopBeats stopBeats stopValues stopValues delayBeats delayBeats delayValues delayValues warpBeats warpBeats warpLengths warpLengths speedBeats speedBeats speedRatios speedRatios speedDelays speedDelays speedUnits speedUnits scrollBeats scrollBeats scrollValues scrollValues fakeBeats fakeBeats fakeLengths fakeLengths
+pub fed-zero : {begun reading : Reading} {counts : List ℕ} {lists : ChartColumns}
+    → reading ≡ stepOf begun 0 → Fed begun reading counts counts lists lists
 unfolding readOn countIn storedIn
 fed-zero {begun} same =
     record {
@@ -63,9 +63,9 @@ fed-zero {begun} same =
       fakeLengths = idle (numberIn 8 2) begun _ refl;
     }
 
-pub fed-join : {begun half reading : Reading} {countsOld countsHalf countsNew : List ℕ} {tempoBeatsOld tempoBeatsHalf tempoBeatsNew tempoValuesOld tempoValuesHalf tempoValuesNew stopBeatsOld stopBeatsHalf stopBeatsNew stopValuesOld stopValuesHalf stopValuesNew delayBeatsOld delayBeatsHalf delayBeatsNew delayValuesOld delayValuesHalf delayValuesNew warpBeatsOld warpBeatsHalf warpBeatsNew warpLengthsOld warpLengthsHalf warpLengthsNew speedBeatsOld speedBeatsHalf speedBeatsNew speedRatiosOld speedRatiosHalf speedRatiosNew speedDelaysOld speedDelaysHalf speedDelaysNew : List Float} {speedUnitsOld speedUnitsHalf speedUnitsNew : List ℕ} {scrollBeatsOld scrollBeatsHalf scrollBeatsNew scrollValuesOld scrollValuesHalf scrollValuesNew fakeBeatsOld fakeBeatsHalf fakeBeatsNew fakeLengthsOld fakeLengthsHalf fakeLengthsNew : List Float}
-    → Fed begun half countsOld countsHalf tempoBeatsOld tempoBeatsHalf tempoValuesOld tempoValuesHalf stopBeatsOld stopBeatsHalf stopValuesOld stopValuesHalf delayBeatsOld delayBeatsHalf delayValuesOld delayValuesHalf warpBeatsOld warpBeatsHalf warpLengthsOld warpLengthsHalf speedBeatsOld speedBeatsHalf speedRatiosOld speedRatiosHalf speedDelaysOld speedDelaysHalf speedUnitsOld speedUnitsHalf scrollBeatsOld scrollBeatsHalf scrollValuesOld scrollValuesHalf fakeBeatsOld fakeBeatsHalf fakeLengthsOld fakeLengthsHalf → Fed half reading countsHalf countsNew tempoBeatsHalf tempoBeatsNew tempoValuesHalf tempoValuesNew stopBeatsHalf stopBeatsNew stopValuesHalf stopValuesNew delayBeatsHalf delayBeatsNew delayValuesHalf delayValuesNew warpBeatsHalf warpBeatsNew warpLengthsHalf warpLengthsNew speedBeatsHalf speedBeatsNew speedRatiosHalf speedRatiosNew speedDelaysHalf speedDelaysNew speedUnitsHalf speedUnitsNew scrollBeatsHalf scrollBeatsNew scrollValuesHalf scrollValuesNew fakeBeatsHalf fakeBeatsNew fakeLengthsHalf fakeLengthsNew
-    → Fed begun reading countsOld countsNew tempoBeatsOld tempoBeatsNew tempoValuesOld tempoValuesNew stopBeatsOld stopBeatsNew stopValuesOld stopValuesNew delayBeatsOld delayBeatsNew delayValuesOld delayValuesNew warpBeatsOld warpBeatsNew warpLengthsOld warpLengthsNew speedBeatsOld speedBeatsNew speedRatiosOld speedRatiosNew speedDelaysOld speedDelaysNew speedUnitsOld speedUnitsNew scrollBeatsOld scrollBeatsNew scrollValuesOld scrollValuesNew fakeBeatsOld fakeBeatsNew fakeLengthsOld fakeLengthsNew
+pub fed-join : {begun half reading : Reading} {countsOld countsHalf countsNew : List ℕ} {old between new : ChartColumns}
+    → Fed begun half countsOld countsHalf old between → Fed half reading countsHalf countsNew between new
+    → Fed begun reading countsOld countsNew old new
 fed-join {begun} {half} {reading} a b =
     record {
       bytes = a .bytes ++ b .bytes;
@@ -90,8 +90,8 @@ fed-join {begun} {half} {reading} a b =
     }
 
 -- and what a read's answer makes of them
-pub fed-answered : (got : ℤ) {begun half reading : Reading} {countsOld countsNew : List ℕ} {tempoBeatsOld tempoBeatsNew tempoValuesOld tempoValuesNew stopBeatsOld stopBeatsNew stopValuesOld stopValuesNew delayBeatsOld delayBeatsNew delayValuesOld delayValuesNew warpBeatsOld warpBeatsNew warpLengthsOld warpLengthsNew speedBeatsOld speedBeatsNew speedRatiosOld speedRatiosNew speedDelaysOld speedDelaysNew : List Float} {speedUnitsOld speedUnitsNew : List ℕ} {scrollBeatsOld scrollBeatsNew scrollValuesOld scrollValuesNew fakeBeatsOld fakeBeatsNew fakeLengthsOld fakeLengthsNew : List Float}
-    → Fed begun half countsOld countsNew tempoBeatsOld tempoBeatsNew tempoValuesOld tempoValuesNew stopBeatsOld stopBeatsNew stopValuesOld stopValuesNew delayBeatsOld delayBeatsNew delayValuesOld delayValuesNew warpBeatsOld warpBeatsNew warpLengthsOld warpLengthsNew speedBeatsOld speedBeatsNew speedRatiosOld speedRatiosNew speedDelaysOld speedDelaysNew speedUnitsOld speedUnitsNew scrollBeatsOld scrollBeatsNew scrollValuesOld scrollValuesNew fakeBeatsOld fakeBeatsNew fakeLengthsOld fakeLengthsNew → reading ≡ afterAnswer got half
-    → Fed begun reading countsOld countsNew tempoBeatsOld tempoBeatsNew tempoValuesOld tempoValuesNew stopBeatsOld stopBeatsNew stopValuesOld stopValuesNew delayBeatsOld delayBeatsNew delayValuesOld delayValuesNew warpBeatsOld warpBeatsNew warpLengthsOld warpLengthsNew speedBeatsOld speedBeatsNew speedRatiosOld speedRatiosNew speedDelaysOld speedDelaysNew speedUnitsOld speedUnitsNew scrollBeatsOld scrollBeatsNew scrollValuesOld scrollValuesNew fakeBeatsOld fakeBeatsNew fakeLengthsOld fakeLengthsNew
+pub fed-answered : (got : ℤ) {begun half reading : Reading} {countsOld countsNew : List ℕ} {old new : ChartColumns}
+    → Fed begun half countsOld countsNew old new → reading ≡ afterAnswer got half
+    → Fed begun reading countsOld countsNew old new
 fed-answered (pos n) fed e = fed-join fed (fed-none e)
 fed-answered (negsuc n) fed e = fed-join fed (fed-zero e)

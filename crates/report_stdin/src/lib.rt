@@ -4,6 +4,7 @@ use libc::STDIN_FILENO;
 use report_form::Reading;
 ghost use mathlib.Core.Path.{_≡_};
 ghost use mathlib.Core.Bool.{false};
+ghost use Rattle.chart.specs.ChartColumns.{lentColumns, lentSpeeds, LentChart, before, after};
 ghost use Rattle.report_form.specs.Form.{start, stepOf, whole};
 ghost use Rattle.report_stdin.specs.Fed.{Fed};
 ghost use Rattle.report_stdin.specs.Answers.{moreComes, afterAnswer};
@@ -66,7 +67,17 @@ fn read_piece(
     fake_beats: &mut [f64],
     fake_lengths: &mut [f64],
 ) -> Piece
-    ensures { λ r. ⌜ Fed reading (r .reading) (now («counts» .entry)) (now («counts» .exit)) (now («tempo_beats» .entry)) (now («tempo_beats» .exit)) (now («tempo_values» .entry)) (now («tempo_values» .exit)) (now («stop_beats» .entry)) (now («stop_beats» .exit)) (now («stop_values» .entry)) (now («stop_values» .exit)) (now («delay_beats» .entry)) (now («delay_beats» .exit)) (now («delay_values» .entry)) (now («delay_values» .exit)) (now («warp_beats» .entry)) (now («warp_beats» .exit)) (now («warp_lengths» .entry)) (now («warp_lengths» .exit)) (now («speed_beats» .entry)) (now («speed_beats» .exit)) (now («speed_ratios» .entry)) (now («speed_ratios» .exit)) (now («speed_delays» .entry)) (now («speed_delays» .exit)) (now («speed_units» .entry)) (now («speed_units» .exit)) (now («scroll_beats» .entry)) (now («scroll_beats» .exit)) (now («scroll_values» .entry)) (now («scroll_values» .exit)) (now («fake_beats» .entry)) (now («fake_beats» .exit)) (now («fake_lengths» .entry)) (now («fake_lengths» .exit)) ⌝ }
+    ensures { λ r.
+        let lists : LentChart = record {
+          tempos = lentColumns «tempo_beats» «tempo_values»;
+          stops = lentColumns «stop_beats» «stop_values»;
+          delays = lentColumns «delay_beats» «delay_values»;
+          warps = lentColumns «warp_beats» «warp_lengths»;
+          speeds = lentSpeeds «speed_beats» «speed_ratios» «speed_delays» «speed_units»;
+          scrolls = lentColumns «scroll_beats» «scroll_values»;
+          fakes = lentColumns «fake_beats» «fake_lengths»;
+        } in
+        ⌜ Fed reading (r .reading) counts.entry.now counts.exit.now (before lists) (after lists) ⌝ }
 {
     let mut piece = [0u8; PIECE];
     let got = libc::read(STDIN_FILENO, &mut piece);
@@ -116,7 +127,17 @@ pub fn read_all(
     fake_beats: &mut [f64],
     fake_lengths: &mut [f64],
 ) -> Reading
-    ensures { λ r. ⌜ Fed start r (now («counts» .entry)) (now («counts» .exit)) (now («tempo_beats» .entry)) (now («tempo_beats» .exit)) (now («tempo_values» .entry)) (now («tempo_values» .exit)) (now («stop_beats» .entry)) (now («stop_beats» .exit)) (now («stop_values» .entry)) (now («stop_values» .exit)) (now («delay_beats» .entry)) (now («delay_beats» .exit)) (now («delay_values» .entry)) (now («delay_values» .exit)) (now («warp_beats» .entry)) (now («warp_beats» .exit)) (now («warp_lengths» .entry)) (now («warp_lengths» .exit)) (now («speed_beats» .entry)) (now («speed_beats» .exit)) (now («speed_ratios» .entry)) (now («speed_ratios» .exit)) (now («speed_delays» .entry)) (now («speed_delays» .exit)) (now («speed_units» .entry)) (now («speed_units» .exit)) (now («scroll_beats» .entry)) (now («scroll_beats» .exit)) (now («scroll_values» .entry)) (now («scroll_values» .exit)) (now («fake_beats» .entry)) (now («fake_beats» .exit)) (now («fake_lengths» .entry)) (now («fake_lengths» .exit)) ⌝ }
+    ensures { λ r.
+        let lists : LentChart = record {
+          tempos = lentColumns «tempo_beats» «tempo_values»;
+          stops = lentColumns «stop_beats» «stop_values»;
+          delays = lentColumns «delay_beats» «delay_values»;
+          warps = lentColumns «warp_beats» «warp_lengths»;
+          speeds = lentSpeeds «speed_beats» «speed_ratios» «speed_delays» «speed_units»;
+          scrolls = lentColumns «scroll_beats» «scroll_values»;
+          fakes = lentColumns «fake_beats» «fake_lengths»;
+        } in
+        ⌜ Fed start r counts.entry.now counts.exit.now (before lists) (after lists) ⌝ }
 {
     let mut reading = report_form::begin();
     let mut turns = u64::MAX;

@@ -1,15 +1,26 @@
 -- How long the report's lines are, and its lists together: a page can be made large enough. Assumes nothing.
-use Prim.Native.Nat.{ℕ, zero, suc, _+_, _*_, _^_, _%_, _≤_}
+use Prim.Native.Nat.{ℕ, zero, suc, _+_, _*_, _≤_}
 use mathlib.Core.Path.{_≡_, refl, sym, ap, _∙_}
 use mathlib.Core.List.{List, [], _∷_, _++_}
 use native.Mathlib.Omega.{arith}
 use lib.ListN.{length, length-append}
 use lib.Ieee.{Float, toBits, binary32}
 use Rattle.ieee_patterns.specs.Hex.{hexText}
+use Rattle.chart.specs.ChartColumns.{ChartColumns}
 use Rattle.report_form.specs.Text.{bpm, stop, delay, warp, scroll, fake}
 use Rattle.text_page.specs.Digits.{decimalText}
 use Rattle.text_page.proofs.DigitSizes.{decimal-size}
-use Rattle.report_text.specs.Output.{number, answerLine, offsetLine, named, pairLine, pairLines, speedLine, speedLines, warpedRows, warpedLine, listsText}
+use Rattle.report_text.specs.Output.{number, answerLine, offsetLine, named, pairLine, pairLines, speedLine, speedLines, warpedLine, listsText}
+
+-- at most 256 entries in each list
+pub record FewEach (lists : ChartColumns) : Type 0 where
+  pub tempos : length (lists .tempos .beats) ≤ 256
+  pub stops : length (lists .stops .beats) ≤ 256
+  pub delays : length (lists .delays .beats) ≤ 256
+  pub warps : length (lists .warps .beats) ≤ 256
+  pub speeds : length (lists .speeds .beats) ≤ 256
+  pub scrolls : length (lists .scrolls .beats) ≤ 256
+  pub fakes : length (lists .fakes .beats) ≤ 256
 
 hex-size : (k n : ℕ) → length (hexText k n) ≡ k
 unfolding hexText
@@ -31,9 +42,9 @@ offset-size : (offset : Float) → length (offsetLine offset) ≡ 16
 unfolding offsetLine
 offset-size offset = omega (arith, line-size (111 ∷ 102 ∷ 102 ∷ 115 ∷ 101 ∷ 116 ∷ 61 ∷ []) (number offset), number-size offset)
 
-warped-size : (lengths : List Float) → length (warpedLine lengths) ≤ 28
+warped-size : (rows : ℕ) → length (warpedLine rows) ≤ 28
 unfolding warpedLine
-warped-size lengths = omega (arith, line-size (119 ∷ 97 ∷ 114 ∷ 112 ∷ 101 ∷ 100 ∷ 61 ∷ []) (decimalText (warpedRows lengths % 2 ^ 64)), decimal-size 20 (warpedRows lengths % 2 ^ 64))
+warped-size rows = omega (arith, line-size (119 ∷ 97 ∷ 114 ∷ 112 ∷ 101 ∷ 100 ∷ 61 ∷ []) (decimalText rows), decimal-size 20 rows)
 
 pair-size : (word : List ℕ) (beat value : Float) → length (pairLine word beat value) ≡ length word + 18
 unfolding pairLine
@@ -60,21 +71,26 @@ speeds-size (beat ∷ beats) (ratio ∷ ratios) (wait ∷ waits) (unit ∷ units
     simp length-append (omega (arith, speed-size beat ratio wait unit, speeds-size beats ratios waits units))
 
 -- lists of 256 entries at most
-module _ (offset : Float) (tempoBeats tempos stopBeats stops delayBeats delays warpBeats warps speedBeats ratios waits : List Float) (units : List ℕ) (scrollBeats scrolls fakeBeats fakes : List Float) where
-  pub lists-size : length tempoBeats ≤ 256 → length stopBeats ≤ 256 → length delayBeats ≤ 256 → length warpBeats ≤ 256 → length speedBeats ≤ 256 → length scrollBeats ≤ 256 → length fakeBeats ≤ 256
-      → length (listsText offset tempoBeats tempos stopBeats stops delayBeats delays warpBeats warps speedBeats ratios waits units scrollBeats scrolls fakeBeats fakes) ≤ 44844
-  unfolding listsText
-  lists-size a b c d e f g =
-      simp length-append
-      (omega (
-        arith,
-        offset-size offset,
-        pairs-size (named bpm) tempoBeats tempos,
-        pairs-size (named stop) stopBeats stops,
-        pairs-size (named delay) delayBeats delays,
-        pairs-size (named warp) warpBeats warps,
-        speeds-size speedBeats ratios waits units,
-        pairs-size (named scroll) scrollBeats scrolls,
-        pairs-size (named fake) fakeBeats fakes,
-        warped-size warps,
-      ))
+pub lists-size : (offset : Float) (warped : ℕ) (lists : ChartColumns) → FewEach lists → length (listsText offset warped lists) ≤ 44844
+unfolding listsText
+lists-size offset warped lists few =
+    simp length-append
+    (omega (
+      arith,
+      few .tempos,
+      few .stops,
+      few .delays,
+      few .warps,
+      few .speeds,
+      few .scrolls,
+      few .fakes,
+      offset-size offset,
+      pairs-size (named bpm) (lists .tempos .beats) (lists .tempos .values),
+      pairs-size (named stop) (lists .stops .beats) (lists .stops .values),
+      pairs-size (named delay) (lists .delays .beats) (lists .delays .values),
+      pairs-size (named warp) (lists .warps .beats) (lists .warps .values),
+      speeds-size (lists .speeds .beats) (lists .speeds .ratios) (lists .speeds .delays) (lists .speeds .units),
+      pairs-size (named scroll) (lists .scrolls .beats) (lists .scrolls .values),
+      pairs-size (named fake) (lists .fakes .beats) (lists .fakes .values),
+      warped-size warped,
+    ))

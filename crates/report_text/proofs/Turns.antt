@@ -1,16 +1,14 @@
--- One turn of each loop: what is left of lines and of lengths. Assumes nothing.
-use Prim.Native.Nat.{ℕ, suc, min, _+_, _-_, _%_, _^_, _≤_, _<_}
+-- One turn of each loop: what is left of the lines. Assumes nothing.
+use Prim.Native.Nat.{ℕ, suc, min, _+_, _≤_, _<_}
 use mathlib.Core.Path.{_≡_, refl, sym, ap, _∙_}
 use mathlib.Core.List.{List, [], _∷_, _++_}
 use native.Mathlib.Omega.{arith}
 use native.Mathlib.Numerals.{add-one}
 use lib.ListN.{length, take, drop, getD, length-take, drop-of-length-le}
 use lib.Seq.{drop-cons, getD-take}
-use lib.IntN.{ℤ, pos, negsuc}
 use lib.Ieee.{Float, nan}
-use Rattle.rows.specs.RowKey.{rowKey}
 use Rattle.text_page.specs.Page.{Wrote}
-use Rattle.report_text.specs.Output.{pairLine, pairLines, speedLine, speedLines, lengthRows, warpedRows, size}
+use Rattle.report_text.specs.Output.{pairLine, pairLines, speedLine, speedLines}
 use Rattle.text_page.proofs.Joined.{Left, left-turn, left-end}
 
 -- a column that has ended ends the lines
@@ -96,28 +94,3 @@ module _ {all : List ℕ} {start at : ℕ} {first now : List ℕ} where
 
     pub speeds-no-unit : length units ≤ i → Wrote all start at first now
     speeds-no-unit h = left-end (rw (front-end units count i h, no-unit (drop i (take count beats)) (drop i (take count ratios)) (drop i (take count waits))) at l)
-
--- ---- the sum of rows, round at 2 ^ 64
-abbrev pub Summed : List Float → ℕ → ℕ → Type 0
-Summed lengths sum i = (sum + warpedRows (drop i lengths)) % 2 ^ 64 ≡ warpedRows lengths % 2 ^ 64
-
-round-sum : (a b c : ℕ) → ((a + b) % 2 ^ 64 + c) % 2 ^ 64 ≡ (a + (b + c)) % 2 ^ 64
-round-sum a b c = omega arith
-
-pub summed-turn : (lengths : List Float) (sum next rows i : ℕ) → i < length lengths → rows ≡ lengthRows (getD lengths i nan) → next ≡ (sum + rows) % 2 ^ 64 → Summed lengths sum i → Summed lengths next (i + 1)
-unfolding warpedRows
-summed-turn lengths sum next rows i h e n s =
-    let whole = rw (drop-cons lengths i nan h) at s in
-    rw (add-one i, n, e) (round-sum sum (lengthRows (getD lengths i nan)) _ ∙ whole)
-
-pub summed-end : (lengths : List Float) (sum i : ℕ) → length lengths ≤ i → sum < 2 ^ 64 → Summed lengths sum i → sum ≡ warpedRows lengths % 2 ^ 64
-unfolding warpedRows
-summed-end lengths sum i h small s =
-    let whole : (sum + 0) % 2 ^ 64 ≡ warpedRows lengths % 2 ^ 64 = rw (drop-of-length-le lengths h) at s in
-    omega arith
-
--- ---- a row, from its key
-pub size-key : (z : ℤ) → rowKey z - 2147483648 ≡ size z
-unfolding rowKey
-size-key (pos n) = omega arith
-size-key (negsuc n) = omega arith

@@ -1,11 +1,9 @@
 -- What the report program writes. Definitions only.
-use Prim.Native.Nat.{ℕ, _+_, _^_, _%_}
+use Prim.Native.Nat.{ℕ, _+_, _%_}
 use mathlib.Core.List.{List, [], _∷_, _++_}
-use lib.IntN.{ℤ, pos, negsuc}
-use lib.Ieee.{Float, toBits, binary32, binary64, lt}
-use Rattle.ieee.specs.Constants.{plusZero}
-use Rattle.picks.specs.Pick.{pick}
-use Rattle.rows.specs.Rows.{row}
+use lib.ListN.{take}
+use lib.Ieee.{Float, toBits, binary32}
+use Rattle.chart.specs.ChartColumns.{ListColumns, listColumns, SpeedColumns, speedColumns, ChartColumns, ChartRoom}
 use Rattle.ieee_patterns.specs.Hex.{hexText}
 use Rattle.text_page.specs.Digits.{decimalText}
 use Rattle.report_form.specs.Text.{Pair, bpm, stop, delay, warp, scroll, fake, pairWord, speedWord}
@@ -48,32 +46,44 @@ speedLines (beat ∷ beats) (ratio ∷ ratios) [] units = []
 speedLines (beat ∷ beats) (ratio ∷ ratios) (wait ∷ waits) [] = []
 speedLines (beat ∷ beats) (ratio ∷ ratios) (wait ∷ waits) (unit ∷ units) = speedLine beat ratio wait unit ++ speedLines beats ratios waits units
 
--- how many rows a warp passes over: its length in f64 rows if it is above 0. A row is held at the ends of i32, and an endless warp with it
-abbrev pub size : ℤ → ℕ
-size (pos n) = n
-size (negsuc n) = 0
+-- warped=, the rows that warps pass over
+unfoldable pub warpedLine : ℕ → List ℕ
+warpedLine rows = (119 ∷ 97 ∷ 114 ∷ 112 ∷ 101 ∷ 100 ∷ 61 ∷ []) ++ (decimalText rows ++ (10 ∷ []))
 
-unfoldable pub lengthRows : Float → ℕ
-lengthRows length = pick (lt plusZero length) (size (row binary64 length)) 0
+-- the lines of a list of two columns, and of the speeds
+abbrev pub listLines : Pair → ListColumns → List ℕ
+listLines kind list = pairLines (named kind) (list .beats) (list .values)
 
-unfoldable pub warpedRows : List Float → ℕ
-warpedRows [] = 0
-warpedRows (length ∷ lengths) = lengthRows length + warpedRows lengths
-
--- warped=, the sum in 64 bits
-unfoldable pub warpedLine : List Float → List ℕ
-warpedLine lengths = (119 ∷ 97 ∷ 114 ∷ 112 ∷ 101 ∷ 100 ∷ 61 ∷ []) ++ (decimalText (warpedRows lengths % 2 ^ 64) ++ (10 ∷ []))
+abbrev pub allSpeeds : SpeedColumns → List ℕ
+allSpeeds speeds = speedLines (speeds .beats) (speeds .ratios) (speeds .delays) (speeds .units)
 
 -- THE LISTS: offset, the seven lists in order, warped rows
-unfoldable pub listsText : Float → List Float → List Float → List Float → List Float → List Float → List Float → List Float → List Float
-    → List Float → List Float → List Float → List ℕ → List Float → List Float → List Float → List Float → List ℕ
-listsText offset tempoBeats tempos stopBeats stops delayBeats delays warpBeats warps speedBeats ratios waits units scrollBeats scrolls fakeBeats fakes =
+unfoldable pub listsText : Float → (warped : ℕ) → ChartColumns → List ℕ
+listsText offset warped lists =
     offsetLine offset
-    ++ (pairLines (named bpm) tempoBeats tempos
-    ++ (pairLines (named stop) stopBeats stops
-    ++ (pairLines (named delay) delayBeats delays
-    ++ (pairLines (named warp) warpBeats warps
-    ++ (speedLines speedBeats ratios waits units
-    ++ (pairLines (named scroll) scrollBeats scrolls
-    ++ (pairLines (named fake) fakeBeats fakes
-    ++ warpedLine warps)))))))
+    ++ (listLines bpm (lists .tempos)
+    ++ (listLines stop (lists .stops)
+    ++ (listLines delay (lists .delays)
+    ++ (listLines warp (lists .warps)
+    ++ (allSpeeds (lists .speeds)
+    ++ (listLines scroll (lists .scrolls)
+    ++ (listLines fake (lists .fakes)
+    ++ warpedLine warped)))))))
+
+-- ---- the first entries of a list, and of each list as many as are counted
+abbrev pub frontList : ℕ → ListColumns → ListColumns
+frontList count list = listColumns (take count (list .beats)) (take count (list .values))
+
+abbrev pub frontSpeeds : ℕ → SpeedColumns → SpeedColumns
+frontSpeeds count list = speedColumns (take count (list .beats)) (take count (list .ratios)) (take count (list .delays)) (take count (list .units))
+
+abbrev pub frontLists : ChartRoom → ChartColumns → ChartColumns
+frontLists counts lists = record {
+  tempos = frontList (counts .tempos) (lists .tempos);
+  stops = frontList (counts .stops) (lists .stops);
+  delays = frontList (counts .delays) (lists .delays);
+  warps = frontList (counts .warps) (lists .warps);
+  speeds = frontSpeeds (counts .speeds) (lists .speeds);
+  scrolls = frontList (counts .scrolls) (lists .scrolls);
+  fakes = frontList (counts .fakes) (lists .fakes);
+}

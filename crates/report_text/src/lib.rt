@@ -1,16 +1,16 @@
 // What the report program writes, laid on a lent page from a place on. Each call answers the place behind what it wrote; a full page takes no more.
 ghost use mathlib.Core.Path.{_≡_};
-ghost use Prim.Native.Nat.{_-_, _%_, _^_};
 ghost use mathlib.Core.List.{_∷_, [], _++_};
 ghost use lib.ListN.{take};
 ghost use lib.Ieee.{toBits, binary32};
 ghost use Rattle.text_page.specs.Page.{Wrote};
 ghost use Rattle.text_page.specs.Digits.{decimalText};
-ghost use Rattle.report_text.specs.Output.{number, answerLine, offsetLine, pairLine, pairLines, speedLine, speedLines, lengthRows, warpedRows, warpedLine, listsText};
+ghost use Rattle.chart.specs.ChartColumns.{lentColumns, lentSpeeds, LentChart, ChartRoom, before};
+ghost use Rattle.report_text.specs.Output.{number, answerLine, offsetLine, pairLine, pairLines, speedLine, speedLines, warpedLine, listsText, frontLists};
 
 // A number by its pattern, and the byte that ends it.
 fn put_number(page: &mut [u8], at: usize, x: f32, end: u8) -> usize
-    ensures { λ r. ⌜ Wrote (number x ++ (end ∷ [])) at r (now (page .entry)) (now (page .exit)) ⌝ }
+    ensures { λ r. ⌜ Wrote (number x ++ (end ∷ [])) at r page.entry.now page.exit.now ⌝ }
 {
     let digits = ieee_patterns::hex8(ieee_patterns::bits_of_f32(x));
     let at = text_page::put_bytes(page, at, &digits);
@@ -19,7 +19,7 @@ fn put_number(page: &mut [u8], at: usize, x: f32, end: u8) -> usize
 
 // A number in decimal digits, which ends its line.
 fn put_decimal(page: &mut [u8], at: usize, n: u64) -> usize
-    ensures { λ r. ⌜ Wrote (decimalText n ++ (10 ∷ [])) at r (now (page .entry)) (now (page .exit)) ⌝ }
+    ensures { λ r. ⌜ Wrote (decimalText n ++ (10 ∷ [])) at r page.entry.now page.exit.now ⌝ }
 {
     let at = text_page::put_digits(page, at, n);
     text_page::put_byte(page, at, b'\n')
@@ -27,21 +27,21 @@ fn put_decimal(page: &mut [u8], at: usize, n: u64) -> usize
 
 // The answer line: all that is written of a refusal.
 pub fn put_answer(page: &mut [u8], at: usize, number: u32) -> usize
-    ensures { λ r. ⌜ Wrote (answerLine number) at r (now (page .entry)) (now (page .exit)) ⌝ }
+    ensures { λ r. ⌜ Wrote (answerLine number) at r page.entry.now page.exit.now ⌝ }
 {
     let at = text_page::put_bytes(page, at, b"answer=");
     put_decimal(page, at, number as u64)
 }
 
 fn put_offset(page: &mut [u8], at: usize, offset: f32) -> usize
-    ensures { λ r. ⌜ Wrote (offsetLine offset) at r (now (page .entry)) (now (page .exit)) ⌝ }
+    ensures { λ r. ⌜ Wrote (offsetLine offset) at r page.entry.now page.exit.now ⌝ }
 {
     let at = text_page::put_bytes(page, at, b"offset=");
     put_number(page, at, offset, b'\n')
 }
 
 fn put_pair(page: &mut [u8], at: usize, word: &[u8], beat: f32, value: f32) -> usize
-    ensures { λ r. ⌜ Wrote (pairLine (now (word .entry)) beat value) at r (now (page .entry)) (now (page .exit)) ⌝ }
+    ensures { λ r. ⌜ Wrote (pairLine word.entry.now beat value) at r page.entry.now page.exit.now ⌝ }
 {
     let at = text_page::put_bytes(page, at, word);
     let at = put_number(page, at, beat, b',');
@@ -57,7 +57,8 @@ fn put_pairs(
     beats: &[f32],
     values: &[f32],
 ) -> usize
-    ensures { λ r. ⌜ Wrote (pairLines (now (word .entry)) (take count (now (beats .entry))) (take count (now (values .entry)))) at r (now (page .entry)) (now (page .exit)) ⌝ }
+    ensures { λ r.
+        ⌜ Wrote (pairLines word.entry.now (take count beats.entry.now) (take count values.entry.now)) at r page.entry.now page.exit.now ⌝ }
 {
     let mut place = at;
     let mut i = 0;
@@ -75,7 +76,7 @@ fn put_pairs(
 }
 
 fn put_speed(page: &mut [u8], at: usize, beat: f32, ratio: f32, delay: f32, unit: u8) -> usize
-    ensures { λ r. ⌜ Wrote (speedLine beat ratio delay unit) at r (now (page .entry)) (now (page .exit)) ⌝ }
+    ensures { λ r. ⌜ Wrote (speedLine beat ratio delay unit) at r page.entry.now page.exit.now ⌝ }
 {
     let at = text_page::put_bytes(page, at, b"speed=");
     let at = put_number(page, at, beat, b',');
@@ -94,7 +95,9 @@ fn put_speeds(
     delays: &[f32],
     units: &[u8],
 ) -> usize
-    ensures { λ r. ⌜ Wrote (speedLines (take count (now (beats .entry))) (take count (now (ratios .entry))) (take count (now (delays .entry))) (take count (now (units .entry)))) at r (now (page .entry)) (now (page .exit)) ⌝ }
+    ensures { λ r.
+        ⌜ Wrote (speedLines (take count beats.entry.now) (take count ratios.entry.now) (take count delays.entry.now) (take count units.entry.now))
+        at r page.entry.now page.exit.now ⌝ }
 {
     let mut place = at;
     let mut i = 0;
@@ -117,64 +120,19 @@ fn put_speeds(
     place
 }
 
-// A row from its key, which is 2^31 above it; 0 for a row below 0.
-fn above_zero(key: u32) -> u64
-    ensures { λ r. ⌜ r ≡ key - 2147483648 ⌝ }
+fn put_warped(page: &mut [u8], at: usize, rows: u64) -> usize
+    ensures { λ r. ⌜ Wrote (warpedLine rows) at r page.entry.now page.exit.now ⌝ }
 {
-    if key < 2147483648 {
-        return 0;
-    }
-    (key - 2147483648) as u64
-}
-
-// The rows that a warp of this length passes over; none where the length is not above 0.
-fn length_rows(length: f32) -> u64
-    ensures { λ r. ⌜ r ≡ lengthRows length ⌝ }
-{
-    if length > 0.0 {
-        return above_zero(rows::key_of_row(rows::beat_to_note_row(std::num::f32_to_f64_with_nan(
-            length,
-        ))));
-    }
-    0
-}
-
-// The rows that warps of these lengths pass over, each by itself, as a sum in 64 bits.
-pub fn warped_rows(lengths: &[f32]) -> u64
-    ensures { λ r. ⌜ r ≡ warpedRows (now (lengths .entry)) % 2 ^ 64 ⌝ }
-{
-    let mut sum: u64 = 0;
-    let mut i = 0;
-    while i < lengths.len() {
-        sum = std::num::wrapping_add_u64(sum, length_rows(lengths[i]));
-        i += 1;
-    }
-    sum
-}
-
-// The first entries of a column.
-fn front(column: &[f32], count: usize) -> &[f32]
-    ensures { λ r. ⌜ now r ≡ take count (now (column .entry)) ⌝ }
-{
-    if count < column.len() {
-        return &column[..count];
-    }
-    column
-}
-
-fn put_warped(page: &mut [u8], at: usize, count: usize, lengths: &[f32]) -> usize
-    ensures { λ r. ⌜ Wrote (warpedLine (take count (now (lengths .entry)))) at r (now (page .entry)) (now (page .exit)) ⌝ }
-{
-    let rows = warped_rows(front(lengths, count));
     let at = text_page::put_bytes(page, at, b"warped=");
     put_decimal(page, at, rows)
 }
 
-// What stands behind the answer line of a taken input: offset, the first entries of the seven lists in their order, and the warped rows.
+// What stands behind the answer line of a taken input: offset, the first entries of the seven lists in their order, and the rows that are warped.
 pub fn put_lists(
     page: &mut [u8],
     at: usize,
     offset: f32,
+    warped: u64,
     tempos: usize,
     stops: usize,
     delays: usize,
@@ -200,12 +158,25 @@ pub fn put_lists(
     fake_lengths: &[f32],
 ) -> usize
     ensures { λ r.
-        ⌜ Wrote (listsText offset
-        (take tempos (now («tempo_beats» .entry))) (take tempos (now («tempo_values» .entry))) (take stops (now («stop_beats» .entry))) (take stops (now («stop_values» .entry)))
-        (take delays (now («delay_beats» .entry))) (take delays (now («delay_values» .entry))) (take warps (now («warp_beats» .entry))) (take warps (now («warp_lengths» .entry)))
-        (take speeds (now («speed_beats» .entry))) (take speeds (now («speed_ratios» .entry))) (take speeds (now («speed_delays» .entry))) (take speeds (now («speed_units» .entry)))
-        (take scrolls (now («scroll_beats» .entry))) (take scrolls (now («scroll_values» .entry))) (take fakes (now («fake_beats» .entry))) (take fakes (now («fake_lengths» .entry))))
-        at r (now (page .entry)) (now (page .exit)) ⌝ }
+        let lists : LentChart = record {
+          tempos = lentColumns «tempo_beats» «tempo_values»;
+          stops = lentColumns «stop_beats» «stop_values»;
+          delays = lentColumns «delay_beats» «delay_values»;
+          warps = lentColumns «warp_beats» «warp_lengths»;
+          speeds = lentSpeeds «speed_beats» «speed_ratios» «speed_delays» «speed_units»;
+          scrolls = lentColumns «scroll_beats» «scroll_values»;
+          fakes = lentColumns «fake_beats» «fake_lengths»;
+        } in
+        let counts : ChartRoom = record {
+          tempos = tempos;
+          stops = stops;
+          delays = delays;
+          warps = warps;
+          speeds = speeds;
+          scrolls = scrolls;
+          fakes = fakes;
+        } in
+        ⌜ Wrote (listsText offset warped (frontLists counts (before lists))) at r page.entry.now page.exit.now ⌝ }
 {
     let at = put_offset(page, at, offset);
     let at = put_pairs(page, at, b"bpm=", tempos, tempo_beats, tempo_values);
@@ -223,5 +194,5 @@ pub fn put_lists(
     );
     let at = put_pairs(page, at, b"scroll=", scrolls, scroll_beats, scroll_values);
     let at = put_pairs(page, at, b"fake=", fakes, fake_beats, fake_lengths);
-    put_warped(page, at, warps, warp_lengths)
+    put_warped(page, at, warped)
 }

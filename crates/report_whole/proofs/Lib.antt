@@ -1,3 +1,4 @@
+pub mod SameColumns
 pub mod TakenFits
 pub mod TakenReport
 pub mod ReportFits

@@ -5,6 +5,7 @@ use mathlib.Core.List.{List}
 use lib.ListN.{replicate}
 use lib.Ieee.{Float}
 use Rattle.ieee.specs.Constants.{plusZero}
+use Rattle.chart.specs.ChartColumns.{listColumns, speedColumns, chartColumns}
 use Rattle.report_form.specs.declared.Reading.{Reading}
 use Rattle.report_form.specs.Form.{start, readOn}
 use Rattle.report_form.specs.Stores.{numberIn, unitIn, countIn, columnAfter}
@@ -28,7 +29,7 @@ pub read-report : (input : List ℕ) {begun reading : Reading} {counts : List �
     → scrollValues ≡ columnAfter (numberIn 7 2) begun input (replicate 256 plusZero)
     → fakeBeats ≡ columnAfter (numberIn 8 1) begun input (replicate 256 plusZero)
     → fakeLengths ≡ columnAfter (numberIn 8 2) begun input (replicate 256 plusZero)
-    → reportText reading counts tempoBeats tempoValues stopBeats stopValues delayBeats delayValues warpBeats warpLengths speedBeats speedRatios speedDelays speedUnits scrollBeats scrollValues fakeBeats fakeLengths ≡ reportOf input
+    → reportText reading counts (chartColumns (listColumns tempoBeats tempoValues) (listColumns stopBeats stopValues) (listColumns delayBeats delayValues) (listColumns warpBeats warpLengths) (speedColumns speedBeats speedRatios speedDelays speedUnits) (listColumns scrollBeats scrollValues) (listColumns fakeBeats fakeLengths)) ≡ reportOf input
 unfolding reportOf
 read-report input b r c e1 e2 e3 e4 e5 e6 e7 e8 e9 e10 e11 e12 e13 e14 e15 e16 = cc
 

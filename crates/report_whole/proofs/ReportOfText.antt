@@ -1,6 +1,6 @@
 -- THE REPORT OF A TEXT is the report of its entries, and every input is told by its report: the text of entries in order, or 10. Assumes nothing.
 use Prim.Native.Nat.{ℕ, zero, suc, _%_, _≤_, _<_}
-use mathlib.Core.Path.{_≡_, refl, sym, ap, _∙_}
+use mathlib.Core.Path.{_≡_, refl, sym, ap, ap₂, _∙_}
 use mathlib.Core.Bool.{Bool, true, false}
 use mathlib.Core.List.{List, [], _∷_, map}
 use native.Mathlib.Omega.{arith}
@@ -16,6 +16,7 @@ use Rattle.order.specs.Order.{laid}
 use Rattle.columns.specs.Each.{laidEach}
 use Rattle.columns.proofs.EachOverFront.{each-over-front}
 use Rattle.chart.specs.declared.TimingFormat.{TimingFormat}
+use Rattle.chart.specs.ChartColumns.{ChartColumns}
 use Rattle.report_form.specs.Form.{start, readOn, widthOf, whole, over, answerOf}
 use Rattle.report_form.specs.Stores.{storedIn, columnAfter}
 use Rattle.report_form.specs.Text.{Pair, bpm, stop, delay, warp, scroll, fake, Entry, pair, speed, pairList, entryList, text}
@@ -23,10 +24,11 @@ use Rattle.report_form.specs.Orderly.{Fits, speed-fits, Orderly, none, one, Tex
 use Rattle.report_form.proofs.RoundTrip.{text-whole, text-format, text-column, list-named}
 use Rattle.report_form.proofs.WholeIsText.{whole-is-text}
 use Rattle.report_form.proofs.TextCounts.{text-counts, format-counts, counts-length}
-use Rattle.report_text.specs.Output.{answerLine}
+use Rattle.report_text.specs.Output.{answerLine, frontLists}
 use Rattle.report_whole.specs.Taken.{takenText}
-use Rattle.report_whole.specs.Whole.{formatRead, entriesCounted, reportText, numbersRead, unitsRead, countsRead, reportOf}
-use Rattle.report_whole.specs.OfText.{floatsOf, entriesReport, Told, of-text, of-no-text}
+use Rattle.report_whole.specs.Whole.{formatRead, entriesCounted, listsCounted, reportText, numbersRead, countsRead, chartRead, reportOf}
+use Rattle.report_whole.specs.OfText.{floatsOf, entriesChart, entriesReport, Told, of-text, of-no-text}
+use Rattle.report_whole.proofs.SameColumns.{SameColumns, same-chart}
 
 -- ---- a list's numbers
 -- each entry of a list has one number in each part
@@ -89,10 +91,8 @@ not-over n {rest} h = by-case (ltb 256 n) refl h
     by-case true e g = let z : _≡_ {A = ℕ} 0 1 = cc in absurd (omega arith)
 
 -- equal columns have one text
-same-taken : {f g : TimingFormat} {a1 b1 a2 b2 a3 b3 a4 b4 a5 b5 a6 b6 a7 b7 a8 b8 a9 b9 a10 b10 a11 b11 : List Float} {a12 b12 : List ℕ} {a13 b13 a14 b14 a15 b15 a16 b16 : List Float}
-    → f ≡ g → a1 ≡ b1 → a2 ≡ b2 → a3 ≡ b3 → a4 ≡ b4 → a5 ≡ b5 → a6 ≡ b6 → a7 ≡ b7 → a8 ≡ b8 → a9 ≡ b9 → a10 ≡ b10 → a11 ≡ b11 → a12 ≡ b12 → a13 ≡ b13 → a14 ≡ b14 → a15 ≡ b15 → a16 ≡ b16
-    → takenText f a1 a2 a3 a4 a5 a6 a7 a8 a9 a10 a11 a12 a13 a14 a15 a16 ≡ takenText g b1 b2 b3 b4 b5 b6 b7 b8 b9 b10 b11 b12 b13 b14 b15 b16
-same-taken e e1 e2 e3 e4 e5 e6 e7 e8 e9 e10 e11 e12 e13 e14 e15 e16 = cc
+same-taken : {f g : TimingFormat} {a b : ChartColumns} → f ≡ g → SameColumns a b → takenText f a ≡ takenText g b
+same-taken e s = ap₂ takenText e (same-chart s)
 
 module _ (ssc : Bool) (entries : List Entry) (o : Orderly 1 entries) where
   abbrev input : List ℕ
@@ -162,29 +162,28 @@ module _ (ssc : Bool) (entries : List Entry) (o : Orderly 1 entries) where
   floats : (list part : ℕ) → 2 ≤ list → list < 9 → 1 ≤ part → part ≤ widthOf list → entriesOf list entries ≤ 256 → take (entriesCounted (countsRead input) list) (numbersRead list part input) ≡ floatsOf list part entries
   floats list part low high first last few = column (ofBits binary64) list part plusZero low high first last few
 
-  taken : Few
-      → takenText (formatRead (readOn start input .ssc))
-      (take (entriesCounted (countsRead input) 2) (numbersRead 2 1 input)) (take (entriesCounted (countsRead input) 2) (numbersRead 2 2 input))
-      (take (entriesCounted (countsRead input) 3) (numbersRead 3 1 input)) (take (entriesCounted (countsRead input) 3) (numbersRead 3 2 input))
-      (take (entriesCounted (countsRead input) 4) (numbersRead 4 1 input)) (take (entriesCounted (countsRead input) 4) (numbersRead 4 2 input))
-      (take (entriesCounted (countsRead input) 5) (numbersRead 5 1 input)) (take (entriesCounted (countsRead input) 5) (numbersRead 5 2 input))
-      (take (entriesCounted (countsRead input) 6) (numbersRead 6 1 input)) (take (entriesCounted (countsRead input) 6) (numbersRead 6 2 input)) (take (entriesCounted (countsRead input) 6) (numbersRead 6 3 input)) (take (entriesCounted (countsRead input) 6) (unitsRead input))
-      (take (entriesCounted (countsRead input) 7) (numbersRead 7 1 input)) (take (entriesCounted (countsRead input) 7) (numbersRead 7 2 input))
-      (take (entriesCounted (countsRead input) 8) (numbersRead 8 1 input)) (take (entriesCounted (countsRead input) 8) (numbersRead 8 2 input))
-      ≡ takenText (formatRead ssc)
-      (floatsOf 2 1 entries) (floatsOf 2 2 entries) (floatsOf 3 1 entries) (floatsOf 3 2 entries) (floatsOf 4 1 entries) (floatsOf 4 2 entries) (floatsOf 5 1 entries) (floatsOf 5 2 entries)
-      (floatsOf 6 1 entries) (floatsOf 6 2 entries) (floatsOf 6 3 entries) (numbersOf 6 4 entries) (floatsOf 7 1 entries) (floatsOf 7 2 entries) (floatsOf 8 1 entries) (floatsOf 8 2 entries)
+  taken : Few → takenText (formatRead (readOn start input .ssc)) (frontLists (listsCounted (countsRead input)) (chartRead input)) ≡ takenText (formatRead ssc) (entriesChart entries)
   unfolding widthOf
   taken f =
       same-taken (ap formatRead (text-format ssc entries o))
-      (floats 2 1 (omega arith) (omega arith) (omega arith) (omega arith) (f .tempos)) (floats 2 2 (omega arith) (omega arith) (omega arith) (omega arith) (f .tempos))
-      (floats 3 1 (omega arith) (omega arith) (omega arith) (omega arith) (f .stops)) (floats 3 2 (omega arith) (omega arith) (omega arith) (omega arith) (f .stops))
-      (floats 4 1 (omega arith) (omega arith) (omega arith) (omega arith) (f .delays)) (floats 4 2 (omega arith) (omega arith) (omega arith) (omega arith) (f .delays))
-      (floats 5 1 (omega arith) (omega arith) (omega arith) (omega arith) (f .warps)) (floats 5 2 (omega arith) (omega arith) (omega arith) (omega arith) (f .warps))
-      (floats 6 1 (omega arith) (omega arith) (omega arith) (omega arith) (f .speeds)) (floats 6 2 (omega arith) (omega arith) (omega arith) (omega arith) (f .speeds)) (floats 6 3 (omega arith) (omega arith) (omega arith) (omega arith) (f .speeds))
-      (column byte 6 4 0 (omega arith) (omega arith) (omega arith) (omega arith) (f .speeds) ∙ units-stand o)
-      (floats 7 1 (omega arith) (omega arith) (omega arith) (omega arith) (f .scrolls)) (floats 7 2 (omega arith) (omega arith) (omega arith) (omega arith) (f .scrolls))
-      (floats 8 1 (omega arith) (omega arith) (omega arith) (omega arith) (f .fakes)) (floats 8 2 (omega arith) (omega arith) (omega arith) (omega arith) (f .fakes))
+      (record {
+        tempoBeats = floats 2 1 (omega arith) (omega arith) (omega arith) (omega arith) (f .tempos);
+        tempoValues = floats 2 2 (omega arith) (omega arith) (omega arith) (omega arith) (f .tempos);
+        stopBeats = floats 3 1 (omega arith) (omega arith) (omega arith) (omega arith) (f .stops);
+        stopValues = floats 3 2 (omega arith) (omega arith) (omega arith) (omega arith) (f .stops);
+        delayBeats = floats 4 1 (omega arith) (omega arith) (omega arith) (omega arith) (f .delays);
+        delayValues = floats 4 2 (omega arith) (omega arith) (omega arith) (omega arith) (f .delays);
+        warpBeats = floats 5 1 (omega arith) (omega arith) (omega arith) (omega arith) (f .warps);
+        warpLengths = floats 5 2 (omega arith) (omega arith) (omega arith) (omega arith) (f .warps);
+        speedBeats = floats 6 1 (omega arith) (omega arith) (omega arith) (omega arith) (f .speeds);
+        speedRatios = floats 6 2 (omega arith) (omega arith) (omega arith) (omega arith) (f .speeds);
+        speedDelays = floats 6 3 (omega arith) (omega arith) (omega arith) (omega arith) (f .speeds);
+        speedUnits = column byte 6 4 0 (omega arith) (omega arith) (omega arith) (omega arith) (f .speeds) ∙ units-stand o;
+        scrollBeats = floats 7 1 (omega arith) (omega arith) (omega arith) (omega arith) (f .scrolls);
+        scrollValues = floats 7 2 (omega arith) (omega arith) (omega arith) (omega arith) (f .scrolls);
+        fakeBeats = floats 8 1 (omega arith) (omega arith) (omega arith) (omega arith) (f .fakes);
+        fakeLengths = floats 8 2 (omega arith) (omega arith) (omega arith) (omega arith) (f .fakes);
+      })
 
   answer-is : answerOf (readOn start input) (countsRead input) ≡ pick (tooMany entries) 1 0
   unfolding answerOf

@@ -15,59 +15,73 @@ use Rattle.order.specs.Entries.{first, second}
 use Rattle.columns.specs.Laying.{given, columnLaid}
 use Rattle.tidy_speeds_entries.specs.LaidSpeeds.{ratioOf, delayOf, unitOf}
 use Rattle.chart.specs.declared.TimingFormat.{TimingFormat}
-use Rattle.chart.specs.ChartColumns.{ChartColumns}
+use Rattle.chart.specs.ChartColumns.{ChartColumns, ChartRoom}
 use Rattle.assembly.specs.declared.Assembled.{Assembled}
-use Rattle.assembly.specs.Assembly.{Assembles}
-use Rattle.report_text.specs.Output.{answerLine, listsText}
+use Rattle.assembly.specs.Assembly.{processedChart, Assembles}
+use Rattle.lookup_warped.specs.WarpedRows.{warpedCount}
+use Rattle.report_text.specs.Output.{answerLine, listsText, frontLists}
 use Rattle.report_answer.specs.Report.{doneText}
-use Rattle.report_whole.specs.Taken.{chartGiven, processedOf, takenNumber, takenLists, takenText}
+use Rattle.report_whole.specs.Taken.{timingLists, takenNumber, takenLists, takenText}
+use Rattle.report_whole.proofs.SameColumns.{same-chart}
 
 -- the front of a column that a taken result was laid over
 front-laid : {A B : Type 0} (field : A → B) (number count : ℕ) (result : List A) (old new : List B) → number ≡ 0 → count ≡ length (given number result) → new ≡ columnLaid field number result old → take count new ≡ map field result
 unfolding given laid
 front-laid field number count result old new z c n = rw (n, c, z) (take-at (map field result) _ (length result) (length-map result field))
 
--- equal columns have one text
-same-lists : (offset : Float) {a1 b1 a2 b2 a3 b3 a4 b4 a5 b5 a6 b6 a7 b7 a8 b8 a9 b9 a10 b10 a11 b11 a13 b13 a14 b14 a15 b15 a16 b16 : List Float} {a12 b12 : List ℕ}
-    → a1 ≡ b1 → a2 ≡ b2 → a3 ≡ b3 → a4 ≡ b4 → a5 ≡ b5 → a6 ≡ b6 → a7 ≡ b7 → a8 ≡ b8 → a9 ≡ b9 → a10 ≡ b10 → a11 ≡ b11 → a12 ≡ b12 → a13 ≡ b13 → a14 ≡ b14 → a15 ≡ b15 → a16 ≡ b16
-    → listsText offset a1 a2 a3 a4 a5 a6 a7 a8 a9 a10 a11 a12 a13 a14 a15 a16 ≡ listsText offset b1 b2 b3 b4 b5 b6 b7 b8 b9 b10 b11 b12 b13 b14 b15 b16
-same-lists offset e1 e2 e3 e4 e5 e6 e7 e8 e9 e10 e11 e12 e13 e14 e15 e16 = cc
+-- how many entries of each list were written
+abbrev pub written : Assembled → ChartRoom
+written done = record {
+  tempos = done .tempos;
+  stops = done .stops;
+  delays = done .delays;
+  warps = done .warps;
+  speeds = done .speeds;
+  scrolls = done .scrolls;
+  fakes = done .fakes;
+}
 
-module _ (format : TimingFormat) (tempoBeats tempoValues stopBeats stopValues delayBeats delayValues warpBeats warpLengths speedBeats speedRatios speedDelays : List Float) (speedUnits : List ℕ)
-    (scrollBeats scrollValues fakeBeats fakeLengths : List Float) (done : Assembled) (old new : ChartColumns)
-    (made : Assembles 256 format (chartGiven format tempoBeats tempoValues stopBeats stopValues delayBeats delayValues warpBeats warpLengths speedBeats speedRatios speedDelays speedUnits scrollBeats scrollValues fakeBeats fakeLengths) done old new) where
-  abbrev number : ℕ
-  number = takenNumber format tempoBeats tempoValues stopBeats stopValues delayBeats delayValues warpBeats warpLengths speedBeats speedRatios speedDelays speedUnits scrollBeats scrollValues fakeBeats fakeLengths
+module _ (format : TimingFormat) (raw : ChartColumns) (done : Assembled) (old new : ChartColumns) (made : Assembles 256 format raw done old new) {warped : ℕ}
+    (sum : warped ≡ warpedCount (take (done .warps) (new .warps .values))) where
+  -- the columns' fronts are the lists
+  fronts-are : done .number ≡ 0 → frontLists (written done) new ≡ timingLists format raw
+  fronts-are z =
+      same-chart (record {
+        tempoBeats = front-laid first _ _ _ _ _ z (made .temposAre .counted) (made .temposAre .firstIs);
+        tempoValues = front-laid second _ _ _ _ _ z (made .temposAre .counted) (made .temposAre .secondIs);
+        stopBeats = front-laid first _ _ _ _ _ z (made .stopsAre .counted) (made .stopsAre .firstIs);
+        stopValues = front-laid second _ _ _ _ _ z (made .stopsAre .counted) (made .stopsAre .secondIs);
+        delayBeats = front-laid first _ _ _ _ _ z (made .delaysAre .counted) (made .delaysAre .firstIs);
+        delayValues = front-laid second _ _ _ _ _ z (made .delaysAre .counted) (made .delaysAre .secondIs);
+        warpBeats = front-laid first _ _ _ _ _ z (made .warpsAre .counted) (made .warpsAre .firstIs);
+        warpLengths = front-laid second _ _ _ _ _ z (made .warpsAre .counted) (made .warpsAre .secondIs);
+        speedBeats = front-laid first _ _ _ _ _ z (made .speedsAre .counted) (made .speedsAre .beatsAre);
+        speedRatios = front-laid ratioOf _ _ _ _ _ z (made .speedsAre .counted) (made .speedsAre .ratiosAre);
+        speedDelays = front-laid delayOf _ _ _ _ _ z (made .speedsAre .counted) (made .speedsAre .delaysAre);
+        speedUnits = front-laid unitOf _ _ _ _ _ z (made .speedsAre .counted) (made .speedsAre .unitsAre);
+        scrollBeats = front-laid first _ _ _ _ _ z (made .scrollsAre .counted) (made .scrollsAre .firstIs);
+        scrollValues = front-laid second _ _ _ _ _ z (made .scrollsAre .counted) (made .scrollsAre .secondIs);
+        fakeBeats = front-laid first _ _ _ _ _ z (made .fakesAre .counted) (made .fakesAre .firstIs);
+        fakeLengths = front-laid second _ _ _ _ _ z (made .fakesAre .counted) (made .fakesAre .secondIs);
+      })
 
   abbrev lists : List ℕ
-  lists = takenLists format tempoBeats tempoValues stopBeats stopValues delayBeats delayValues warpBeats warpLengths speedBeats speedRatios speedDelays speedUnits scrollBeats scrollValues fakeBeats fakeLengths
+  lists = listsText (done .offset) warped (frontLists (written done) new)
 
-  -- the columns' fronts are the lists
-  abbrev fronts : List ℕ
-  fronts =
-      listsText (done .offset) (take (done .tempos) (new .tempos .beats)) (take (done .tempos) (new .tempos .values)) (take (done .stops) (new .stops .beats)) (take (done .stops) (new .stops .values)) (take (done .delays) (new .delays .beats)) (take (done .delays) (new .delays .values)) (take (done .warps) (new .warps .beats)) (take (done .warps) (new .warps .values))
-      (take (done .speeds) (new .speeds .beats)) (take (done .speeds) (new .speeds .ratios)) (take (done .speeds) (new .speeds .delays)) (take (done .speeds) (new .speeds .units)) (take (done .scrolls) (new .scrolls .beats)) (take (done .scrolls) (new .scrolls .values)) (take (done .fakes) (new .fakes .beats)) (take (done .fakes) (new .fakes .values))
+  lists-are : done .number ≡ 0 → lists ≡ takenLists format raw
+  lists-are z =
+      let fronts = fronts-are z in
+      let rows : warped ≡ warpedCount (timingLists format raw .warps .values) = sum ∙ ap (λ (c : ChartColumns). warpedCount (c .warps .values)) fronts in
+      let offset : done .offset ≡ narrow (processedChart format raw .offset) = made .offsetIs ∙ rw z in
+      ap (listsText (done .offset) warped) fronts ∙ rw (rows, offset)
 
-  fronts-are : done .number ≡ 0 → fronts ≡ lists
-  fronts-are z =
-      let offset : done .offset ≡ narrow (processedOf format tempoBeats tempoValues stopBeats stopValues delayBeats delayValues warpBeats warpLengths speedBeats speedRatios speedDelays speedUnits scrollBeats scrollValues fakeBeats fakeLengths .offset) = made .offsetIs ∙ rw z in
-      rw offset
-      (same-lists _
-      (front-laid first _ _ _ _ _ z (made .temposAre .counted) (made .temposAre .firstIs)) (front-laid second _ _ _ _ _ z (made .temposAre .counted) (made .temposAre .secondIs))
-      (front-laid first _ _ _ _ _ z (made .stopsAre .counted) (made .stopsAre .firstIs)) (front-laid second _ _ _ _ _ z (made .stopsAre .counted) (made .stopsAre .secondIs))
-      (front-laid first _ _ _ _ _ z (made .delaysAre .counted) (made .delaysAre .firstIs)) (front-laid second _ _ _ _ _ z (made .delaysAre .counted) (made .delaysAre .secondIs))
-      (front-laid first _ _ _ _ _ z (made .warpsAre .counted) (made .warpsAre .firstIs)) (front-laid second _ _ _ _ _ z (made .warpsAre .counted) (made .warpsAre .secondIs))
-      (front-laid first _ _ _ _ _ z (made .speedsAre .counted) (made .speedsAre .beatsAre)) (front-laid ratioOf _ _ _ _ _ z (made .speedsAre .counted) (made .speedsAre .ratiosAre))
-      (front-laid delayOf _ _ _ _ _ z (made .speedsAre .counted) (made .speedsAre .delaysAre)) (front-laid unitOf _ _ _ _ _ z (made .speedsAre .counted) (made .speedsAre .unitsAre))
-      (front-laid first _ _ _ _ _ z (made .scrollsAre .counted) (made .scrollsAre .firstIs)) (front-laid second _ _ _ _ _ z (made .scrollsAre .counted) (made .scrollsAre .secondIs))
-      (front-laid first _ _ _ _ _ z (made .fakesAre .counted) (made .fakesAre .firstIs)) (front-laid second _ _ _ _ _ z (made .fakesAre .counted) (made .fakesAre .secondIs)))
-
-  pub done-is-taken : done .number ≡ number
-      → doneText (done .number) (done .offset) (done .tempos) (done .stops) (done .delays) (done .warps) (done .speeds) (done .scrolls) (done .fakes) (new .tempos .beats) (new .tempos .values) (new .stops .beats) (new .stops .values) (new .delays .beats) (new .delays .values) (new .warps .beats) (new .warps .values) (new .speeds .beats) (new .speeds .ratios) (new .speeds .delays) (new .speeds .units) (new .scrolls .beats) (new .scrolls .values) (new .fakes .beats) (new .fakes .values)
-      ≡ takenText format tempoBeats tempoValues stopBeats stopValues delayBeats delayValues warpBeats warpLengths speedBeats speedRatios speedDelays speedUnits scrollBeats scrollValues fakeBeats fakeLengths
+  pub done-is-taken : done .number ≡ takenNumber format raw → doneText (done .number) (done .offset) warped (written done) new ≡ takenText format raw
   unfolding doneText takenText
-  done-is-taken n = ap (λ (k : ℕ). answerLine k ++ pick (eqb k 0) fronts []) n ∙ by-case (eqb number 0) refl
+  done-is-taken n = ap (λ (k : ℕ). answerLine k ++ pick (eqb k 0) lists []) n ∙ by-case (eqb number 0) refl
     where
-      by-case : (t : Bool) → eqb number 0 ≡ t → answerLine number ++ pick (eqb number 0) fronts [] ≡ answerLine number ++ pick (eqb number 0) lists []
+      number : ℕ
+      number = takenNumber format raw
+
+      by-case : (t : Bool) → eqb number 0 ≡ t → answerLine number ++ pick (eqb number 0) lists [] ≡ answerLine number ++ pick (eqb number 0) (takenLists format raw) []
       by-case false e = rw e
-      by-case true e = ap (λ (l : List ℕ). answerLine number ++ pick (eqb number 0) l []) (fronts-are (n ∙ eqb-true number 0 e))
+      by-case true e = ap (λ (l : List ℕ). answerLine number ++ pick (eqb number 0) l []) (lists-are (n ∙ eqb-true number 0 e))

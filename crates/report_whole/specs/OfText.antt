@@ -5,6 +5,7 @@ use mathlib.Core.Bool.{Bool}
 use mathlib.Core.List.{List, map}
 use lib.Ieee.{Float, ofBits, binary64}
 use Rattle.limits.specs.Table.{tooLong, badText}
+use Rattle.chart.specs.ChartColumns.{ListColumns, listColumns, speedColumns, ChartColumns}
 use Rattle.picks.specs.Pick.{pick}
 use Rattle.report_form.specs.Text.{Entry}
 use Rattle.report_form.specs.Orderly.{TextOf, numbersOf, tooMany}
@@ -16,18 +17,25 @@ use Rattle.report_whole.specs.Whole.{formatRead, reportOf}
 abbrev pub floatsOf : ℕ → ℕ → List Entry → List Float
 floatsOf list part entries = map (ofBits binary64) (numbersOf list part entries)
 
+abbrev pub entriesList : ℕ → List Entry → ListColumns
+entriesList list entries = listColumns (floatsOf list 1 entries) (floatsOf list 2 entries)
+
+abbrev pub entriesChart : List Entry → ChartColumns
+entriesChart entries = record {
+  tempos = entriesList 2 entries;
+  stops = entriesList 3 entries;
+  delays = entriesList 4 entries;
+  warps = entriesList 5 entries;
+  speeds = speedColumns (floatsOf 6 1 entries) (floatsOf 6 2 entries) (floatsOf 6 3 entries) (numbersOf 6 4 entries);
+  scrolls = entriesList 7 entries;
+  fakes = entriesList 8 entries;
+}
+
 -- refused with 1 where a list has more than 256 entries, else the answer to the entries' lists
 unfoldable pub entriesReport : Bool → List Entry → List ℕ
 entriesReport ssc entries =
     pick (tooMany entries) (answerLine tooLong)
-    (takenText (formatRead ssc)
-    (floatsOf 2 1 entries) (floatsOf 2 2 entries)
-    (floatsOf 3 1 entries) (floatsOf 3 2 entries)
-    (floatsOf 4 1 entries) (floatsOf 4 2 entries)
-    (floatsOf 5 1 entries) (floatsOf 5 2 entries)
-    (floatsOf 6 1 entries) (floatsOf 6 2 entries) (floatsOf 6 3 entries) (numbersOf 6 4 entries)
-    (floatsOf 7 1 entries) (floatsOf 7 2 entries)
-    (floatsOf 8 1 entries) (floatsOf 8 2 entries))
+    (takenText (formatRead ssc) (entriesChart entries))
 
 -- THE REPORT OF ANY BYTES: of the text of entries in order, the report of those entries; of anything else, the refusal with 10
 pub data Told (bytes : List ℕ) : Type 0 where

@@ -4,6 +4,7 @@ use report_form::Reading;
 ghost use mathlib.Core.Path.{_≡_};
 ghost use lib.ListN.{take};
 ghost use Rattle.io.specs.Counts.{Counts};
+ghost use Rattle.chart.specs.ChartColumns.{lentColumns, lentSpeeds, LentChart, before};
 ghost use Rattle.text_page.specs.Page.{Wrote};
 ghost use Rattle.report_whole.specs.Taken.{takenText};
 ghost use Rattle.report_whole.specs.Whole.{formatRead, entriesCounted, reportText, Reported};
@@ -19,7 +20,7 @@ fn format_of(ssc: bool) -> TimingFormat
 
 // How many entries a list has; none where the counts end before it.
 fn count_of(counts: &[u64], list: usize) -> usize
-    ensures { λ r. ⌜ r ≡ entriesCounted (now (counts .entry)) list ⌝ }
+    ensures { λ r. ⌜ r ≡ entriesCounted counts.entry.now list ⌝ }
 {
     if list < counts.len() {
         return counts[list] as usize;
@@ -29,7 +30,17 @@ fn count_of(counts: &[u64], list: usize) -> usize
 
 // The first entries of a column.
 fn front(column: &[f64], count: usize) -> &[f64]
-    ensures { λ r. ⌜ now r ≡ take count (now (column .entry)) ⌝ }
+    ensures { λ r. ⌜ now r ≡ take count column.entry.now ⌝ }
+{
+    if count < column.len() {
+        return &column[..count];
+    }
+    column
+}
+
+// The same of a column of f32s.
+fn front_f32(column: &[f32], count: usize) -> &[f32]
+    ensures { λ r. ⌜ now r ≡ take count column.entry.now ⌝ }
 {
     if count < column.len() {
         return &column[..count];
@@ -58,8 +69,18 @@ fn write_assembled(
     fake_beats: &[f64],
     fake_lengths: &[f64],
 ) -> usize
-    ensures { λ r. ⌜ Wrote (takenText format (now («tempo_beats» .entry)) (now («tempo_values» .entry)) (now («stop_beats» .entry)) (now («stop_values» .entry)) (now («delay_beats» .entry)) (now («delay_values» .entry)) (now («warp_beats» .entry)) (now («warp_lengths» .entry)) (now («speed_beats» .entry)) (now («speed_ratios» .entry)) (now («speed_delays» .entry)) (now («speed_units» .entry)) (now («scroll_beats» .entry)) (now («scroll_values» .entry)) (now («fake_beats» .entry)) (now («fake_lengths» .entry))) 0 r (now (page .entry)) (now (page .exit)) ⌝ }
-    ensures { λ r. ⌜ Counts r (now (page .exit)) ⌝ }
+    ensures { λ r.
+        let raw : LentChart = record {
+          tempos = lentColumns «tempo_beats» «tempo_values»;
+          stops = lentColumns «stop_beats» «stop_values»;
+          delays = lentColumns «delay_beats» «delay_values»;
+          warps = lentColumns «warp_beats» «warp_lengths»;
+          speeds = lentSpeeds «speed_beats» «speed_ratios» «speed_delays» «speed_units»;
+          scrolls = lentColumns «scroll_beats» «scroll_values»;
+          fakes = lentColumns «fake_beats» «fake_lengths»;
+        } in
+        ⌜ Wrote (takenText format (before raw)) 0 r page.entry.now page.exit.now ⌝ }
+    ensures { λ r. ⌜ Counts r page.exit.now ⌝ }
 {
     let mut out_tempo_beats = [0.0f32; report_form::MOST_REPORTED];
     let mut out_tempo_values = [0.0f32; report_form::MOST_REPORTED];
@@ -113,10 +134,12 @@ fn write_assembled(
         &mut out_fake_beats,
         &mut out_fake_lengths,
     );
+    let warped = lookup_warped::warped_rows(front_f32(&out_warp_lengths, done.warps));
     report_answer::write_answer(
         page,
         done.number,
         done.offset,
+        warped,
         done.tempos,
         done.stops,
         done.delays,
@@ -144,7 +167,7 @@ fn write_assembled(
 }
 
 // Writes the report of an input that is read, from the page's first byte on, and answers how many bytes it has. Columns and counts are as
-// `report_feed::feed` leaves them. A page of 45,000 bytes holds every report; a shorter one holds its beginning.
+// `report_feed::feed` leaves them. A page of 45,400 bytes holds every report; a shorter one holds its beginning.
 pub fn write_report(
     page: &mut [u8],
     reading: Reading,
@@ -166,8 +189,18 @@ pub fn write_report(
     fake_beats: &[f64],
     fake_lengths: &[f64],
 ) -> usize
-    ensures { λ r. ⌜ Reported (reportText reading (now (counts .entry)) (now («tempo_beats» .entry)) (now («tempo_values» .entry)) (now («stop_beats» .entry)) (now («stop_values» .entry)) (now («delay_beats» .entry)) (now («delay_values» .entry)) (now («warp_beats» .entry)) (now («warp_lengths» .entry)) (now («speed_beats» .entry)) (now («speed_ratios» .entry)) (now («speed_delays» .entry)) (now («speed_units» .entry)) (now («scroll_beats» .entry)) (now («scroll_values» .entry)) (now («fake_beats» .entry)) (now («fake_lengths» .entry))) r (now (page .entry)) (now (page .exit)) ⌝ }
-    ensures { λ r. ⌜ Counts r (now (page .exit)) ⌝ }
+    ensures { λ r.
+        let lists : LentChart = record {
+          tempos = lentColumns «tempo_beats» «tempo_values»;
+          stops = lentColumns «stop_beats» «stop_values»;
+          delays = lentColumns «delay_beats» «delay_values»;
+          warps = lentColumns «warp_beats» «warp_lengths»;
+          speeds = lentSpeeds «speed_beats» «speed_ratios» «speed_delays» «speed_units»;
+          scrolls = lentColumns «scroll_beats» «scroll_values»;
+          fakes = lentColumns «fake_beats» «fake_lengths»;
+        } in
+        ⌜ Reported (reportText reading counts.entry.now (before lists)) r page.entry.now page.exit.now ⌝ }
+    ensures { λ r. ⌜ Counts r page.exit.now ⌝ }
 {
     let number = report_form::answer(reading, counts);
     if number != limits::TAKEN {

@@ -3,6 +3,7 @@ use mathlib.Core.Path.{sym, _∙_}
 use Rattle.rows.specs.Rows.{quantized}
 use Rattle.columns.proofs.LaidEach.{laid-all}
 use Rattle.assembly_speeds.proofs.Untested.{apart, not-apart}
+use Rattle.chart.specs.ChartColumns.{speedColumns}
 use borrow.Author.Needs.{needs}
 use Rattle.assembly_speeds.proofs.assemble_by.Statement.{statement}
 use Rattle.assembly_speeds.proofs.assemble_by.Tie as tie
@@ -35,7 +36,7 @@ returns : tie.Need-returns
 returns c =
     let s = c .before .before .before .before .before .before .before .before .before .before .before .before .before .before .before .before .before .before .before .before .before .before .before .before .before .before .before .before .before .before .pre in
     let given = c .before .before .before .before .before .before .before .before .before .before .before .before .before .before .before .before .before .before .before .before .before .before .before .before .before .before .before .before .before .before .args in
-    apart (given .beats .now) (given .ratios .now) (given .delays .now) (given .units .now) (s .0) (s .1 .0) (c .before .before .before .before .before .before .before .before .before .before .before .before .before .before .before .before .before .before .before .quantize-column-f32 .ensures ∙ laid-all quantized (given .beats .now) (given .quantised .now) (sym (s .1 .1))) (sym (c .before .before .before .before .before .before .before .before .before .before .before .before .before .before .before .rise-apart .ensures) ∙ c .before .before .before .before .before .before .before .before .before .before .before .before .before .before .if1 .taken) (c .before .before .before .before .before .before .before .before .lay-each .ensures)
+    apart (speedColumns (given .beats .now) (given .ratios .now) (given .delays .now) (given .units .now)) (s .0) (s .1 .0) (c .before .before .before .before .before .before .before .before .before .before .before .before .before .before .before .before .before .before .before .quantize-column-f32 .ensures ∙ laid-all quantized (given .beats .now) (given .quantised .now) (sym (s .1 .1))) (sym (c .before .before .before .before .before .before .before .before .before .before .before .before .before .before .before .rise-apart .ensures) ∙ c .before .before .before .before .before .before .before .before .before .before .before .before .before .before .if1 .taken) (c .before .before .before .before .before .before .before .before .lay-each .ensures)
 
 assemble-any-requires : tie.Need-assemble-any-requires
 assemble-any-requires c κs = c .before .before .before .before .before .before .before .before .before .before .before .before .before .before .before .before .before .before .before .before .pre .1 .0
@@ -59,7 +60,7 @@ returns-2 : tie.Need-returns-2
 returns-2 c =
     let s = c .before .before .before .before .before .before .before .before .before .before .before .before .before .before .before .before .before .before .before .before .before .before .before .before .before .before .before .before .before .pre in
     let given = c .before .before .before .before .before .before .before .before .before .before .before .before .before .before .before .before .before .before .before .before .before .before .before .before .before .before .before .before .before .args in
-    not-apart (given .beats .now) (given .ratios .now) (given .delays .now) (given .units .now) (s .0) (s .1 .0) (c .before .before .before .before .before .before .before .before .before .before .before .before .before .before .before .before .before .before .quantize-column-f32 .ensures ∙ laid-all quantized (given .beats .now) (given .quantised .now) (sym (s .1 .1))) (sym (c .before .before .before .before .before .before .before .before .before .before .before .before .before .before .rise-apart .ensures) ∙ c .before .before .before .before .before .before .before .before .before .before .before .before .before .if1 .left) (c .before .before .before .before .before .before .before .before .assemble-any .ensures)
+    not-apart (speedColumns (given .beats .now) (given .ratios .now) (given .delays .now) (given .units .now)) (s .0) (s .1 .0) (c .before .before .before .before .before .before .before .before .before .before .before .before .before .before .before .before .before .before .quantize-column-f32 .ensures ∙ laid-all quantized (given .beats .now) (given .quantised .now) (sym (s .1 .1))) (sym (c .before .before .before .before .before .before .before .before .before .before .before .before .before .before .rise-apart .ensures) ∙ c .before .before .before .before .before .before .before .before .before .before .before .before .before .if1 .left) (c .before .before .before .before .before .before .before .before .assemble-any .ensures)
 
 pub assemble-by-spec : {M : Type 1} → statement M
 assemble-by-spec =

@@ -3,6 +3,7 @@ use mathlib.Core.Path.{sym, _∙_}
 use Rattle.rows.specs.Rows.{quantized}
 use Rattle.columns.proofs.LaidEach.{laid-all}
 use Rattle.assembly_speeds.proofs.Outcomes.{by-columns}
+use Rattle.chart.specs.ChartColumns.{speedColumns}
 use borrow.Author.Needs.{needs}
 use Rattle.assembly_speeds.proofs.assemble_in.Statement.{statement}
 use Rattle.assembly_speeds.proofs.assemble_in.Tie as tie
@@ -49,7 +50,7 @@ returns c =
     let beats = given .beats .now in
     let pre = c .before .before .before .before .before .before .before .before .before .before .before .before .before .before .before .before .before .before .before .before .before .before .before .before .before .before .before .before .before .before .before .before .before .before .before .before .before .before .before .before .before .before .before .before .before .before .before .before .pre in
     let work-beats = c .before .before .before .before .before .before .before .before .before .before .before .before .before .before .before .before .before .before .before .before .before .before .before .before .before .before .before .before .before .before .before .before .before .quantize-column .ensures ∙ laid-all quantized beats (given .work-beats .now) (sym (pre .0)) in
-    by-columns beats (given .ratios .now) (given .delays .now) (given .units .now) (pre .1) (pre .2) (pre .3) (pre .4) (rw work-beats at (c .before .before .before .before .before .before .before .before .before .before .before .before .before .before .before .before .before .before .before .before .before .before .before .before .before .tidy-speed-segments .ensures)) (c .before .before .before .before .before .before .before .before .lay-narrowed .ensures)
+    by-columns (speedColumns beats (given .ratios .now) (given .delays .now) (given .units .now)) (pre .1) (pre .2) (pre .3) (pre .4) (rw work-beats at (c .before .before .before .before .before .before .before .before .before .before .before .before .before .before .before .before .before .before .before .before .before .before .before .before .before .tidy-speed-segments .ensures)) (c .before .before .before .before .before .before .before .before .lay-narrowed .ensures)
 
 pub assemble-in-spec : {M : Type 1} → statement M
 assemble-in-spec =

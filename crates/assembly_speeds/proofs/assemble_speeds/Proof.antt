@@ -1,5 +1,6 @@
 -- `assembly_speeds::assemble_speeds` meets its contract. Assumes nothing.
 use Rattle.assembly_speeds.proofs.Outcomes.{long-refused}
+use Rattle.chart.specs.ChartColumns.{speedColumns}
 use borrow.Author.Needs.{needs}
 use Rattle.assembly_speeds.proofs.assemble_speeds.Statement.{statement}
 use Rattle.assembly_speeds.proofs.assemble_speeds.Tie as tie
@@ -28,7 +29,7 @@ refused-requires c κs = search needs
 returns-2 : tie.Need-returns-2
 returns-2 c =
     let given = c .before .before .before .before .before .before .before .before .before .before .args in
-    rw (c .refused .ensures) (long-refused (given .beats .now) (given .ratios .now) (given .delays .now) (given .units .now) (given .out-beats .now) (given .out-ratios .now) (given .out-delays .now) (given .out-units .now) (c .before .if1 .left))
+    rw (c .refused .ensures) (long-refused (speedColumns (given .beats .now) (given .ratios .now) (given .delays .now) (given .units .now)) (speedColumns (given .out-beats .now) (given .out-ratios .now) (given .out-delays .now) (given .out-units .now)) (c .before .if1 .left))
 
 pub assemble-speeds-spec : {M : Type 1} → statement M
 assemble-speeds-spec =

@@ -1,8 +1,8 @@
 -- `assembly_speeds::assemble_untested` lends columns by size. Assumes nothing.
 use mathlib.Core.Path.{sym, _∙_}
 use borrow.Author.Tests.{not-true, not-false}
-use lib.ListN.{length}
 use Rattle.assembly_speeds.proofs.Untested.{same-so, not-even, not-few}
+use Rattle.chart.specs.ChartColumns.{speedColumns}
 use borrow.Author.Needs.{needs}
 use Rattle.assembly_speeds.proofs.assemble_untested.Statement.{statement}
 use Rattle.assembly_speeds.proofs.assemble_untested.Tie as tie
@@ -28,12 +28,12 @@ same-length-4 c = search needs
 returns : tie.Need-returns
 returns c =
     let given = c .before .before .before .before .before .before .before .before .before .before .before .before .before .before .before .before .before .before .before .before .before .before .before .args in
-    not-even (given .beats .now) (given .ratios .now) (given .delays .now) (given .units .now) (sym (c .before .before .before .before .before .before .before .before .before .before .before .before .before .before .same-lengths .ensures) ∙ not-true (c .before .before .before .before .before .before .before .before .before .before .before .before .before .before .same-lengths .result) (c .before .before .before .before .before .before .before .before .before .before .before .before .before .if1 .taken)) (c .before .before .before .before .before .before .before .before .assemble-speeds .ensures)
+    not-even (speedColumns (given .beats .now) (given .ratios .now) (given .delays .now) (given .units .now)) (sym (c .before .before .before .before .before .before .before .before .before .before .before .before .before .before .same-lengths .ensures) ∙ not-true (c .before .before .before .before .before .before .before .before .before .before .before .before .before .before .same-lengths .result) (c .before .before .before .before .before .before .before .before .before .before .before .before .before .if1 .taken)) (c .before .before .before .before .before .before .before .before .assemble-speeds .ensures)
 
 assemble-by-few-requires : tie.Need-assemble-by-few-requires
 assemble-by-few-requires c κs =
     let given = c .before .before .before .before .before .before .before .before .before .before .before .before .before .before .before .args in
-    (same-so (length (given .beats .now)) (length (given .ratios .now)) (length (given .delays .now)) (length (given .units .now)) (sym (c .before .before .before .before .before .before .same-lengths .ensures) ∙ not-false (c .before .before .before .before .before .before .same-lengths .result) (c .before .before .before .before .before .if1 .left)), c .before .before .before .before .if2 .taken)
+    (same-so (speedColumns (given .beats .now) (given .ratios .now) (given .delays .now) (given .units .now)) (sym (c .before .before .before .before .before .before .same-lengths .ensures) ∙ not-false (c .before .before .before .before .before .before .same-lengths .result) (c .before .before .before .before .before .if1 .left)), c .before .before .before .before .if2 .taken)
 
 same-length-5 : tie.Need-same-length-5
 same-length-5 c = search needs
@@ -53,7 +53,7 @@ returns-2 c = c .before .before .before .before .before .before .before .before 
 assemble-by-many-requires : tie.Need-assemble-by-many-requires
 assemble-by-many-requires c κs =
     let given = c .before .before .before .before .before .before .before .before .before .before .before .before .before .before .before .before .args in
-    (same-so (length (given .beats .now)) (length (given .ratios .now)) (length (given .delays .now)) (length (given .units .now)) (sym (c .before .before .before .before .before .before .before .same-lengths .ensures) ∙ not-false (c .before .before .before .before .before .before .before .same-lengths .result) (c .before .before .before .before .before .before .if1 .left)), c .before .before .before .before .if3 .taken)
+    (same-so (speedColumns (given .beats .now) (given .ratios .now) (given .delays .now) (given .units .now)) (sym (c .before .before .before .before .before .before .before .same-lengths .ensures) ∙ not-false (c .before .before .before .before .before .before .before .same-lengths .result) (c .before .before .before .before .before .before .if1 .left)), c .before .before .before .before .if3 .taken)
 
 same-length-9 : tie.Need-same-length-9
 same-length-9 c = search needs
@@ -88,7 +88,7 @@ same-length-16 c = search needs
 returns-4 : tie.Need-returns-4
 returns-4 c =
     let given = c .before .before .before .before .before .before .before .before .before .before .before .before .before .before .before .before .before .before .before .before .before .before .before .before .before .args in
-    not-few (given .beats .now) (given .ratios .now) (given .delays .now) (given .units .now) (sym (c .before .before .before .before .before .before .before .before .before .before .before .before .before .before .before .before .same-lengths .ensures) ∙ not-false (c .before .before .before .before .before .before .before .before .before .before .before .before .before .before .before .before .same-lengths .result) (c .before .before .before .before .before .before .before .before .before .before .before .before .before .before .before .if1 .left)) (c .before .before .before .before .before .before .before .before .before .before .before .before .before .if3 .left) (c .before .before .before .before .before .before .before .before .assemble-speeds2 .ensures)
+    not-few (speedColumns (given .beats .now) (given .ratios .now) (given .delays .now) (given .units .now)) (sym (c .before .before .before .before .before .before .before .before .before .before .before .before .before .before .before .before .same-lengths .ensures) ∙ not-false (c .before .before .before .before .before .before .before .before .before .before .before .before .before .before .before .before .same-lengths .result) (c .before .before .before .before .before .before .before .before .before .before .before .before .before .before .before .if1 .left)) (c .before .before .before .before .before .before .before .before .before .before .before .before .before .if3 .left) (c .before .before .before .before .before .before .before .before .assemble-speeds2 .ensures)
 
 pub assemble-untested-spec : {M : Type 1} → statement M
 assemble-untested-spec =

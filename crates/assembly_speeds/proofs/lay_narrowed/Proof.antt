@@ -13,6 +13,7 @@ use Rattle.tidy_speeds_entries.specs.LaidSpeeds.{leastOf}
 use Rattle.tidy_speeds_entries.proofs.Rooms.{refused-by-tests, refused-for-room, taken}
 use Rattle.assembly_speeds.specs.inside.NarrowedSpeeds.{narrowedSpeeds}
 use Rattle.assembly_speeds.proofs.NarrowedSpeeds.{least-within, lesser-within, laid-front, front-length, front-beats, front-ratios, front-delays, front-units}
+use Rattle.chart.specs.ChartColumns.{speedColumns}
 use borrow.Author.Needs.{needs}
 use Rattle.assembly_speeds.proofs.lay_narrowed.Statement.{statement}
 use Rattle.assembly_speeds.proofs.lay_narrowed.Tie as tie
@@ -23,7 +24,7 @@ refused-requires c κs = search needs
 returns : tie.Need-returns
 returns c =
     let given = c .before .before .before .before .before .before .before .before .before .before .args in
-    rw (c .refused .ensures) (refused-by-tests (given .number) (narrowedSpeeds (given .count) (given .beats .now) (given .ratios .now) (given .delays .now) (given .units .now)) (given .out-beats .now) (given .out-ratios .now) (given .out-delays .now) (given .out-units .now) (c .before .if1 .taken))
+    rw (c .refused .ensures) (refused-by-tests (given .number) (narrowedSpeeds (given .count) (speedColumns (given .beats .now) (given .ratios .now) (given .delays .now) (given .units .now))) (given .out-beats .now) (given .out-ratios .now) (given .out-delays .now) (given .out-units .now) (c .before .if1 .taken))
 
 least-of-requires : tie.Need-least-of-requires
 least-of-requires c κs = search needs
@@ -42,7 +43,7 @@ returns-2 c =
     let given = c .before .before .before .before .before .before .before .before .before .before .before .before .before .before .args in
     let n = c .before .before .before .room-of .result in
     let few : n ≡ min (given .count) (leastOf (length (given .beats .now)) (length (given .ratios .now)) (length (given .delays .now)) (length (given .units .now))) = omega (arith, c .before .before .before .room-of .ensures, c .before .before .before .before .least-of .ensures) in
-    rw (c .refused2 .ensures) (refused-for-room (given .number) (narrowedSpeeds (given .count) (given .beats .now) (given .ratios .now) (given .delays .now) (given .units .now)) (given .out-beats .now) (given .out-ratios .now) (given .out-delays .now) (given .out-units .now) (c .before .before .before .before .before .if1 .left) (omega (arith, c .before .if2 .taken, c .before .before .least-of2 .ensures, front-length (given .count) n (given .beats .now) (given .ratios .now) (given .delays .now) (given .units .now) few)))
+    rw (c .refused2 .ensures) (refused-for-room (given .number) (narrowedSpeeds (given .count) (speedColumns (given .beats .now) (given .ratios .now) (given .delays .now) (given .units .now))) (given .out-beats .now) (given .out-ratios .now) (given .out-delays .now) (given .out-units .now) (c .before .before .before .before .before .if1 .left) (omega (arith, c .before .if2 .taken, c .before .before .least-of2 .ensures, front-length (given .count) n (speedColumns (given .beats .now) (given .ratios .now) (given .delays .now) (given .units .now)) few)))
 
 slice-aggregate-narrow-column : tie.Need-slice-aggregate-narrow-column
 slice-aggregate-narrow-column c = sym (length-take-le _ _ (omega (arith, c .before .before .before .room-of .ensures, c .before .before .before .before .least-of .ensures)))
@@ -88,20 +89,20 @@ returns-3 c =
     let room : n ≤ leastOf (length (given .out-beats .now)) (length (given .out-ratios .now)) (length (given .out-delays .now)) (length (given .out-units .now)) = omega (arith, c .before .before .before .before .before .before .before .before .before .before .before .before .before .before .before .before .before .before .before .before .if2 .left, c .before .before .before .before .before .before .before .before .before .before .before .before .before .before .before .before .before .before .before .before .before .least-of2 .ensures) in
     let out = least-within (length (given .out-beats .now)) (length (given .out-ratios .now)) (length (given .out-delays .now)) (length (given .out-units .now)) n room in
     let own = least-within (length (given .beats .now)) (length (given .ratios .now)) (length (given .delays .now)) (length (given .units .now)) n (lesser-within (given .count) _ n few) in
-    taken (given .number) (narrowedSpeeds (given .count) (given .beats .now) (given .ratios .now) (given .delays .now) (given .units .now)) (given .out-beats .now) (given .out-ratios .now) (given .out-delays .now) (given .out-units .now) n _ _ _ _ (c .before .before .before .before .before .before .before .before .before .before .before .before .before .before .before .before .before .before .before .before .before .before .before .before .if1 .left) (le-trans (le-of-eq (front-length (given .count) n (given .beats .now) (given .ratios .now) (given .delays .now) (given .units .now) few)) room) (sym (front-length (given .count) n (given .beats .now) (given .ratios .now) (given .delays .now) (given .units .now) few))
+    taken (given .number) (narrowedSpeeds (given .count) (speedColumns (given .beats .now) (given .ratios .now) (given .delays .now) (given .units .now))) (given .out-beats .now) (given .out-ratios .now) (given .out-delays .now) (given .out-units .now) n _ _ _ _ (c .before .before .before .before .before .before .before .before .before .before .before .before .before .before .before .before .before .before .before .before .before .before .before .before .if1 .left) (le-trans (le-of-eq (front-length (given .count) n (speedColumns (given .beats .now) (given .ratios .now) (given .delays .now) (given .units .now)) few)) room) (sym (front-length (given .count) n (speedColumns (given .beats .now) (given .ratios .now) (given .delays .now) (given .units .now)) few))
     (record {
       beatsAre =
           c .before .before .before .before .before .before .before .before .before .before .before .before .before .before .before .before .before .narrow-column .ensures ∙ laid-front narrow n (given .beats .now) (given .out-beats .now) (own .0) (out .0)
-          ∙ ap (λ (l : List Float). laid l (given .out-beats .now)) (sym (front-beats (given .count) n (given .beats .now) (given .ratios .now) (given .delays .now) (given .units .now) few));
+          ∙ ap (λ (l : List Float). laid l (given .out-beats .now)) (sym (front-beats (given .count) n (speedColumns (given .beats .now) (given .ratios .now) (given .delays .now) (given .units .now)) few));
       ratiosAre =
           c .before .before .before .before .before .before .before .before .before .before .before .before .narrow-column2 .ensures ∙ laid-front narrow n (given .ratios .now) (given .out-ratios .now) (own .1) (out .1)
-          ∙ ap (λ (l : List Float). laid l (given .out-ratios .now)) (sym (front-ratios (given .count) n (given .beats .now) (given .ratios .now) (given .delays .now) (given .units .now) few));
+          ∙ ap (λ (l : List Float). laid l (given .out-ratios .now)) (sym (front-ratios (given .count) n (speedColumns (given .beats .now) (given .ratios .now) (given .delays .now) (given .units .now)) few));
       delaysAre =
           c .before .before .before .before .before .before .before .narrow-column3 .ensures ∙ laid-front narrow n (given .delays .now) (given .out-delays .now) (own .2) (out .2)
-          ∙ ap (λ (l : List Float). laid l (given .out-delays .now)) (sym (front-delays (given .count) n (given .beats .now) (given .ratios .now) (given .delays .now) (given .units .now) few));
+          ∙ ap (λ (l : List Float). laid l (given .out-delays .now)) (sym (front-delays (given .count) n (speedColumns (given .beats .now) (given .ratios .now) (given .delays .now) (given .units .now)) few));
       unitsAre =
           c .before .before .copy-units .ensures ∙ laid-front (λ (unit : ℕ). unit) n (given .units .now) (given .out-units .now) (own .3) (out .3)
-          ∙ ap (λ (l : List ℕ). laid l (given .out-units .now)) (map-id (take n (given .units .now)) ∙ sym (front-units (given .count) n (given .beats .now) (given .ratios .now) (given .delays .now) (given .units .now) few));
+          ∙ ap (λ (l : List ℕ). laid l (given .out-units .now)) (map-id (take n (given .units .now)) ∙ sym (front-units (given .count) n (speedColumns (given .beats .now) (given .ratios .now) (given .delays .now) (given .units .now)) few));
     })
 
 pub lay-narrowed-spec : {M : Type 1} → statement M

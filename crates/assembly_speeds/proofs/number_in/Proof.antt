@@ -3,12 +3,13 @@ use mathlib.Core.Path.{sym}
 use native.Mathlib.Omega.{arith}
 use lib.Seq.{length-take-le}
 use Rattle.assembly_speeds.proofs.Outcomes.{long-answered, answered}
+use Rattle.chart.specs.ChartColumns.{speedColumns}
 use borrow.Author.Needs.{needs}
 use Rattle.assembly_speeds.proofs.number_in.Statement.{statement}
 use Rattle.assembly_speeds.proofs.number_in.Tie as tie
 
 returns : tie.Need-returns
-returns c = let given = c .before .before .before .before .before .args in long-answered (given .beats .now) (given .ratios .now) (given .delays .now) (given .units .now) (given .room) (c .if1 .taken)
+returns c = let given = c .before .before .before .before .before .args in long-answered (speedColumns (given .beats .now) (given .ratios .now) (given .delays .now) (given .units .now)) (given .room) (c .if1 .taken)
 
 room-of-requires : tie.Need-room-of-requires
 room-of-requires c κs = search needs
@@ -43,7 +44,7 @@ assemble-speeds-requires c κs = search needs
 returns-2 : tie.Need-returns-2
 returns-2 c =
     let given = c .before .before .before .before .before .before .before .before .before .before .before .before .before .before .before .args in
-    answered (given .beats .now) (given .ratios .now) (given .delays .now) (given .units .now) (given .room) (c .before .before .before .before .before .before .before .before .before .before .if1 .left) (c .before .before .before .before .before .before .before .before .before .room-of .ensures) (length-take-le _ _ (omega (arith, c .before .before .before .before .before .before .before .before .before .room-of .ensures))) (length-take-le _ _ (omega (arith, c .before .before .before .before .before .before .before .before .before .room-of .ensures))) (length-take-le _ _ (omega (arith, c .before .before .before .before .before .before .before .before .before .room-of .ensures))) (length-take-le _ _ (omega (arith, c .before .before .before .before .before .before .before .before .before .room-of .ensures))) (c .before .before .before .before .assemble-speeds .ensures)
+    answered (speedColumns (given .beats .now) (given .ratios .now) (given .delays .now) (given .units .now)) (given .room) (c .before .before .before .before .before .before .before .before .before .before .if1 .left) (c .before .before .before .before .before .before .before .before .before .room-of .ensures) (length-take-le _ _ (omega (arith, c .before .before .before .before .before .before .before .before .before .room-of .ensures))) (length-take-le _ _ (omega (arith, c .before .before .before .before .before .before .before .before .before .room-of .ensures))) (length-take-le _ _ (omega (arith, c .before .before .before .before .before .before .before .before .before .room-of .ensures))) (length-take-le _ _ (omega (arith, c .before .before .before .before .before .before .before .before .before .room-of .ensures))) (c .before .before .before .before .assemble-speeds .ensures)
 
 pub number-in-spec : {M : Type 1} → statement M
 number-in-spec =

@@ -2,6 +2,7 @@
 use mathlib.Core.Path.{sym, _∙_}
 use mathlib.Core.Bool.{true, false}
 use Rattle.assembly_speeds.proofs.Untested.{later-short, later-by}
+use Rattle.chart.specs.ChartColumns.{speedColumns}
 use borrow.Author.Needs.{needs}
 use Rattle.assembly_speeds.proofs.speeds_number.Statement.{statement}
 use Rattle.assembly_speeds.proofs.speeds_number.Tie as tie
@@ -10,13 +11,13 @@ number-in-requires : tie.Need-number-in-requires
 number-in-requires c κs = search needs
 
 returns : tie.Need-returns
-returns c = let given = c .before .before .before .before .before .before .args in c .number-in .ensures ∙ later-short (given .beats .now) (given .ratios .now) (given .delays .now) (given .units .now) (given .room) (c .before .if1 .taken)
+returns c = let given = c .before .before .before .before .before .before .args in c .number-in .ensures ∙ later-short (speedColumns (given .beats .now) (given .ratios .now) (given .delays .now) (given .units .now)) (given .room) (c .before .if1 .taken)
 
 never-fall-requires : tie.Need-never-fall-requires
 never-fall-requires c κs = search needs
 
 returns-2 : tie.Need-returns-2
-returns-2 c = let given = c .before .before .before .before .before .before .before .args in later-by (given .beats .now) (given .ratios .now) (given .delays .now) (given .units .now) (given .room) true (c .before .before .if1 .left) (sym (c .if2 .taken) ∙ c .before .never-fall .ensures)
+returns-2 c = let given = c .before .before .before .before .before .before .before .args in later-by (speedColumns (given .beats .now) (given .ratios .now) (given .delays .now) (given .units .now)) (given .room) true (c .before .before .if1 .left) (sym (c .if2 .taken) ∙ c .before .never-fall .ensures)
 
 number-in-requires-2 : tie.Need-number-in-requires-2
 number-in-requires-2 c κs = search needs
@@ -24,7 +25,7 @@ number-in-requires-2 c κs = search needs
 returns-3 : tie.Need-returns-3
 returns-3 c =
     let given = c .before .before .before .before .before .before .before .before .args in
-    c .number-in2 .ensures ∙ later-by (given .beats .now) (given .ratios .now) (given .delays .now) (given .units .now) (given .room) false (c .before .before .before .if1 .left) (sym (c .before .if2 .left) ∙ c .before .before .never-fall .ensures)
+    c .number-in2 .ensures ∙ later-by (speedColumns (given .beats .now) (given .ratios .now) (given .delays .now) (given .units .now)) (given .room) false (c .before .before .before .if1 .left) (sym (c .before .if2 .left) ∙ c .before .before .never-fall .ensures)
 
 pub speeds-number-spec : {M : Type 1} → statement M
 speeds-number-spec =

@@ -4,8 +4,9 @@ use mathlib.Core.Path.{_≡_, refl, sym, ap, _∙_}
 use native.Mathlib.Omega.{arith}
 use lib.ListN.{length}
 use Rattle.limits.specs.Refusals.{lower}
-use Rattle.process_raw.specs.RawLists.{roomFor}
-use Rattle.assembly_tempos.specs.AssembledTempos.{assembledTempos, assembledStops, assembledWarps, fitNumber, threeRooms}
+use Rattle.chart.specs.ChartColumns.{listColumns}
+use Rattle.assembly_warps.specs.LentLists.{threeColumns}
+use Rattle.assembly_tempos.specs.AssembledTempos.{assembledTempos, assembledStops, assembledWarps, fitNumber, threeRooms, listRoom}
 use Rattle.assembly_tempos.specs.inside.ProcessedColumns.{listsOf}
 use Rattle.assembly_tempos.proofs.Ends.{too-many, later-refused, all-laid}
 use Rattle.assembly_tempos.proofs.OnRows.{on-row-held}
@@ -23,8 +24,9 @@ refused-requires c κs = search needs
 returns : tie.Need-returns
 returns c =
     let given = c .before .before .before .before .before .before .before .before .before .before .before .before .before .before .before .args in
-    let lists = listsOf (given .tempo-beats .now) (given .tempo-values .now) (given .stop-beats .now) (given .stop-values .now) (given .warp-beats .now) (given .warp-lengths .now) (given .offset) in
-    rw (c .refused .ensures) (too-many 0 (given .later) (given .most-warps) lists refl (omega (arith, warps-count (given .tempo-beats .now) (given .tempo-values .now) (given .stop-beats .now) (given .stop-values .now) (given .warp-beats .now) (given .warp-lengths .now) (given .offset) (c .before .before .before .before .before .before .before .before .before .before .before .before .before .before .before .pre .0), c .before .before .room-of .ensures, c .before .if1 .taken)))
+    let columns = threeColumns (given .tempo-beats .now) (given .tempo-values .now) (given .stop-beats .now) (given .stop-values .now) (given .warp-beats .now) (given .warp-lengths .now) in
+    let lists = listsOf columns (given .offset) in
+    rw (c .refused .ensures) (too-many 0 (given .later) (given .most-warps) lists refl (omega (arith, warps-count columns (given .offset) (c .before .before .before .before .before .before .before .before .before .before .before .before .before .before .before .pre .0), c .before .before .room-of .ensures, c .before .if1 .taken)))
 
 room-of-requires-2 : tie.Need-room-of-requires-2
 room-of-requires-2 c κs = search needs
@@ -47,8 +49,9 @@ refused-requires-2 c κs = search needs
 returns-2 : tie.Need-returns-2
 returns-2 c =
     let given = c .before .before .before .before .before .before .before .before .before .before .before .before .before .before .before .before .before .before .before .before .before .args in
-    let lists = listsOf (given .tempo-beats .now) (given .tempo-values .now) (given .stop-beats .now) (given .stop-values .now) (given .warp-beats .now) (given .warp-lengths .now) (given .offset) in
-    rw (c .refused2 .ensures) (later-refused 0 (given .later) (given .most-warps) lists refl (omega (arith, warps-count (given .tempo-beats .now) (given .tempo-values .now) (given .stop-beats .now) (given .stop-values .now) (given .warp-beats .now) (given .warp-lengths .now) (given .offset) (c .before .before .before .before .before .before .before .before .before .before .before .before .before .before .before .before .before .before .before .before .before .pre .0), c .before .before .before .before .before .before .before .before .room-of .ensures, c .before .before .before .before .before .before .before .if1 .left)) (c .before .before .lower-of .ensures ∙ ap (lower (given .later)) (rw (c .before .before .before .before .before .before .room-of2 .ensures, c .before .before .before .before .before .room-of3 .ensures, c .before .before .before .before .room-of4 .ensures) at (c .before .before .before .rooms-number .ensures (given .offset)))) (c .before .if2 .taken))
+    let columns = threeColumns (given .tempo-beats .now) (given .tempo-values .now) (given .stop-beats .now) (given .stop-values .now) (given .warp-beats .now) (given .warp-lengths .now) in
+    let lists = listsOf columns (given .offset) in
+    rw (c .refused2 .ensures) (later-refused 0 (given .later) (given .most-warps) lists refl (omega (arith, warps-count columns (given .offset) (c .before .before .before .before .before .before .before .before .before .before .before .before .before .before .before .before .before .before .before .before .before .pre .0), c .before .before .before .before .before .before .before .before .room-of .ensures, c .before .before .before .before .before .before .before .if1 .left)) (c .before .before .lower-of .ensures ∙ ap (lower (given .later)) (rw (c .before .before .before .before .before .before .room-of2 .ensures, c .before .before .before .before .before .room-of3 .ensures, c .before .before .before .before .room-of4 .ensures) at (c .before .before .before .rooms-number .ensures (given .offset)))) (c .before .if2 .taken))
 
 cast-column-requires : tie.Need-cast-column-requires
 cast-column-requires c κs = on-row-held (c .before .before .before .before .before .before .before .before .before .before .before .before .before .before .before .before .before .before .before .before .before .args .tempo-beats .now) (c .before .before .before .before .before .before .before .before .before .before .before .before .before .before .before .before .before .before .before .before .before .pre .0 .temposOnRows)
@@ -86,15 +89,16 @@ same-length-6 c = search needs
 returns-3 : tie.Need-returns-3
 returns-3 c =
     let given = c .before .before .before .before .before .before .before .before .before .before .before .before .before .before .before .before .before .before .before .before .before .before .before .before .before .before .before .before .before .before .before .before .before .before .before .before .before .before .before .before .before .before .before .args in
-    let lists = listsOf (given .tempo-beats .now) (given .tempo-values .now) (given .stop-beats .now) (given .stop-values .now) (given .warp-beats .now) (given .warp-lengths .now) (given .offset) in
+    let columns = threeColumns (given .tempo-beats .now) (given .tempo-values .now) (given .stop-beats .now) (given .stop-values .now) (given .warp-beats .now) (given .warp-lengths .now) in
+    let lists = listsOf columns (given .offset) in
     let few : length (given .warp-beats .now) ≤ 1024 = omega (arith, c .before .before .before .before .before .before .before .before .before .before .before .before .before .before .before .before .before .before .before .before .before .before .before .before .before .before .before .before .before .before .room-of .ensures, c .before .before .before .before .before .before .before .before .before .before .before .before .before .before .before .before .before .before .before .before .before .before .before .before .before .before .before .before .before .if1 .left) in
-    let none : lower (given .later) (threeRooms lists (roomFor (given .out-tempo-beats .now) (given .out-tempo-values .now)) (roomFor (given .out-stop-beats .now) (given .out-stop-values .now)) (roomFor (given .out-warp-beats .now) (given .out-warp-lengths .now))) ≡ 0 =
+    let none : lower (given .later) (threeRooms lists (listRoom (listColumns (given .out-tempo-beats .now) (given .out-tempo-values .now))) (listRoom (listColumns (given .out-stop-beats .now) (given .out-stop-values .now))) (listRoom (listColumns (given .out-warp-beats .now) (given .out-warp-lengths .now)))) ≡ 0 =
     sym (c .before .before .before .before .before .before .before .before .before .before .before .before .before .before .before .before .before .before .before .before .before .before .before .before .lower-of .ensures ∙ ap (lower (given .later)) (rw (c .before .before .before .before .before .before .before .before .before .before .before .before .before .before .before .before .before .before .before .before .before .before .before .before .before .before .before .before .room-of2 .ensures, c .before .before .before .before .before .before .before .before .before .before .before .before .before .before .before .before .before .before .before .before .before .before .before .before .before .before .before .room-of3 .ensures, c .before .before .before .before .before .before .before .before .before .before .before .before .before .before .before .before .before .before .before .before .before .before .before .before .before .before .room-of4 .ensures) at (c .before .before .before .before .before .before .before .before .before .before .before .before .before .before .before .before .before .before .before .before .before .before .before .before .before .rooms-number .ensures (given .offset)))) ∙ c .before .before .before .before .before .before .before .before .before .before .before .before .before .before .before .before .before .before .before .before .before .before .before .if2 .left in
-    let fit = all-fit (given .later) (fitNumber (assembledTempos lists) (roomFor (given .out-tempo-beats .now) (given .out-tempo-values .now))) (fitNumber (assembledStops lists) (roomFor (given .out-stop-beats .now) (given .out-stop-values .now))) (fitNumber (assembledWarps lists) (roomFor (given .out-warp-beats .now) (given .out-warp-lengths .now))) none in
-    all-laid 0 (given .later) (given .most-warps) lists refl (omega (arith, warps-count (given .tempo-beats .now) (given .tempo-values .now) (given .stop-beats .now) (given .stop-values .now) (given .warp-beats .now) (given .warp-lengths .now) (given .offset) (c .before .before .before .before .before .before .before .before .before .before .before .before .before .before .before .before .before .before .before .before .before .before .before .before .before .before .before .before .before .before .before .before .before .before .before .before .before .before .before .before .before .before .before .pre .0), c .before .before .before .before .before .before .before .before .before .before .before .before .before .before .before .before .before .before .before .before .before .before .before .before .before .before .before .before .before .before .room-of .ensures, c .before .before .before .before .before .before .before .before .before .before .before .before .before .before .before .before .before .before .before .before .before .before .before .before .before .before .before .before .before .if1 .left)) none
-    (tempos-laid (given .tempo-beats .now) (given .tempo-values .now) (given .stop-beats .now) (given .stop-values .now) (given .warp-beats .now) (given .warp-lengths .now) (given .offset) (c .before .before .before .before .before .before .before .before .before .before .before .before .before .before .before .before .before .before .before .before .before .before .before .before .before .before .before .before .before .before .before .before .before .before .before .before .before .before .before .before .before .before .before .pre .0) (fit .tempoFit) (c .before .before .before .before .before .before .before .before .before .before .before .before .before .before .before .before .before .before .before .before .before .cast-column .ensures) (c .before .before .before .before .before .before .before .before .before .before .before .before .before .before .before .before .before .narrow-values .ensures))
-    (stops-laid (given .tempo-beats .now) (given .tempo-values .now) (given .stop-beats .now) (given .stop-values .now) (given .warp-beats .now) (given .warp-lengths .now) (given .offset) (c .before .before .before .before .before .before .before .before .before .before .before .before .before .before .before .before .before .before .before .before .before .before .before .before .before .before .before .before .before .before .before .before .before .before .before .before .before .before .before .before .before .before .before .pre .0) (fit .stopFit) (c .before .before .before .before .before .before .before .before .before .before .before .before .assemble-stops .ensures))
-    (warps-laid (given .tempo-beats .now) (given .tempo-values .now) (given .stop-beats .now) (given .stop-values .now) (given .warp-beats .now) (given .warp-lengths .now) (given .offset) (c .before .before .before .before .before .before .before .before .before .before .before .before .before .before .before .before .before .before .before .before .before .before .before .before .before .before .before .before .before .before .before .before .before .before .before .before .before .before .before .before .before .before .before .pre .0) few (fit .warpFit) (c .before .before .before .before .before .assemble-untested .ensures))
+    let fit = all-fit (given .later) (fitNumber (assembledTempos lists) (listRoom (listColumns (given .out-tempo-beats .now) (given .out-tempo-values .now)))) (fitNumber (assembledStops lists) (listRoom (listColumns (given .out-stop-beats .now) (given .out-stop-values .now)))) (fitNumber (assembledWarps lists) (listRoom (listColumns (given .out-warp-beats .now) (given .out-warp-lengths .now)))) none in
+    all-laid 0 (given .later) (given .most-warps) lists refl (omega (arith, warps-count columns (given .offset) (c .before .before .before .before .before .before .before .before .before .before .before .before .before .before .before .before .before .before .before .before .before .before .before .before .before .before .before .before .before .before .before .before .before .before .before .before .before .before .before .before .before .before .before .pre .0), c .before .before .before .before .before .before .before .before .before .before .before .before .before .before .before .before .before .before .before .before .before .before .before .before .before .before .before .before .before .before .room-of .ensures, c .before .before .before .before .before .before .before .before .before .before .before .before .before .before .before .before .before .before .before .before .before .before .before .before .before .before .before .before .before .if1 .left)) none
+    (tempos-laid columns (given .offset) (c .before .before .before .before .before .before .before .before .before .before .before .before .before .before .before .before .before .before .before .before .before .before .before .before .before .before .before .before .before .before .before .before .before .before .before .before .before .before .before .before .before .before .before .pre .0) (fit .tempoFit) (c .before .before .before .before .before .before .before .before .before .before .before .before .before .before .before .before .before .before .before .before .before .cast-column .ensures) (c .before .before .before .before .before .before .before .before .before .before .before .before .before .before .before .before .before .narrow-values .ensures))
+    (stops-laid columns (given .offset) (c .before .before .before .before .before .before .before .before .before .before .before .before .before .before .before .before .before .before .before .before .before .before .before .before .before .before .before .before .before .before .before .before .before .before .before .before .before .before .before .before .before .before .before .pre .0) (fit .stopFit) (c .before .before .before .before .before .before .before .before .before .before .before .before .assemble-stops .ensures))
+    (warps-laid columns (given .offset) (c .before .before .before .before .before .before .before .before .before .before .before .before .before .before .before .before .before .before .before .before .before .before .before .before .before .before .before .before .before .before .before .before .before .before .before .before .before .before .before .before .before .before .before .pre .0) few (fit .warpFit) (c .before .before .before .before .before .assemble-untested .ensures))
     (c .narrow-f64 .ensures)
 
 pub lay-lists-spec : {M : Type 1} → statement M

@@ -10,10 +10,11 @@ use Rattle.rows.specs.Rows.{quantized}
 use Rattle.limits.specs.Numbers.{every}
 use Rattle.order.specs.Entries.{entries}
 use Rattle.tidy_rows.specs.RowTidying.{rowsNumber}
-use Rattle.process_raw.specs.RawLists.{roomFor}
 use Rattle.chart.specs.declared.TimingFormat.{TimingFormat}
 use Rattle.chart.specs.declared.TimingFormat.the-variants.{Sm}
 use Rattle.process.specs.ByFormat.{ThreeLists}
+use Rattle.assembly_warps.specs.LentLists.{ThreeColumns}
+use Rattle.assembly_tempos.specs.AssembledTempos.{listRoom}
 
 -- an f32, and no NaN
 abbrev pub heldF32 : Float → Bool
@@ -24,25 +25,25 @@ abbrev pub Held : TimingFormat → List Float → Type 0
 Held format values = format ≡ Sm → every heldF32 values ≡ true
 
 -- processed columns: of one length each, tempos on rows, stops taken and on rows, and as many warps as a list may have are taken
-pub record Processed (tempoBeats tempoValues stopBeats stopValues warpBeats warpLengths : List Float) : Type 0 where
-  pub tempos : length tempoBeats ≡ length tempoValues
-  pub temposOnRows : map quantized tempoBeats ≡ tempoBeats
-  pub stops : rowsNumber stopBeats stopValues ≡ 0
-  pub onRows : map quantized stopBeats ≡ stopBeats
-  pub even : length warpBeats ≡ length warpLengths
-  pub warps : length warpBeats ≤ mostEntries → rowsNumber warpBeats warpLengths ≡ 0
+pub record Processed (columns : ThreeColumns) : Type 0 where
+  pub tempos : length (columns .tempos .beats) ≡ length (columns .tempos .values)
+  pub temposOnRows : map quantized (columns .tempos .beats) ≡ columns .tempos .beats
+  pub stops : rowsNumber (columns .stops .beats) (columns .stops .values) ≡ 0
+  pub onRows : map quantized (columns .stops .beats) ≡ columns .stops .beats
+  pub even : length (columns .warps .beats) ≡ length (columns .warps .values)
+  pub warps : length (columns .warps .beats) ≤ mostEntries → rowsNumber (columns .warps .beats) (columns .warps .values) ≡ 0
 
 -- columns as lists
-abbrev pub listsOf : (tempoBeats tempoValues stopBeats stopValues warpBeats warpLengths : List Float) → Float → ThreeLists
-listsOf tempoBeats tempoValues stopBeats stopValues warpBeats warpLengths offset = record {
-  tempos = entries tempoBeats tempoValues;
-  stops = entries stopBeats stopValues;
-  warps = entries warpBeats warpLengths;
+abbrev pub listsOf : ThreeColumns → Float → ThreeLists
+listsOf columns offset = record {
+  tempos = entries (columns .tempos .beats) (columns .tempos .values);
+  stops = entries (columns .stops .beats) (columns .stops .values);
+  warps = entries (columns .warps .beats) (columns .warps .values);
   offset = offset;
 }
 
 -- work columns with room for what processing makes of lists that are taken
-pub record WorkRooms (number : ℕ) (lists : ThreeLists) (tempoBeats tempoValues stopBeats stopValues warpBeats warpLengths : List Float) : Type 0 where
-  pub tempos : number ≡ 0 → length (lists .tempos) ≤ roomFor tempoBeats tempoValues
-  pub stops : number ≡ 0 → length (lists .stops) ≤ roomFor stopBeats stopValues
-  pub warps : number ≡ 0 → length (lists .warps) ≤ roomFor warpBeats warpLengths
+pub record WorkRooms (number : ℕ) (lists : ThreeLists) (rooms : ThreeColumns) : Type 0 where
+  pub tempos : number ≡ 0 → length (lists .tempos) ≤ listRoom (rooms .tempos)
+  pub stops : number ≡ 0 → length (lists .stops) ≤ listRoom (rooms .stops)
+  pub warps : number ≡ 0 → length (lists .warps) ≤ listRoom (rooms .warps)

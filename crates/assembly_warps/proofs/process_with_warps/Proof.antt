@@ -7,6 +7,7 @@ use lib.ListN.{length}
 use Rattle.limits.proofs.ListTaken.{list-taken}
 use Rattle.process_raw.specs.RawLists.{rawNumbers}
 use Rattle.process.specs.ByFormat.{processedLists}
+use Rattle.chart.specs.ChartColumns.{listColumns}
 use Rattle.assembly_warps.specs.MergedWarps.{warpsNumber}
 use Rattle.assembly_warps.proofs.Merging.{refused-warps, no-room, passed-on, made-fit, part-length, all-laid}
 use borrow.Author.Needs.{needs}
@@ -34,7 +35,7 @@ refuse-requires c κs = search needs
 
 -- src/lib.rt:65:9
 returns : tie.Need-returns
-returns c = rw (c .refuse .ensures, c .before .before .list-number .ensures) (refused-warps (rawNumbers (c .before .before .before .before .before .before .before .before .before .before .before .before .before .before .before .args .tempo-beats .now) (c .before .before .before .before .before .before .before .before .before .before .before .before .before .before .before .args .tempo-values .now) (c .before .before .before .before .before .before .before .before .before .before .before .before .before .before .before .args .stop-beats .now) (c .before .before .before .before .before .before .before .before .before .before .before .before .before .before .before .args .stop-values .now)) (warpsNumber (c .before .before .before .before .before .before .before .before .before .before .before .before .before .before .before .args .warp-beats .now) (c .before .before .before .before .before .before .before .before .before .before .before .before .before .before .before .args .warp-lengths .now)) (processedLists (c .before .before .before .before .before .before .before .before .before .before .before .before .before .before .before .args .format) (c .before .before .before .before .before .before .before .before .before .before .before .before .before .before .before .args .tempo-beats .now) (c .before .before .before .before .before .before .before .before .before .before .before .before .before .before .before .args .tempo-values .now) (c .before .before .before .before .before .before .before .before .before .before .before .before .before .before .before .args .stop-beats .now) (c .before .before .before .before .before .before .before .before .before .before .before .before .before .before .before .args .stop-values .now)) (c .before .before .before .before .before .before .before .before .before .before .before .before .before .before .before .args .warp-beats .now) (c .before .before .before .before .before .before .before .before .before .before .before .before .before .before .before .args .warp-lengths .now) (λ e. c .before .if1 .taken (c .before .before .list-number .ensures ∙ e)))
+returns c = rw (c .refuse .ensures, c .before .before .list-number .ensures) (refused-warps (rawNumbers (c .before .before .before .before .before .before .before .before .before .before .before .before .before .before .before .args .tempo-beats .now) (c .before .before .before .before .before .before .before .before .before .before .before .before .before .before .before .args .tempo-values .now) (c .before .before .before .before .before .before .before .before .before .before .before .before .before .before .before .args .stop-beats .now) (c .before .before .before .before .before .before .before .before .before .before .before .before .before .before .before .args .stop-values .now)) (warpsNumber (listColumns (c .before .before .before .before .before .before .before .before .before .before .before .before .before .before .before .args .warp-beats .now) (c .before .before .before .before .before .before .before .before .before .before .before .before .before .before .before .args .warp-lengths .now))) (processedLists (c .before .before .before .before .before .before .before .before .before .before .before .before .before .before .before .args .format) (c .before .before .before .before .before .before .before .before .before .before .before .before .before .before .before .args .tempo-beats .now) (c .before .before .before .before .before .before .before .before .before .before .before .before .before .before .before .args .tempo-values .now) (c .before .before .before .before .before .before .before .before .before .before .before .before .before .before .before .args .stop-beats .now) (c .before .before .before .before .before .before .before .before .before .before .before .before .before .before .before .args .stop-values .now)) (listColumns (c .before .before .before .before .before .before .before .before .before .before .before .before .before .before .before .args .warp-beats .now) (c .before .before .before .before .before .before .before .before .before .before .before .before .before .before .before .args .warp-lengths .now)) (λ e. c .before .if1 .taken (c .before .before .list-number .ensures ∙ e)))
 
 -- src/lib.rt:67:16
 room-of-requires : tie.Need-room-of-requires
@@ -46,7 +47,7 @@ refuse-requires-2 c κs = search needs
 
 -- src/lib.rt:68:9
 returns-2 : tie.Need-returns-2
-returns-2 c = rw (c .refuse2 .ensures, c .before .before .before .before .list-number .ensures) (no-room (rawNumbers (c .before .before .before .before .before .before .before .before .before .before .before .before .before .before .before .before .before .args .tempo-beats .now) (c .before .before .before .before .before .before .before .before .before .before .before .before .before .before .before .before .before .args .tempo-values .now) (c .before .before .before .before .before .before .before .before .before .before .before .before .before .before .before .before .before .args .stop-beats .now) (c .before .before .before .before .before .before .before .before .before .before .before .before .before .before .before .before .before .args .stop-values .now)) (warpsNumber (c .before .before .before .before .before .before .before .before .before .before .before .before .before .before .before .before .before .args .warp-beats .now) (c .before .before .before .before .before .before .before .before .before .before .before .before .before .before .before .before .before .args .warp-lengths .now)) (processedLists (c .before .before .before .before .before .before .before .before .before .before .before .before .before .before .before .before .before .args .format) (c .before .before .before .before .before .before .before .before .before .before .before .before .before .before .before .before .before .args .tempo-beats .now) (c .before .before .before .before .before .before .before .before .before .before .before .before .before .before .before .before .before .args .tempo-values .now) (c .before .before .before .before .before .before .before .before .before .before .before .before .before .before .before .before .before .args .stop-beats .now) (c .before .before .before .before .before .before .before .before .before .before .before .before .before .before .before .before .before .args .stop-values .now)) (c .before .before .before .before .before .before .before .before .before .before .before .before .before .before .before .before .before .args .warp-beats .now) (c .before .before .before .before .before .before .before .before .before .before .before .before .before .before .before .before .before .args .warp-lengths .now) (list-taken (sym (c .before .before .before .before .list-number .ensures) ∙ c .before .before .before .if1 .left) .even) (omega (arith, c .before .before .room-of .ensures, c .before .if2 .taken)))
+returns-2 c = rw (c .refuse2 .ensures, c .before .before .before .before .list-number .ensures) (no-room (rawNumbers (c .before .before .before .before .before .before .before .before .before .before .before .before .before .before .before .before .before .args .tempo-beats .now) (c .before .before .before .before .before .before .before .before .before .before .before .before .before .before .before .before .before .args .tempo-values .now) (c .before .before .before .before .before .before .before .before .before .before .before .before .before .before .before .before .before .args .stop-beats .now) (c .before .before .before .before .before .before .before .before .before .before .before .before .before .before .before .before .before .args .stop-values .now)) (warpsNumber (listColumns (c .before .before .before .before .before .before .before .before .before .before .before .before .before .before .before .before .before .args .warp-beats .now) (c .before .before .before .before .before .before .before .before .before .before .before .before .before .before .before .before .before .args .warp-lengths .now))) (processedLists (c .before .before .before .before .before .before .before .before .before .before .before .before .before .before .before .before .before .args .format) (c .before .before .before .before .before .before .before .before .before .before .before .before .before .before .before .before .before .args .tempo-beats .now) (c .before .before .before .before .before .before .before .before .before .before .before .before .before .before .before .before .before .args .tempo-values .now) (c .before .before .before .before .before .before .before .before .before .before .before .before .before .before .before .before .before .args .stop-beats .now) (c .before .before .before .before .before .before .before .before .before .before .before .before .before .before .before .before .before .args .stop-values .now)) (listColumns (c .before .before .before .before .before .before .before .before .before .before .before .before .before .before .before .before .before .args .warp-beats .now) (c .before .before .before .before .before .before .before .before .before .before .before .before .before .before .before .before .before .args .warp-lengths .now)) (list-taken (sym (c .before .before .before .before .list-number .ensures) ∙ c .before .before .before .if1 .left) .even) (omega (arith, c .before .before .room-of .ensures, c .before .if2 .taken)))
 
 -- src/lib.rt:80:9
 mul-process-bpms-and-stops : tie.Need-mul-process-bpms-and-stops

@@ -3,6 +3,7 @@ use mathlib.Core.Path.{_≡_, refl, _∙_}
 use native.Mathlib.Omega.{arith}
 use lib.ListN.{length}
 use borrow.Author.Needs.{needs}
+use Rattle.chart.specs.ChartColumns.{listColumns, speedColumns, chartColumns}
 use Rattle.report_form.specs.Form.{start}
 use Rattle.report_stdin.specs.Fed.{Fed}
 use Rattle.report_stdin.proofs.Pieces.{fed-none, fed-zero, fed-join}
@@ -28,7 +29,9 @@ Inv-loop counts₀ tempo-beats₀ tempo-values₀ stop-beats₀ stop-values₀ d
     × (length scroll-values ≡ length scroll-values₀)
     × (length fake-beats ≡ length fake-beats₀)
     × (length fake-lengths ≡ length fake-lengths₀)
-    × Fed start reading counts₀ counts tempo-beats₀ tempo-beats tempo-values₀ tempo-values stop-beats₀ stop-beats stop-values₀ stop-values delay-beats₀ delay-beats delay-values₀ delay-values warp-beats₀ warp-beats warp-lengths₀ warp-lengths speed-beats₀ speed-beats speed-ratios₀ speed-ratios speed-delays₀ speed-delays speed-units₀ speed-units scroll-beats₀ scroll-beats scroll-values₀ scroll-values fake-beats₀ fake-beats fake-lengths₀ fake-lengths
+    × Fed start reading counts₀ counts
+    (chartColumns (listColumns tempo-beats₀ tempo-values₀) (listColumns stop-beats₀ stop-values₀) (listColumns delay-beats₀ delay-values₀) (listColumns warp-beats₀ warp-lengths₀) (speedColumns speed-beats₀ speed-ratios₀ speed-delays₀ speed-units₀) (listColumns scroll-beats₀ scroll-values₀) (listColumns fake-beats₀ fake-lengths₀))
+    (chartColumns (listColumns tempo-beats tempo-values) (listColumns stop-beats stop-values) (listColumns delay-beats delay-values) (listColumns warp-beats warp-lengths) (speedColumns speed-beats speed-ratios speed-delays speed-units) (listColumns scroll-beats scroll-values) (listColumns fake-beats fake-lengths))
 
 abbrev μ-loop : tie.MeasureT-loop
 μ-loop counts₀ tempo-beats₀ tempo-values₀ stop-beats₀ stop-values₀ delay-beats₀ delay-values₀ warp-beats₀ warp-lengths₀ speed-beats₀ speed-ratios₀ speed-delays₀ speed-units₀ scroll-beats₀ scroll-values₀ fake-beats₀ fake-lengths₀ reading₀ turns₀ counts tempo-beats tempo-values stop-beats stop-values delay-beats delay-values warp-beats warp-lengths speed-beats speed-ratios speed-delays speed-units scroll-beats scroll-values fake-beats fake-lengths reading turns = turns

@@ -5,12 +5,6 @@ use borrow.Author.Needs.{needs}
 use Rattle.report_text.proofs.put_warped.Statement.{statement}
 use Rattle.report_text.proofs.put_warped.Tie as tie
 
-front-requires : tie.Need-front-requires
-front-requires c κs = search needs
-
-warped-rows-requires : tie.Need-warped-rows-requires
-warped-rows-requires c κs = search needs
-
 slice-aggregate-put-bytes : tie.Need-slice-aggregate-put-bytes
 slice-aggregate-put-bytes c = search needs
 
@@ -25,14 +19,12 @@ same-length c = search needs
 
 returns : tie.Need-returns
 unfolding warpedLine
-returns c = rw (← c .before .before .before .before .before .before .before .before .before .before .front .ensures, ← c .before .before .before .before .before .before .before .before .before .warped-rows .ensures) (wrote-join (c .before .before .before .before .before .before .put-bytes .ensures) (c .before .before .put-decimal .ensures))
+returns c = wrote-join (c .before .before .before .before .before .before .put-bytes .ensures) (c .before .before .put-decimal .ensures)
 
 pub put-warped-spec : {M : Type 1} → statement M
 put-warped-spec =
     tie.close
     (tie.spec
-    front-requires
-    warped-rows-requires
     slice-aggregate-put-bytes
     put-bytes-requires
     put-decimal-requires

@@ -18,8 +18,8 @@ same-length c = search needs
 returns : tie.Need-returns
 returns c =
     let put = c .before .before .write-refusal .ensures in
-    let text = refused-text _ _ _ _ _ _ _ _ _ _ _ _ _ _ _ _ _ _ (c .before .before .before .before .before .answer .ensures) (c .before .before .before .before .if1 .taken) in
-    (reported _ _ _ _ _ _ _ _ _ _ _ _ _ _ _ _ _ _ (wrote-as text (put .0)), put .1)
+    let text = refused-text _ _ _ (c .before .before .before .before .before .answer .ensures) (c .before .before .before .before .if1 .taken) in
+    (reported _ _ _ (wrote-as text (put .0)), put .1)
 
 count-of-requires : tie.Need-count-of-requires
 count-of-requires c κs = search needs
@@ -102,10 +102,10 @@ same-length-2 c = c .before .before .write-assembled .kept .0
 returns-2 : tie.Need-returns-2
 returns-2 c =
     let put = c .before .before .write-assembled .ensures in
-    let text = taken-text _ _ _ _ _ _ _ _ _ _ _ _ _ _ _ _ _ _ (c .before .before .before .before .before .before .before .before .before .before .before .before .before .before .before .before .before .before .before .before .before .before .before .before .before .before .before .before .before .answer .ensures) (c .before .before .before .before .before .before .before .before .before .before .before .before .before .before .before .before .before .before .before .before .before .before .before .before .before .before .before .before .if1 .left) (c .before .before .before .before .before .before .before .before .before .before .before .before .before .before .before .before .before .before .before .format-of .ensures)
+    let text = taken-text _ _ _ (c .before .before .before .before .before .before .before .before .before .before .before .before .before .before .before .before .before .before .before .before .before .before .before .before .before .before .before .before .before .answer .ensures) (c .before .before .before .before .before .before .before .before .before .before .before .before .before .before .before .before .before .before .before .before .before .before .before .before .before .before .before .before .if1 .left) (c .before .before .before .before .before .before .before .before .before .before .before .before .before .before .before .before .before .before .before .format-of .ensures)
     (c .before .before .before .before .before .before .before .before .before .before .before .before .before .before .before .before .before .before .before .before .before .before .before .before .before .before .before .count-of .ensures) (c .before .before .before .before .before .before .before .before .before .before .before .before .before .before .before .before .before .before .before .before .before .before .before .before .before .before .count-of2 .ensures) (c .before .before .before .before .before .before .before .before .before .before .before .before .before .before .before .before .before .before .before .before .before .before .before .before .before .count-of3 .ensures) (c .before .before .before .before .before .before .before .before .before .before .before .before .before .before .before .before .before .before .before .before .before .before .before .before .count-of4 .ensures) (c .before .before .before .before .before .before .before .before .before .before .before .before .before .before .before .before .before .before .before .before .before .before .before .count-of5 .ensures) (c .before .before .before .before .before .before .before .before .before .before .before .before .before .before .before .before .before .before .before .before .before .before .count-of6 .ensures) (c .before .before .before .before .before .before .before .before .before .before .before .before .before .before .before .before .before .before .before .before .before .count-of7 .ensures)
     (c .before .before .before .before .before .before .before .before .before .before .before .before .before .before .before .before .before .before .front .ensures) (c .before .before .before .before .before .before .before .before .before .before .before .before .before .before .before .before .before .front2 .ensures) (c .before .before .before .before .before .before .before .before .before .before .before .before .before .before .before .before .front3 .ensures) (c .before .before .before .before .before .before .before .before .before .before .before .before .before .before .before .front4 .ensures) (c .before .before .before .before .before .before .before .before .before .before .before .before .before .before .front5 .ensures) (c .before .before .before .before .before .before .before .before .before .before .before .before .before .front6 .ensures) (c .before .before .before .before .before .before .before .before .before .before .before .before .front7 .ensures) (c .before .before .before .before .before .before .before .before .before .before .before .front8 .ensures) (c .before .before .before .before .before .before .before .before .before .before .front9 .ensures) (c .before .before .before .before .before .before .before .before .before .front10 .ensures) (c .before .before .before .before .before .before .before .before .front11 .ensures) (c .before .before .before .before .before .before .before .front-units .ensures) (c .before .before .before .before .before .before .front12 .ensures) (c .before .before .before .before .before .front13 .ensures) (c .before .before .before .before .front14 .ensures) (c .before .before .before .front15 .ensures) in
-    (reported _ _ _ _ _ _ _ _ _ _ _ _ _ _ _ _ _ _ (wrote-as text (put .0)), put .1)
+    (reported _ _ _ (wrote-as text (put .0)), put .1)
 
 pub write-report-spec : {M : Type 1} → statement M
 write-report-spec =

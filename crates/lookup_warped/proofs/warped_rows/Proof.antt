@@ -1,12 +1,12 @@
--- `report_text::warped_rows` meets its contract, test by test. Assumes nothing.
+-- `lookup_warped::warped_rows` meets its contract, test by test. Assumes nothing.
 use Prim.Native.Nat.{_≤_, _<_, _-_, _^_}
 use mathlib.Core.Path.{refl}
 use native.Mathlib.Omega.{arith}
 use lib.ListN.{length}
 use borrow.Author.Needs.{needs}
-use Rattle.report_text.proofs.Turns.{Summed, summed-turn, summed-end}
-use Rattle.report_text.proofs.warped_rows.Statement.{statement}
-use Rattle.report_text.proofs.warped_rows.Tie as tie
+use Rattle.lookup_warped.proofs.SummedRows.{Summed, summed-turn, summed-end}
+use Rattle.lookup_warped.proofs.warped_rows.Statement.{statement}
+use Rattle.lookup_warped.proofs.warped_rows.Tie as tie
 
 abbrev Inv-loop : tie.InvT-loop
 Inv-loop lengths sum₀ i₀ sum i = (i ≤ length lengths) × (sum < 2 ^ 64) × Summed lengths sum i

@@ -1,14 +1,14 @@
--- `report_text::length_rows` meets its contract, by the key of the row. Assumes nothing.
+-- `lookup_warped::length_rows` meets its contract, by the key of the row. Assumes nothing.
 use lib.Ieee.{ofBits, binary64}
 use mir.Syntax.{w32}
 use mir.ValLaws.{toZ-ofZ}
 use Rattle.rows.specs.Rows.{row}
 use mathlib.Core.Path.{_∙_}
-use Rattle.report_text.specs.Output.{lengthRows}
-use Rattle.report_text.proofs.Turns.{size-key}
+use Rattle.lookup_warped.specs.WarpedRows.{lengthRows}
+use Rattle.lookup_warped.proofs.SummedRows.{size-key}
 use borrow.Author.Needs.{needs}
-use Rattle.report_text.proofs.length_rows.Statement.{statement}
-use Rattle.report_text.proofs.length_rows.Tie as tie
+use Rattle.lookup_warped.proofs.length_rows.Statement.{statement}
+use Rattle.lookup_warped.proofs.length_rows.Tie as tie
 
 f32-to-f64-with-nan-requires : tie.Need-f32-to-f64-with-nan-requires
 f32-to-f64-with-nan-requires c κs = search needs
