@@ -16,44 +16,11 @@ Inv-loop narrowed fail₀ i₀ fail i = (i ≤ length narrowed) × CountedTwo lt
 abbrev μ-loop : tie.MeasureT-loop
 μ-loop narrowed fail₀ i₀ fail i = length narrowed - i
 
-loop-holds : tie.Need-loop-holds Inv-loop μ-loop
-loop-holds c = (omega arith, counted-start (passes lt) (neighbours (c .before .args .narrowed .now)))
-
-add-loop : tie.Need-add-loop Inv-loop μ-loop
-add-loop c = search needs
-
-mul-not-below-f32 : tie.Need-mul-not-below-f32 Inv-loop μ-loop
-mul-not-below-f32 c = search needs
-
-shared-slice-read-not-below-f32 : tie.Need-shared-slice-read-not-below-f32 Inv-loop μ-loop
-shared-slice-read-not-below-f32 c = search needs
-
-add-not-below-f32 : tie.Need-add-not-below-f32 Inv-loop μ-loop
-add-not-below-f32 c = search needs
-
-mul-not-below-f32-2 : tie.Need-mul-not-below-f32-2 Inv-loop μ-loop
-mul-not-below-f32-2 c = search needs
-
-shared-slice-read-not-below-f32-2 : tie.Need-shared-slice-read-not-below-f32-2 Inv-loop μ-loop
-shared-slice-read-not-below-f32-2 c = search needs
-
-not-below-f32-requires : tie.Need-not-below-f32-requires Inv-loop μ-loop
-not-below-f32-requires c κs = search needs
-
 add-fail : tie.Need-add-fail Inv-loop μ-loop
 add-fail c = record { fits = omega (arith, c .before .before .before .before .loop .inv .1 .few, c .not-below-f32 .ensures, miss-few (passes lt) (getD (c .before .before .before .before .before .before .args .narrowed .now) (c .before .before .before .before .loop .i) nan, getD (c .before .before .before .before .before .before .args .narrowed .now) (c .before .before .before .before .loop .i + 1) nan)) }
 
-add-i : tie.Need-add-i Inv-loop μ-loop
-add-i c = search needs
-
-loop-less : tie.Need-loop-less Inv-loop μ-loop
-loop-less c = search needs
-
 loop-again : tie.Need-loop-again Inv-loop μ-loop
 loop-again c = (omega arith, two-turn lt nan (c .before .before .before .before .before .before .args .narrowed .now) (c .not-below-f32 .result) (c .before .before .before .loop-test .taken) (c .not-below-f32 .ensures) (c .before .before .before .before .loop .inv .1))
-
-returns : tie.Need-returns Inv-loop μ-loop
-returns c = two-end lt (c .before .before .before .args .narrowed .now) (c .loop-test .left) (c .before .loop .inv .1)
 
 pub rise-f32-spec : {M : Type 1} → statement M
 rise-f32-spec =
@@ -61,16 +28,16 @@ rise-f32-spec =
     (tie.spec
     Inv-loop
     μ-loop
-    loop-holds
-    add-loop
-    mul-not-below-f32
-    shared-slice-read-not-below-f32
-    add-not-below-f32
-    mul-not-below-f32-2
-    shared-slice-read-not-below-f32-2
-    not-below-f32-requires
+    (λ c. (omega arith, counted-start (passes lt) (neighbours (c .before .args .narrowed .now))))
+    (λ c. search needs)
+    (λ c. search needs)
+    (λ c. search needs)
+    (λ c. search needs)
+    (λ c. search needs)
+    (λ c. search needs)
+    (λ c κs. search needs)
     add-fail
-    add-i
-    loop-less
+    (λ c. search needs)
+    (λ c. search needs)
     loop-again
-    returns)
+    (λ c. two-end lt (c .before .before .before .args .narrowed .now) (c .loop-test .left) (c .before .loop .inv .1)))
