@@ -27,7 +27,7 @@ use Rattle.assembly_rows.specs.AssembledRows.{narrowedEntry, changeBy, a
 use Rattle.limits.specs.Neighbours.{everyTwo}
 use Rattle.rows.proofs.Allowed.{taken-allowed}
 use Rattle.assembly_rows.proofs.InRowOrder.{narrowRow, narrow-row-within, rising-rows}
-use Rattle.assembly_rows.proofs.QuantizedTaken.{quantized-fits}
+use Rattle.columns_each.proofs.QuantizedNumbers.{quantized-fits}
 
 -- a quantised number is an f32
 pub quantized-own : (x : Float) → narrow (quantized x) ≡ quantized x

@@ -20,7 +20,7 @@ use Rattle.order.proofs.OrderedList.{both}
 use Rattle.columns.specs.declared.Outcome.{Outcome}
 use Rattle.columns.specs.Laying.{refusedBy, LaidPair}
 use Rattle.tidy_rows.specs.RowTidying.{rowsNumber}
-use Rattle.tidy_tempos.specs.inside.Keeping.{fallsTo}
+use Rattle.columns_order.specs.Falling.{falling}
 use Rattle.assembly_rows.specs.AssembledRows.{changeBy, assembledRows, assembledNumber, eachByItself, EachLaid, byItself, RowsAssembled, RowsUntested}
 use Rattle.assembly_rows.proofs.QuantizedTaken.{quantized-taken}
 use Rattle.assembly_rows.proofs.RisingRows.{rising-list}
@@ -64,14 +64,14 @@ module _ (beats values : List Float) where
           (rw (eq-eqb (length (map quantized beats)) (length values) (length-map beats quantized ∙ even)) at (rw e at p))
 
       -- where they fall, of a taken list
-      pub falling : {quantised : List Float} → length beats ≡ length values → length beats ≤ 1024 → quantised ≡ map quantized beats → everyTwo lt quantised ≡ false
-          → pick (everyTwo fallsTo quantised) (eqb (rowsNumber beats values) 0) false ≡ true
+      pub fallen : {quantised : List Float} → length beats ≡ length values → length beats ≤ 1024 → quantised ≡ map quantized beats → everyTwo lt quantised ≡ false
+          → pick (everyTwo falling quantised) (eqb (rowsNumber beats values) 0) false ≡ true
           → LaidPair 0 (reverse (eachByItself whole quantised values)) outcome beatsOld beatsNew valuesOld valuesNew → RowsUntested whole beats values outcome beatsOld beatsNew valuesOld valuesNew
-      falling {quantised} even few e h t p =
-          let both-so = both (λ (x : Float). 0) (everyTwo fallsTo quantised) (eqb (rowsNumber beats values) 0) t in
+      fallen {quantised} even few e h t p =
+          let both-so = both (λ (x : Float). 0) (everyTwo falling quantised) (eqb (rowsNumber beats values) 0) t in
           let passes = eqb-true (rowsNumber beats values) 0 (both-so .1) in
           not-rising even few (ap (everyTwo lt) (sym e) ∙ h)
-          (rw (quantized-taken beats values whole passes, falling-list whole beats values passes (ap (everyTwo fallsTo) (sym e) ∙ both-so .0)) (rw e at p))
+          (rw (quantized-taken beats values whole passes, falling-list whole beats values passes (ap (everyTwo falling) (sym e) ∙ both-so .0)) (rw e at p))
 
       -- of a taken list
       module _ (h : rowsNumber beats values ≡ 0) where

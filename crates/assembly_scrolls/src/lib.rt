@@ -18,7 +18,7 @@ fn assemble_in(
     requires { ⌜ (length (now «work_beats») ≡ length (now beats)) × (length (now «tidy_beats») ≡ length (now beats)) × (length (now «tidy_values») ≡ length (now beats)) ⌝ }
     ensures { λ r. ⌜ ScrollsAssembled (now (beats .entry)) (now (values .entry)) r (now («out_beats» .entry)) (now («out_beats» .exit)) (now («out_values» .entry)) (now («out_values» .exit)) ⌝ }
 {
-    assembly_rows::quantize_column(beats, work_beats);
+    columns_each::quantize_column(beats, work_beats);
     let tidied = tidy_scrolls::tidy_scroll_segments(work_beats, values, tidy_beats, tidy_values);
     assembly_rows::lay_narrowed(
         tidied.number,
@@ -101,7 +101,7 @@ fn assemble_any(
 pub fn rise_apart(beats: &[f32], values: &[f64]) -> bool
     ensures { λ r. ⌜ r ≡ riseApart (now (beats .entry)) (now (values .entry)) ⌝ }
 {
-    if assembly_rows::rise(beats) {
+    if columns_order::rise_f32(beats) {
         return tidy_kept::all_apart(values);
     }
     false
@@ -117,7 +117,7 @@ fn assemble_by(
     requires { ⌜ (length (now beats) ≤ 1024) × (length (now values) ≡ length (now beats)) × (length (now quantised) ≡ length (now beats)) ⌝ }
     ensures { λ r. ⌜ ScrollsUntested (now (beats .entry)) (now (values .entry)) r (now («out_beats» .entry)) (now («out_beats» .exit)) (now («out_values» .entry)) (now («out_values» .exit)) ⌝ }
 {
-    assembly_rows::quantize_column_f32(beats, quantised);
+    columns_each::quantize_column_f32(beats, quantised);
     if rise_apart(quantised, values) {
         return assembly_rows::lay_each(quantised, values, false, out_beats, out_values);
     }
@@ -213,7 +213,7 @@ pub fn scrolls_number(beats: &[f64], values: &[f64], room: usize) -> u32
     if beats.len() > room {
         return number_in(beats, values, room);
     }
-    if assembly_rows::never_fall(beats) {
+    if columns_order::never_fall(beats) {
         return limits::TAKEN;
     }
     number_in(beats, values, room)

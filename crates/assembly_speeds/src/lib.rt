@@ -36,9 +36,9 @@ fn lay_narrowed(
     if n > room {
         return columns::refused(limits::NO_ROOM);
     }
-    assembly_rows::narrow_column(&beats[..n], out_beats);
-    assembly_rows::narrow_column(&ratios[..n], out_ratios);
-    assembly_rows::narrow_column(&delays[..n], out_delays);
+    columns_each::narrow_column(&beats[..n], out_beats);
+    columns_each::narrow_column(&ratios[..n], out_ratios);
+    columns_each::narrow_column(&delays[..n], out_delays);
     tidy_speeds_entries::copy_units(&units[..n], out_units);
     Outcome {
         number: limits::TAKEN,
@@ -65,7 +65,7 @@ fn assemble_in(
     requires { ⌜ (length (now «work_beats») ≡ length (now beats)) × (length (now «tidy_beats») ≡ length (now beats)) × (length (now «tidy_ratios») ≡ length (now beats)) × (length (now «tidy_delays») ≡ length (now beats)) × (length (now «tidy_units») ≡ length (now beats)) ⌝ }
     ensures { λ r. ⌜ SpeedsAssembled (now (beats .entry)) (now (ratios .entry)) (now (delays .entry)) (now (units .entry)) r (now («out_beats» .entry)) (now («out_beats» .exit)) (now («out_ratios» .entry)) (now («out_ratios» .exit)) (now («out_delays» .entry)) (now («out_delays» .exit)) (now («out_units» .entry)) (now («out_units» .exit)) ⌝ }
 {
-    assembly_rows::quantize_column(beats, work_beats);
+    columns_each::quantize_column(beats, work_beats);
     let tidied = tidy_speeds::tidy_speed_segments(
         work_beats,
         ratios,
@@ -238,9 +238,9 @@ fn lay_each(
     if count > room {
         return columns::refused(limits::NO_ROOM);
     }
-    assembly_rows::copy_column_f32(quantised, out_beats);
-    assembly_rows::narrow_column(ratios, out_ratios);
-    assembly_rows::narrow_column(delays, out_delays);
+    columns_each::copy_column_f32(quantised, out_beats);
+    columns_each::narrow_column(ratios, out_ratios);
+    columns_each::narrow_column(delays, out_delays);
     tidy_speeds_entries::copy_units(units, out_units);
     Outcome {
         number: limits::TAKEN,
@@ -263,7 +263,7 @@ fn assemble_by(
     requires { ⌜ (length (now beats) ≤ 1024) × (length (now quantised) ≡ length (now beats)) ⌝ }
     ensures { λ r. ⌜ SpeedsUntested (now (beats .entry)) (now (ratios .entry)) (now (delays .entry)) (now (units .entry)) r (now («out_beats» .entry)) (now («out_beats» .exit)) (now («out_ratios» .entry)) (now («out_ratios» .exit)) (now («out_delays» .entry)) (now («out_delays» .exit)) (now («out_units» .entry)) (now («out_units» .exit)) ⌝ }
 {
-    assembly_rows::quantize_column_f32(beats, quantised);
+    columns_each::quantize_column_f32(beats, quantised);
     if assembly_scrolls::rise_apart(quantised, ratios) {
         return lay_each(
             quantised,
@@ -477,7 +477,7 @@ pub fn speeds_number(
     if beats.len() > room {
         return number_in(beats, ratios, delays, units, room);
     }
-    if assembly_rows::never_fall(beats) {
+    if columns_order::never_fall(beats) {
         return limits::TAKEN;
     }
     number_in(beats, ratios, delays, units, room)

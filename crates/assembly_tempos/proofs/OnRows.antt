@@ -25,7 +25,7 @@ use Rattle.columns.proofs.EachOverFront.{each-over-front, copied-over-front}
 use Rattle.tidy_rows.specs.RowTidying.{rowsNumber}
 use Rattle.assembly_rows.specs.AssembledRows.{eachByItself, RowsUntested}
 use Rattle.assembly_tempos.specs.inside.ProcessedColumns.{heldF32}
-use Rattle.assembly_rows.proofs.QuantizedTaken.{quantized-fits, quantized-number}
+use Rattle.columns_each.proofs.QuantizedNumbers.{quantized-fits, quantized-number}
 use Rattle.assembly_rows.proofs.Untested.{rising}
 
 -- ---- columns of f32s

@@ -6,11 +6,10 @@ ghost use mathlib.Core.Bool.{true, false};
 ghost use mathlib.Core.List.{map};
 ghost use Prim.Native.Nat.{_≤_, min};
 ghost use lib.ListN.{length};
-ghost use lib.Ieee.{Float, lt};
+ghost use lib.Ieee.{Float};
 ghost use Rattle.rows.specs.Rows.{quantized};
 ghost use Rattle.ieee.specs.Narrowing.{narrow};
-ghost use Rattle.limits.specs.Numbers.{miss, every};
-ghost use Rattle.limits.specs.Neighbours.{everyTwo};
+ghost use Rattle.limits.specs.Numbers.{every};
 ghost use Rattle.columns.specs.Each.{laidEach};
 ghost use Rattle.tidy_rows.specs.RowTidying.{rowsNumber};
 ghost use Rattle.assembly_rows.specs.AssembledRows.{RowsUntested};
@@ -66,25 +65,6 @@ fn rooms_number(
 
 // ---- tempos and stops: beats are on rows, each an f32 already, and so are SM's values
 
-fn not_below(beat: f64, next: f64) -> usize
-    ensures { λ r. ⌜ r ≡ miss (λ (e : Float × Float). lt (e .0) (e .1)) (beat, next) ⌝ }
-{
-    if beat < next { 0 } else { 1 }
-}
-
-// Whether each beat is below the next: a loop that counts those that are not has no branch.
-fn rise(beats: &[f64]) -> bool
-    ensures { λ r. ⌜ r ≡ everyTwo lt (now (beats .entry)) ⌝ }
-{
-    let mut fail: usize = 0;
-    let mut i = 0;
-    while i + 1 < beats.len() {
-        fail += not_below(beats[i], beats[i + 1]);
-        i += 1;
-    }
-    fail == 0
-}
-
 // Each number as an f32, in which it loses nothing.
 fn cast_column(from: &[f64], to: &mut [f32])
     requires { ⌜ every heldF32 (now from) ≡ true ⌝ }
@@ -105,7 +85,7 @@ fn narrow_values(format: TimingFormat, from: &[f64], to: &mut [f32])
 {
     match format {
         TimingFormat::Sm => cast_column(from, to),
-        TimingFormat::Ssc => assembly_rows::narrow_column(from, to),
+        TimingFormat::Ssc => columns_each::narrow_column(from, to),
     }
 }
 
@@ -123,7 +103,7 @@ fn assemble_stops(
     if beats.len() > columns::room_of(out_beats.len(), out_values.len()) {
         return assembly_rows::assemble_untested(beats, values, false, out_beats, out_values);
     }
-    if rise(beats) {
+    if columns_order::rise(beats) {
         cast_column(beats, out_beats);
         narrow_values(format, values, out_values);
         return Outcome {
