@@ -27,15 +27,16 @@ use Rattle.assembly_speeds.specs.AssembledSpeeds.{assembledSpeeds, speedsRoomNu
 use Rattle.assembly_warps.specs.MergedWarps.{threeNumber, mergedLists}
 use Rattle.assembly_tempos.specs.AssembledTempos.{assembledTempos, assembledStops, assembledWarps, fitNumber, verdict, threeRooms}
 use Rattle.assembly.specs.declared.Assembled.{Assembled}
+use Rattle.assembly_rows.specs.declared.Meaning.the-variants.{Lengths, Values}
 
 -- ---- the lists
 
 -- delays keep their values; the lengths of fakes are quantised
 abbrev pub assembledDelays : List Float → List Float → List (Float × Float)
-assembledDelays beats values = assembledRows (changeBy false) beats values
+assembledDelays beats values = assembledRows (changeBy Values) beats values
 
 abbrev pub assembledFakes : List Float → List Float → List (Float × Float)
-assembledFakes beats lengths = assembledRows (changeBy true) beats lengths
+assembledFakes beats lengths = assembledRows (changeBy Lengths) beats lengths
 
 -- tempos, stops and warps as processing leaves them, the warps that it makes behind the given ones
 abbrev pub processedChart : TimingFormat → ChartColumns → ThreeLists

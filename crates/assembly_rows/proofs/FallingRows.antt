@@ -1,7 +1,7 @@
 -- Where quantised beats fall, the assembled list is what is given, each number by itself, turned round. Assumes nothing.
 use Prim.Native.Nat.{_<_}
 use mathlib.Core.Path.{_≡_, refl, sym, ap, _∙_}
-use mathlib.Core.Bool.{Bool, true}
+use mathlib.Core.Bool.{true}
 use mathlib.Core.List.{List, [], _∷_, map, map-map, reverse}
 use native.Mathlib.Omega.{arith}
 use borrow.Author.Tests.{ltb-true, le-leb}
@@ -25,6 +25,7 @@ use Rattle.columns_order.specs.Falling.{falling}
 use Rattle.assembly_rows.specs.AssembledRows.{narrowedEntry, changeBy, assembledRows, eachByItself}
 use Rattle.assembly_rows.proofs.InRowOrder.{quantized-below}
 use Rattle.assembly_rows.proofs.RisingRows.{each-on-its-row}
+use Rattle.assembly_rows.specs.declared.Meaning.{Meaning}
 
 -- rows that never rise, and none of them twice
 falling-rows : (beats values : List Float) → allIn (rangeOf Beat) beats ≡ true → everyTwo falling (map quantized beats) ≡ true
@@ -45,17 +46,17 @@ falling-rows (x ∷ y ∷ beats) (v ∷ w ∷ values) a t =
       lasts-other rowKeyOf (quantized x, v) (quantized y, w) (entries (map quantized beats) values) (omega arith) ∙ ap (_∷_ (quantized x, v)) (rest .1),
     )
 
-module _ (whole : Bool) (beats values : List Float) (h : rowsNumber beats values ≡ 0) (falls : everyTwo falling (map quantized beats) ≡ true) where
+module _ (meaning : Meaning) (beats values : List Float) (h : rowsNumber beats values ≡ 0) (falls : everyTwo falling (map quantized beats) ≡ true) where
   abbrev list : List (Float × Float)
-  list = entries (map quantized beats) (map (changeBy whole) values)
+  list = entries (map quantized beats) (map (changeBy meaning) values)
 
-  same : assembledRows (changeBy whole) beats values ≡ map narrowedEntry (map onItsRow (reverse list))
+  same : assembledRows (changeBy meaning) beats values ≡ map narrowedEntry (map onItsRow (reverse list))
   unfolding assembledRows tidyRows
   same =
-      let by-row = falling-rows beats (map (changeBy whole) values) (list-taken h .beatsIn) falls in
+      let by-row = falling-rows beats (map (changeBy meaning) values) (list-taken h .beatsIn) falls in
       ap (λ (l : List (Float × Float)). map narrowedEntry (map onItsRow l)) (sym (turned-round rowKeyOf list (by-row .0)) ∙ ap reverse (by-row .1))
 
-  pub falling-list : assembledRows (changeBy whole) beats values ≡ reverse (eachByItself whole (map quantized beats) values)
+  pub falling-list : assembledRows (changeBy meaning) beats values ≡ reverse (eachByItself meaning (map quantized beats) values)
   falling-list =
       same ∙ ap (map narrowedEntry) (turned-map onItsRow list) ∙ turned-map narrowedEntry (map onItsRow list)
-      ∙ ap reverse (each-on-its-row beats (map (changeBy whole) values) (list-taken h .beatsIn) ∙ ap (entries (map quantized beats)) (map-map narrow (changeBy whole) values))
+      ∙ ap reverse (each-on-its-row beats (map (changeBy meaning) values) (list-taken h .beatsIn) ∙ ap (entries (map quantized beats)) (map-map narrow (changeBy meaning) values))

@@ -2,7 +2,7 @@
 -- Assumes nothing.
 use Prim.Native.Nat.{_≤_}
 use mathlib.Core.Path.{_≡_, refl}
-use mathlib.Core.Bool.{Bool, true, false}
+use mathlib.Core.Bool.{Bool, true}
 use mathlib.Core.List.{List, [], _∷_, map}
 use lib.ListN.{length, length-map}
 use lib.Ieee.{Float}
@@ -14,6 +14,8 @@ use Rattle.limits.proofs.ListTaken.{list-taken, list-passes}
 use Rattle.tidy_rows.specs.RowTidying.{rowsNumber}
 use Rattle.columns_each.proofs.QuantizedNumbers.{quantized-value-taken, quantized-beat-taken}
 use Rattle.assembly_rows.specs.AssembledRows.{changeBy, assembledNumber}
+use Rattle.assembly_rows.specs.declared.Meaning.{Meaning}
+use Rattle.assembly_rows.specs.declared.Meaning.the-variants.{Lengths, Values}
 
 -- ---- columns
 every-map : {A B : Type 0} (test : A → Bool) (other : B → Bool) (f : A → B) → ((x : A) → test x ≡ true → other (f x) ≡ true) → (l : List A) → every test l ≡ true → every other (map f l) ≡ true
@@ -29,9 +31,9 @@ every-changed other f so (x ∷ l) = rw (so x) (every-changed other f so l)
 pub quantized-beats-taken : (beats : List Float) → allIn (rangeOf Beat) beats ≡ true → allIn (rangeOf Beat) (map quantized beats) ≡ true
 quantized-beats-taken = every-map (inRange (rangeOf Beat)) (inRange (rangeOf Beat)) quantized quantized-beat-taken
 
-pub changed-values-taken : (whole : Bool) (values : List Float) → allIn (rangeOf Value) values ≡ true → allIn (rangeOf Value) (map (changeBy whole) values) ≡ true
-changed-values-taken true values h = every-changed (inRange (rangeOf Value)) (changeBy true) quantized-value-taken values
-changed-values-taken false values h = every-map (inRange (rangeOf Value)) (inRange (rangeOf Value)) (changeBy false) (λ x k. k) values h
+pub changed-values-taken : (meaning : Meaning) (values : List Float) → allIn (rangeOf Value) values ≡ true → allIn (rangeOf Value) (map (changeBy meaning) values) ≡ true
+changed-values-taken Lengths values h = every-changed (inRange (rangeOf Value)) (changeBy Lengths) quantized-value-taken values
+changed-values-taken Values values h = every-map (inRange (rangeOf Value)) (inRange (rangeOf Value)) (changeBy Values) (λ x k. k) values h
 
 -- ---- lists
 module _ (beats values : List Float) where
@@ -40,5 +42,5 @@ module _ (beats values : List Float) where
       list-passes (rangeOf Beat) (rangeOf Value) (map quantized beats) (map change values) (simp length-map few) (simp length-map even) (quantized-beats-taken beats b) v
 
   -- a taken list
-  pub quantized-taken : (whole : Bool) → rowsNumber beats values ≡ 0 → assembledNumber (changeBy whole) beats values ≡ 0
-  quantized-taken whole h = let is = list-taken h in both-passes (changeBy whole) (is .few) (is .even) (is .beatsIn) (changed-values-taken whole values (is .valuesIn))
+  pub quantized-taken : (meaning : Meaning) → rowsNumber beats values ≡ 0 → assembledNumber (changeBy meaning) beats values ≡ 0
+  quantized-taken meaning h = let is = list-taken h in both-passes (changeBy meaning) (is .few) (is .even) (is .beatsIn) (changed-values-taken meaning values (is .valuesIn))

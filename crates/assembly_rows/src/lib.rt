@@ -17,26 +17,30 @@ ghost use Rattle.columns_order.specs.Falling.{falling};
 ghost use Rattle.assembly_rows.specs.AssembledRows.{changeBy, narrowedFront, eachByItself, EachLaid, RowsAssembled, RowsUntested, rowsFit};
 ghost use Rattle.limits.specs.Neighbours.{everyTwo};
 
-// ---- columns
-
-fn change_column(whole: bool, from: &[f64], to: &mut [f64])
-    ensures { λ _. ⌜ to.exit.now ≡ laidEach (changeBy whole) from.entry.now to.entry.now ⌝ }
-{
-    if whole {
-        columns_each::quantize_column(from, to);
-        return;
-    }
-    columns::copy(from, to);
+// What the values of a list are: lengths, which are moved to whole rows as beats are, or values that stay as they are.
+pub enum Meaning {
+    Lengths,
+    Values,
 }
 
-fn change_column_f32(whole: bool, from: &[f64], to: &mut [f32])
-    ensures { λ _. ⌜ to.exit.now ≡ laidEach (λ (x : Float). narrow (changeBy whole x)) from.entry.now to.entry.now ⌝ }
+// ---- columns
+
+fn change_column(meaning: Meaning, from: &[f64], to: &mut [f64])
+    ensures { λ _. ⌜ to.exit.now ≡ laidEach (changeBy meaning) from.entry.now to.entry.now ⌝ }
 {
-    if whole {
-        columns_each::quantize_column_f32(from, to);
-        return;
+    match meaning {
+        Meaning::Lengths => columns_each::quantize_column(from, to),
+        Meaning::Values => columns::copy(from, to),
     }
-    columns_each::narrow_column(from, to);
+}
+
+fn change_column_f32(meaning: Meaning, from: &[f64], to: &mut [f32])
+    ensures { λ _. ⌜ to.exit.now ≡ laidEach (λ (x : Float). narrow (changeBy meaning x)) from.entry.now to.entry.now ⌝ }
+{
+    match meaning {
+        Meaning::Lengths => columns_each::quantize_column_f32(from, to),
+        Meaning::Values => columns_each::narrow_column(from, to),
+    }
 }
 
 // A result of two columns as f32: its first entries over the fronts of the rooms, or the number it was refused by, or 7 where the rooms are too short.
@@ -73,7 +77,7 @@ pub fn lay_narrowed(
 fn assemble_in(
     beats: &[f64],
     values: &[f64],
-    whole: bool,
+    meaning: Meaning,
     work_beats: &mut [f64],
     work_values: &mut [f64],
     tidy_beats: &mut [f64],
@@ -84,11 +88,11 @@ fn assemble_in(
     requires { ⌜ (length values.now ≡ length beats.now) × (length «work_beats».now ≡ length beats.now) × (length «work_values».now ≡ length beats.now) ⌝ }
     requires { ⌜ (length «tidy_beats».now ≡ length beats.now) × (length «tidy_values».now ≡ length beats.now) ⌝ }
     ensures { λ r.
-        ⌜ RowsAssembled whole beats.entry.now values.entry.now r
+        ⌜ RowsAssembled meaning beats.entry.now values.entry.now r
         «out_beats».entry.now «out_beats».exit.now «out_values».entry.now «out_values».exit.now ⌝ }
 {
     columns_each::quantize_column(beats, work_beats);
-    change_column(whole, values, work_values);
+    change_column(meaning, values, work_values);
     let tidied = tidy_rows::tidy_row_segments(work_beats, work_values, tidy_beats, tidy_values);
     lay_narrowed(
         tidied.number,
@@ -104,13 +108,13 @@ fn assemble_in(
 fn assemble_few(
     beats: &[f64],
     values: &[f64],
-    whole: bool,
+    meaning: Meaning,
     out_beats: &mut [f32],
     out_values: &mut [f32],
 ) -> Outcome
     requires { ⌜ (length values.now ≡ length beats.now) × (length beats.now ≤ 64) ⌝ }
     ensures { λ r.
-        ⌜ RowsAssembled whole beats.entry.now values.entry.now r
+        ⌜ RowsAssembled meaning beats.entry.now values.entry.now r
         «out_beats».entry.now «out_beats».exit.now «out_values».entry.now «out_values».exit.now ⌝ }
 {
     let n = beats.len();
@@ -121,7 +125,7 @@ fn assemble_few(
     assemble_in(
         beats,
         values,
-        whole,
+        meaning,
         &mut work_beats[..n],
         &mut work_values[..n],
         &mut tidy_beats[..n],
@@ -135,13 +139,13 @@ fn assemble_few(
 fn assemble_many(
     beats: &[f64],
     values: &[f64],
-    whole: bool,
+    meaning: Meaning,
     out_beats: &mut [f32],
     out_values: &mut [f32],
 ) -> Outcome
     requires { ⌜ (length values.now ≡ length beats.now) × (length beats.now ≤ 1024) ⌝ }
     ensures { λ r.
-        ⌜ RowsAssembled whole beats.entry.now values.entry.now r
+        ⌜ RowsAssembled meaning beats.entry.now values.entry.now r
         «out_beats».entry.now «out_beats».exit.now «out_values».entry.now «out_values».exit.now ⌝ }
 {
     let n = beats.len();
@@ -152,7 +156,7 @@ fn assemble_many(
     assemble_in(
         beats,
         values,
-        whole,
+        meaning,
         &mut work_beats[..n],
         &mut work_values[..n],
         &mut tidy_beats[..n],
@@ -165,19 +169,19 @@ fn assemble_many(
 fn assemble_any(
     beats: &[f64],
     values: &[f64],
-    whole: bool,
+    meaning: Meaning,
     out_beats: &mut [f32],
     out_values: &mut [f32],
 ) -> Outcome
     requires { ⌜ (length values.now ≡ length beats.now) × (length beats.now ≤ 1024) ⌝ }
     ensures { λ r.
-        ⌜ RowsAssembled whole beats.entry.now values.entry.now r
+        ⌜ RowsAssembled meaning beats.entry.now values.entry.now r
         «out_beats».entry.now «out_beats».exit.now «out_values».entry.now «out_values».exit.now ⌝ }
 {
     if beats.len() <= limits::FEW {
-        return assemble_few(beats, values, whole, out_beats, out_values);
+        return assemble_few(beats, values, meaning, out_beats, out_values);
     }
-    assemble_many(beats, values, whole, out_beats, out_values)
+    assemble_many(beats, values, meaning, out_beats, out_values)
 }
 
 // ---- lists of one length: where quantised beats rise each number is written by itself, and none is tested; where they fall, of a list that is taken, the same turned round
@@ -186,12 +190,12 @@ fn assemble_any(
 pub fn lay_each(
     quantised: &[f32],
     values: &[f64],
-    whole: bool,
+    meaning: Meaning,
     out_beats: &mut [f32],
     out_values: &mut [f32],
 ) -> Outcome
     ensures { λ r.
-        ⌜ EachLaid whole quantised.entry.now values.entry.now r
+        ⌜ EachLaid meaning quantised.entry.now values.entry.now r
         «out_beats».entry.now «out_beats».exit.now «out_values».entry.now «out_values».exit.now ⌝ }
 {
     let count = quantised.len();
@@ -202,7 +206,7 @@ pub fn lay_each(
         return columns::refused(limits::NO_ROOM);
     }
     columns_each::copy_column_f32(quantised, out_beats);
-    change_column_f32(whole, values, out_values);
+    change_column_f32(meaning, values, out_values);
     Outcome {
         number: limits::TAKEN,
         count: count,
@@ -213,16 +217,16 @@ pub fn lay_each(
 fn lay_turned(
     quantised: &[f32],
     values: &[f64],
-    whole: bool,
+    meaning: Meaning,
     out_beats: &mut [f32],
     out_values: &mut [f32],
 ) -> Outcome
     requires { ⌜ length quantised.now ≡ length values.now ⌝ }
     ensures { λ r.
-        let turned = reverse (eachByItself whole quantised.entry.now values.entry.now) in
+        let turned = reverse (eachByItself meaning quantised.entry.now values.entry.now) in
         ⌜ LaidPair 0 turned r «out_beats».entry.now «out_beats».exit.now «out_values».entry.now «out_values».exit.now ⌝ }
 {
-    let outcome = lay_each(quantised, values, whole, out_beats, out_values);
+    let outcome = lay_each(quantised, values, meaning, out_beats, out_values);
     columns::turn(&mut out_beats[..outcome.count]);
     columns::turn(&mut out_values[..outcome.count]);
     outcome
@@ -243,36 +247,36 @@ fn falls_and_taken(beats: &[f64], values: &[f64], quantised: &[f32]) -> bool
 fn assemble_even(
     beats: &[f64],
     values: &[f64],
-    whole: bool,
+    meaning: Meaning,
     quantised: &mut [f32],
     out_beats: &mut [f32],
     out_values: &mut [f32],
 ) -> Outcome
     requires { ⌜ (length values.now ≡ length beats.now) × (length beats.now ≤ 1024) × (length quantised.now ≡ length beats.now) ⌝ }
     ensures { λ r.
-        ⌜ RowsUntested whole beats.entry.now values.entry.now r
+        ⌜ RowsUntested meaning beats.entry.now values.entry.now r
         «out_beats».entry.now «out_beats».exit.now «out_values».entry.now «out_values».exit.now ⌝ }
 {
     columns_each::quantize_column_f32(beats, quantised);
     if columns_order::rise_f32(quantised) {
-        return lay_each(quantised, values, whole, out_beats, out_values);
+        return lay_each(quantised, values, meaning, out_beats, out_values);
     }
     if falls_and_taken(beats, values, quantised) {
-        return lay_turned(quantised, values, whole, out_beats, out_values);
+        return lay_turned(quantised, values, meaning, out_beats, out_values);
     }
-    assemble_any(beats, values, whole, out_beats, out_values)
+    assemble_any(beats, values, meaning, out_beats, out_values)
 }
 
 fn assemble_even_few(
     beats: &[f64],
     values: &[f64],
-    whole: bool,
+    meaning: Meaning,
     out_beats: &mut [f32],
     out_values: &mut [f32],
 ) -> Outcome
     requires { ⌜ (length values.now ≡ length beats.now) × (length beats.now ≤ 64) ⌝ }
     ensures { λ r.
-        ⌜ RowsUntested whole beats.entry.now values.entry.now r
+        ⌜ RowsUntested meaning beats.entry.now values.entry.now r
         «out_beats».entry.now «out_beats».exit.now «out_values».entry.now «out_values».exit.now ⌝ }
 {
     let n = beats.len();
@@ -280,7 +284,7 @@ fn assemble_even_few(
     assemble_even(
         beats,
         values,
-        whole,
+        meaning,
         &mut quantised[..n],
         out_beats,
         out_values,
@@ -290,13 +294,13 @@ fn assemble_even_few(
 fn assemble_even_many(
     beats: &[f64],
     values: &[f64],
-    whole: bool,
+    meaning: Meaning,
     out_beats: &mut [f32],
     out_values: &mut [f32],
 ) -> Outcome
     requires { ⌜ (length values.now ≡ length beats.now) × (length beats.now ≤ 1024) ⌝ }
     ensures { λ r.
-        ⌜ RowsUntested whole beats.entry.now values.entry.now r
+        ⌜ RowsUntested meaning beats.entry.now values.entry.now r
         «out_beats».entry.now «out_beats».exit.now «out_values».entry.now «out_values».exit.now ⌝ }
 {
     let n = beats.len();
@@ -304,7 +308,7 @@ fn assemble_even_many(
     assemble_even(
         beats,
         values,
-        whole,
+        meaning,
         &mut quantised[..n],
         out_beats,
         out_values,
@@ -318,42 +322,42 @@ fn assemble_even_many(
 pub fn assemble_untested(
     beats: &[f64],
     values: &[f64],
-    whole: bool,
+    meaning: Meaning,
     out_beats: &mut [f32],
     out_values: &mut [f32],
 ) -> Outcome
     ensures { λ r.
-        ⌜ RowsUntested whole beats.entry.now values.entry.now r
+        ⌜ RowsUntested meaning beats.entry.now values.entry.now r
         «out_beats».entry.now «out_beats».exit.now «out_values».entry.now «out_values».exit.now ⌝ }
 {
     if beats.len() != values.len() {
         return columns::refused(limits::list_number(Kind::Beat, Kind::Value, beats, values));
     }
     if beats.len() <= limits::FEW {
-        return assemble_even_few(beats, values, whole, out_beats, out_values);
+        return assemble_even_few(beats, values, meaning, out_beats, out_values);
     }
     if beats.len() <= limits::MOST_ENTRIES {
-        return assemble_even_many(beats, values, whole, out_beats, out_values);
+        return assemble_even_many(beats, values, meaning, out_beats, out_values);
     }
     columns::refused(limits::TOO_LONG)
 }
 
-// The assembled list over the fronts of both rooms, and its length. `whole`: the values are lengths, which are quantised too.
+// The assembled list over the fronts of both rooms, and its length.
 // Refused with 1, 2, 3 or 4 for what tidying is given, and with 7 where the list does not fit.
 pub fn assemble_rows(
     beats: &[f64],
     values: &[f64],
-    whole: bool,
+    meaning: Meaning,
     out_beats: &mut [f32],
     out_values: &mut [f32],
 ) -> Outcome
     ensures { λ r.
-        ⌜ RowsAssembled whole beats.entry.now values.entry.now r
+        ⌜ RowsAssembled meaning beats.entry.now values.entry.now r
         «out_beats».entry.now «out_beats».exit.now «out_values».entry.now «out_values».exit.now ⌝ }
 {
     let number = limits::list_number(Kind::Beat, Kind::Value, beats, values);
     if number == limits::TAKEN {
-        return assemble_untested(beats, values, whole, out_beats, out_values);
+        return assemble_untested(beats, values, meaning, out_beats, out_values);
     }
     if number == limits::TOO_LONG {
         return columns::refused(limits::TOO_LONG);
@@ -361,19 +365,19 @@ pub fn assemble_rows(
     if number == limits::UNEVEN {
         return columns::refused(limits::UNEVEN);
     }
-    assemble_any(beats, values, whole, out_beats, out_values)
+    assemble_any(beats, values, meaning, out_beats, out_values)
 }
 
-fn fits_below(beats: &[f64], values: &[f64], whole: bool, room: usize) -> bool
+fn fits_below(beats: &[f64], values: &[f64], meaning: Meaning, room: usize) -> bool
     requires { ⌜ (room < length beats.now) × (length beats.now ≤ 1024) ⌝ }
-    ensures { λ r. ⌜ r ≡ rowsFit whole beats.entry.now values.entry.now room ⌝ }
+    ensures { λ r. ⌜ r ≡ rowsFit meaning beats.entry.now values.entry.now room ⌝ }
 {
     let mut beat_room = [0.0f32; limits::MOST_ENTRIES];
     let mut value_room = [0.0f32; limits::MOST_ENTRIES];
     let outcome = assemble_rows(
         beats,
         values,
-        whole,
+        meaning,
         &mut beat_room[..room],
         &mut value_room[..room],
     );
@@ -382,8 +386,8 @@ fn fits_below(beats: &[f64], values: &[f64], whole: bool, room: usize) -> bool
 
 // Whether a list fits into rooms of a length: yes at once where they hold all that is given, and otherwise where `assemble_rows` would take it.
 // Nothing is tested in the first case, so it is asked of lists that are known to be taken.
-pub fn rows_fit(beats: &[f64], values: &[f64], whole: bool, room: usize) -> bool
-    ensures { λ r. ⌜ r ≡ rowsFit whole beats.entry.now values.entry.now room ⌝ }
+pub fn rows_fit(beats: &[f64], values: &[f64], meaning: Meaning, room: usize) -> bool
+    ensures { λ r. ⌜ r ≡ rowsFit meaning beats.entry.now values.entry.now room ⌝ }
 {
     if beats.len() <= room {
         return true;
@@ -391,5 +395,5 @@ pub fn rows_fit(beats: &[f64], values: &[f64], whole: bool, room: usize) -> bool
     if beats.len() > limits::MOST_ENTRIES {
         return false;
     }
-    fits_below(beats, values, whole, room)
+    fits_below(beats, values, meaning, room)
 }

@@ -1,4 +1,5 @@
 // Assembly of scrolls: beats quantised, tidied, and written as f32.
+use assembly_rows::Meaning;
 use columns::Outcome;
 ghost use mathlib.Core.Path.{_≡_};
 ghost use Prim.Native.Nat.{_≤_};
@@ -119,7 +120,7 @@ fn assemble_by(
 {
     columns_each::quantize_column_f32(beats, quantised);
     if rise_apart(quantised, values) {
-        return assembly_rows::lay_each(quantised, values, false, out_beats, out_values);
+        return assembly_rows::lay_each(quantised, values, Meaning::Values, out_beats, out_values);
     }
     assemble_any(beats, values, out_beats, out_values)
 }

@@ -29,6 +29,7 @@ use Rattle.assembly_tempos.specs.AssembledTempos.{assembledTempos, assem
 use Rattle.assembly_tempos.specs.inside.ProcessedColumns.{Processed, listsOf}
 use Rattle.assembly_tempos.proofs.OnRows.{held-laid, on-row-held}
 use Rattle.assembly_tempos.proofs.RowsFit.{fit-number}
+use Rattle.assembly_rows.specs.declared.Meaning.the-variants.{Lengths, Values}
 
 -- a list that fits is no longer than its room
 fitting : (count room : ℕ) → roomNumber 0 count room ≡ 0 → count ≤ room
@@ -51,13 +52,13 @@ module _ (tempoBeats tempoValues stopBeats stopValues warpBeats warpLengths : Li
   tempos-count : length (assembledTempos (listsOf tempoBeats tempoValues stopBeats stopValues warpBeats warpLengths offset)) ≡ length tempoBeats
   tempos-count = length-map (entries tempoBeats tempoValues) narrowedEntry ∙ length-entries tempoBeats tempoValues (p .tempos)
 
-  stops-are : assembledStops (listsOf tempoBeats tempoValues stopBeats stopValues warpBeats warpLengths offset) ≡ assembledRows (changeBy false) stopBeats stopValues
+  stops-are : assembledStops (listsOf tempoBeats tempoValues stopBeats stopValues warpBeats warpLengths offset) ≡ assembledRows (changeBy Values) stopBeats stopValues
   unfolding assembledRows
   stops-are =
       let even = list-taken (p .stops) .even in
       rw (first-entries stopBeats stopValues even, second-entries stopBeats stopValues even, p .onRows, map-id stopValues)
 
-  warps-are : assembledWarps (listsOf tempoBeats tempoValues stopBeats stopValues warpBeats warpLengths offset) ≡ assembledRows (changeBy true) warpBeats warpLengths
+  warps-are : assembledWarps (listsOf tempoBeats tempoValues stopBeats stopValues warpBeats warpLengths offset) ≡ assembledRows (changeBy Lengths) warpBeats warpLengths
   warps-are = rw (first-entries warpBeats warpLengths (p .even), second-entries warpBeats warpLengths (p .even))
 
   pub warps-count : length (entries warpBeats warpLengths) ≡ length warpBeats
@@ -66,10 +67,10 @@ module _ (tempoBeats tempoValues stopBeats stopValues warpBeats warpLengths : Li
   module _ (few : length warpBeats ≤ 1024) where
     -- the numbers of the rooms, as they are asked
     pub rooms-are : (tempoRoom stopRoom warpRoom : ℕ)
-        → lower (lower (pick (leb (length tempoBeats) tempoRoom) 0 7) (pick (rowsFit false stopBeats stopValues stopRoom) 0 7)) (pick (rowsFit true warpBeats warpLengths warpRoom) 0 7)
+        → lower (lower (pick (leb (length tempoBeats) tempoRoom) 0 7) (pick (rowsFit Values stopBeats stopValues stopRoom) 0 7)) (pick (rowsFit Lengths warpBeats warpLengths warpRoom) 0 7)
         ≡ threeRooms (listsOf tempoBeats tempoValues stopBeats stopValues warpBeats warpLengths offset) tempoRoom stopRoom warpRoom
     rooms-are tempoRoom stopRoom warpRoom =
-        rw (fit-number false stopBeats stopValues stopRoom (p .stops), fit-number true warpBeats warpLengths warpRoom (p .warps few), stops-are, warps-are, tempos-count)
+        rw (fit-number Values stopBeats stopValues stopRoom (p .stops), fit-number Lengths warpBeats warpLengths warpRoom (p .warps few), stops-are, warps-are, tempos-count)
         (unfold roomNumber in refl)
 
   -- rooms that hold the three lists: each is laid
@@ -84,19 +85,19 @@ module _ (tempoBeats tempoValues stopBeats stopValues warpBeats warpLengths : Li
         (seconds ∙ each-over-front narrow tempoValues secondOld (omega (arith, fits, p .tempos)) ∙ ap (λ (l : List Float). laid l secondOld) (sym (narrowed-seconds tempoBeats tempoValues (p .tempos))))
 
     pub stops-laid : {outcome : Outcome} → fitNumber (assembledStops (listsOf tempoBeats tempoValues stopBeats stopValues warpBeats warpLengths offset)) (roomFor firstOld secondOld) ≡ 0
-        → RowsUntested false stopBeats stopValues outcome firstOld firstNew secondOld secondNew
+        → RowsUntested Values stopBeats stopValues outcome firstOld firstNew secondOld secondNew
         → LaidList 0 (assembledStops (listsOf tempoBeats tempoValues stopBeats stopValues warpBeats warpLengths offset)) (outcome .count) firstOld firstNew secondOld secondNew
     stops-laid {outcome} fit q =
         let q′ : LaidPair 0 (assembledStops (listsOf tempoBeats tempoValues stopBeats stopValues warpBeats warpLengths offset)) outcome firstOld firstNew secondOld secondNew =
-        rw stops-are (rw (quantized-taken stopBeats stopValues false (p .stops)) at (untested-taken stopBeats stopValues false (p .stops) q)) in
+        rw stops-are (rw (quantized-taken stopBeats stopValues Values (p .stops)) at (untested-taken stopBeats stopValues Values (p .stops) q)) in
         list-of-pair q′ (q′ .number ∙ fit)
 
     pub warps-laid : {outcome : Outcome} → length warpBeats ≤ 1024 → fitNumber (assembledWarps (listsOf tempoBeats tempoValues stopBeats stopValues warpBeats warpLengths offset)) (roomFor firstOld secondOld) ≡ 0
-        → RowsUntested true warpBeats warpLengths outcome firstOld firstNew secondOld secondNew
+        → RowsUntested Lengths warpBeats warpLengths outcome firstOld firstNew secondOld secondNew
         → LaidList 0 (assembledWarps (listsOf tempoBeats tempoValues stopBeats stopValues warpBeats warpLengths offset)) (outcome .count) firstOld firstNew secondOld secondNew
     warps-laid {outcome} few fit q =
         let q′ : LaidPair 0 (assembledWarps (listsOf tempoBeats tempoValues stopBeats stopValues warpBeats warpLengths offset)) outcome firstOld firstNew secondOld secondNew =
-        rw warps-are (rw (quantized-taken warpBeats warpLengths true (p .warps few)) at (untested-taken warpBeats warpLengths true (p .warps few) q)) in
+        rw warps-are (rw (quantized-taken warpBeats warpLengths Lengths (p .warps few)) at (untested-taken warpBeats warpLengths Lengths (p .warps few) q)) in
         list-of-pair q′ (q′ .number ∙ fit)
 
 pub record AllFit (later tempos stops warps : ℕ) : Type 0 where

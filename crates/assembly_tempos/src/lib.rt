@@ -1,4 +1,5 @@
 // Assembly of tempos, stops and warps: processed by format, the made warps behind the given ones, tidied, and written as f32.
+use assembly_rows::Meaning;
 use chart::TimingFormat;
 use columns::Outcome;
 ghost use mathlib.Core.Path.{_≡_};
@@ -58,8 +59,18 @@ fn rooms_number(
     ensures { λ r. ⌜ ((offset : Float) → r ≡ threeRooms (listsOf (now («tempo_beats» .entry)) (now («tempo_values» .entry)) (now («stop_beats» .entry)) (now («stop_values» .entry)) (now («warp_beats» .entry)) (now («warp_lengths» .entry)) offset) «tempo_room» «stop_room» «warp_room») ⌝ }
 {
     let tempos = limits::no_room(tempo_beats.len() <= tempo_room);
-    let stops = limits::no_room(assembly_rows::rows_fit(stop_beats, stop_values, false, stop_room));
-    let warps = limits::no_room(assembly_rows::rows_fit(warp_beats, warp_lengths, true, warp_room));
+    let stops = limits::no_room(assembly_rows::rows_fit(
+        stop_beats,
+        stop_values,
+        Meaning::Values,
+        stop_room,
+    ));
+    let warps = limits::no_room(assembly_rows::rows_fit(
+        warp_beats,
+        warp_lengths,
+        Meaning::Lengths,
+        warp_room,
+    ));
     limits::lower_of(limits::lower_of(tempos, stops), warps)
 }
 
@@ -98,10 +109,16 @@ fn assemble_stops(
     out_values: &mut [f32],
 ) -> Outcome
     requires { ⌜ (rowsNumber (now beats) (now values) ≡ 0) × (map quantized (now beats) ≡ now beats) × Held format (now values) ⌝ }
-    ensures { λ r. ⌜ RowsUntested false (now (beats .entry)) (now (values .entry)) r (now («out_beats» .entry)) (now («out_beats» .exit)) (now («out_values» .entry)) (now («out_values» .exit)) ⌝ }
+    ensures { λ r. ⌜ RowsUntested Meaning.Values (now (beats .entry)) (now (values .entry)) r (now («out_beats» .entry)) (now («out_beats» .exit)) (now («out_values» .entry)) (now («out_values» .exit)) ⌝ }
 {
     if beats.len() > columns::room_of(out_beats.len(), out_values.len()) {
-        return assembly_rows::assemble_untested(beats, values, false, out_beats, out_values);
+        return assembly_rows::assemble_untested(
+            beats,
+            values,
+            Meaning::Values,
+            out_beats,
+            out_values,
+        );
     }
     if columns_order::rise(beats) {
         cast_column(beats, out_beats);
@@ -111,7 +128,7 @@ fn assemble_stops(
             count: beats.len(),
         };
     }
-    assembly_rows::assemble_untested(beats, values, false, out_beats, out_values)
+    assembly_rows::assemble_untested(beats, values, Meaning::Values, out_beats, out_values)
 }
 
 // ---- the three lists
@@ -168,7 +185,7 @@ fn lay_lists(
     let warps = assembly_rows::assemble_untested(
         warp_beats,
         warp_lengths,
-        true,
+        Meaning::Lengths,
         out_warp_beats,
         out_warp_lengths,
     );

@@ -40,7 +40,7 @@ returns : tie.Need-returns
 returns c =
     let q = c .before .before .before .before .before .before .before .before .before .before .before .before .before in
     let s = start q in
-    rising (s .args .beats .now) (s .args .values .now) (s .args .whole) (sym (s .pre .0)) (s .pre .1) (beats-are q)
+    rising (s .args .beats .now) (s .args .values .now) (s .args .meaning) (sym (s .pre .0)) (s .pre .1) (beats-are q)
     (sym (c .before .before .before .before .before .before .before .before .before .rise-f32 .ensures) ∙ c .before .before .before .before .before .before .before .before .if1 .taken) (c .before .before .before .before .lay-each .ensures)
 
 falls-and-taken-requires : tie.Need-falls-and-taken-requires
@@ -66,7 +66,7 @@ returns-2 c =
     let falls = c .before .before .before .before .before .before .before .before in
     let q = falls .before .before .before .before .before .before .before .before in
     let s = start q in
-    fallen (s .args .beats .now) (s .args .values .now) (s .args .whole) (sym (s .pre .0)) (s .pre .1) (beats-are q)
+    fallen (s .args .beats .now) (s .args .values .now) (s .args .meaning) (sym (s .pre .0)) (s .pre .1) (beats-are q)
     (sym (falls .before .before .before .before .rise-f32 .ensures) ∙ falls .before .before .before .if1 .left)
     (sym (falls .before .falls-and-taken .ensures) ∙ falls .if2 .taken) (c .before .before .before .before .lay-turned .ensures)
 
@@ -87,7 +87,7 @@ returns-3 c =
     let neither = c .before .before .before .before .before .before .before in
     let q = neither .before .before .before .before .before .before .before .before in
     let s = start q in
-    not-rising (s .args .beats .now) (s .args .values .now) (s .args .whole) (sym (s .pre .0)) (s .pre .1)
+    not-rising (s .args .beats .now) (s .args .values .now) (s .args .meaning) (sym (s .pre .0)) (s .pre .1)
     (ap (everyTwo lt) (sym (beats-are q)) ∙ sym (neither .before .before .before .before .rise-f32 .ensures) ∙ neither .before .before .before .if1 .left) (c .before .before .before .before .assemble-any .ensures)
 
 pub assemble-even-spec : {M : Type 1} → statement M
