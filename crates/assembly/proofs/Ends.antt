@@ -35,6 +35,8 @@ use Rattle.chart.specs.ChartColumns.{ListColumns, SpeedColumns, ChartColumns}
 use Rattle.assembly.specs.declared.Assembled.{Assembled}
 use Rattle.assembly.specs.inside.ProcessedPart.{processedPart}
 use Rattle.assembly.specs.Assembly.{listTests, assembledDelays, assembledFakes, othersNumber, othersLater, sevenNumber, processedTogether, processedChart, roomOf, SpeedsWritten, Assembles}
+use Rattle.assembly_rows.specs.declared.Meaning.{Meaning}
+use Rattle.assembly_rows.specs.declared.Meaning.the-variants.{Lengths, Values}
 
 -- ---- four columns under one number
 
@@ -98,13 +100,13 @@ module _ (delay : ListColumns) (speed : SpeedColumns) (scroll fake : ListColumns
 
   module _ (delayRoom speedRoom scrollRoom fakeRoom : ℕ) where
     pub later-is : othersNumber delay speed scroll fake ≡ 0
-        → lower (lower (lower (pick (rowsFit false (delay .beats) (delay .values) delayRoom) 0 7) (speedsLater speed speedRoom)) (scrollsLater (scroll .beats) (scroll .values) scrollRoom)) (pick (rowsFit true (fake .beats) (fake .values) fakeRoom) 0 7)
+        → lower (lower (lower (pick (rowsFit Values (delay .beats) (delay .values) delayRoom) 0 7) (speedsLater speed speedRoom)) (scrollsLater (scroll .beats) (scroll .values) scrollRoom)) (pick (rowsFit Lengths (fake .beats) (fake .values) fakeRoom) 0 7)
         ≡ othersLater delay speed scroll fake delayRoom speedRoom scrollRoom fakeRoom
     later-is h =
         let taken = others-taken h in
         rw (
-          fit-number false (delay .beats) (delay .values) delayRoom (taken .delays),
-          fit-number true (fake .beats) (fake .values) fakeRoom (taken .fakes),
+          fit-number Values (delay .beats) (delay .values) delayRoom (taken .delays),
+          fit-number Lengths (fake .beats) (fake .values) fakeRoom (taken .fakes),
           speeds.later-taken speed (taken .speeds) speedRoom,
           scrolls.later-taken (scroll .beats) (scroll .values) (taken .scrolls) scrollRoom,
         )
@@ -127,11 +129,11 @@ module _ (delay : ListColumns) (speed : SpeedColumns) (scroll fake : ListColumns
         record { delaysFit = three .0; speedsFit = three .1; scrollsFit = two .1; fakesFit = one .1 }
 
 -- a row list that is taken and fits
-pub rows-laid : (whole : Bool) (beats values : List Float) {outcome : Outcome} {beatsOld beatsNew valuesOld valuesNew : List Float} → listTests beats values ≡ 0 → fitNumber (assembledRows (changeBy whole) beats values) (roomFor beatsOld valuesOld) ≡ 0
-    → RowsUntested whole beats values outcome beatsOld beatsNew valuesOld valuesNew
-    → LaidList 0 (assembledRows (changeBy whole) beats values) (outcome .count) beatsOld beatsNew valuesOld valuesNew
-rows-laid whole beats values {outcome} {beatsOld} {beatsNew} {valuesOld} {valuesNew} taken fit q =
-    let q′ : LaidPair 0 (assembledRows (changeBy whole) beats values) outcome beatsOld beatsNew valuesOld valuesNew = rw (quantized-taken beats values whole taken) at (untested-taken beats values whole taken q) in
+pub rows-laid : (meaning : Meaning) (beats values : List Float) {outcome : Outcome} {beatsOld beatsNew valuesOld valuesNew : List Float} → listTests beats values ≡ 0 → fitNumber (assembledRows (changeBy meaning) beats values) (roomFor beatsOld valuesOld) ≡ 0
+    → RowsUntested meaning beats values outcome beatsOld beatsNew valuesOld valuesNew
+    → LaidList 0 (assembledRows (changeBy meaning) beats values) (outcome .count) beatsOld beatsNew valuesOld valuesNew
+rows-laid meaning beats values {outcome} {beatsOld} {beatsNew} {valuesOld} {valuesNew} taken fit q =
+    let q′ : LaidPair 0 (assembledRows (changeBy meaning) beats values) outcome beatsOld beatsNew valuesOld valuesNew = rw (quantized-taken beats values meaning taken) at (untested-taken beats values meaning taken q) in
     list-of-pair q′ (q′ .number ∙ fit)
 
 -- ---- what tempos, stops and warps answer is the number of all

@@ -27,15 +27,16 @@ use Rattle.assembly_warps.specs.LentLists.{ThreeColumns}
 use Rattle.assembly_warps.specs.MergedWarps.{threeNumber, mergedLists}
 use Rattle.assembly_tempos.specs.AssembledTempos.{assembledTempos, assembledStops, assembledWarps, fitNumber, verdict, threeRooms, listRoom, ListWritten}
 use Rattle.assembly.specs.declared.Assembled.{Assembled}
+use Rattle.assembly_rows.specs.declared.Meaning.the-variants.{Lengths, Values}
 
 -- ---- the lists
 
 -- delays keep their values; the lengths of fakes are quantised
 abbrev pub assembledDelays : List Float → List Float → List (Float × Float)
-assembledDelays beats values = assembledRows (changeBy false) beats values
+assembledDelays beats values = assembledRows (changeBy Values) beats values
 
 abbrev pub assembledFakes : List Float → List Float → List (Float × Float)
-assembledFakes beats lengths = assembledRows (changeBy true) beats lengths
+assembledFakes beats lengths = assembledRows (changeBy Lengths) beats lengths
 
 -- the lists that are processed together
 abbrev pub processedTogether : ChartColumns → ThreeColumns

@@ -1,4 +1,5 @@
 // Assembly: the seven raw lists of a chart as the f32 columns of a timing.
+use assembly_rows::Meaning;
 use chart::TimingFormat;
 use limits::Kind;
 ghost use mathlib.Core.Path.{_≡_};
@@ -84,7 +85,7 @@ fn others_later(
     let delays = limits::no_room(assembly_rows::rows_fit(
         delay_beats,
         delay_values,
-        false,
+        Meaning::Values,
         delay_room,
     ));
     let speeds = assembly_speeds::speeds_number(
@@ -95,7 +96,12 @@ fn others_later(
         speed_room,
     );
     let scrolls = assembly_scrolls::scrolls_number(scroll_beats, scroll_values, scroll_room);
-    let fakes = limits::no_room(assembly_rows::rows_fit(fake_beats, fake_lengths, true, fake_room));
+    let fakes = limits::no_room(assembly_rows::rows_fit(
+        fake_beats,
+        fake_lengths,
+        Meaning::Lengths,
+        fake_room,
+    ));
     limits::lower_of(
         limits::lower_of(limits::lower_of(delays, speeds), scrolls),
         fakes,
@@ -231,7 +237,7 @@ pub fn compute_timing_segments(
     let delays = assembly_rows::assemble_untested(
         delay_beats,
         delay_values,
-        false,
+        Meaning::Values,
         out_delay_beats,
         out_delay_values,
     );
@@ -254,7 +260,7 @@ pub fn compute_timing_segments(
     let fakes = assembly_rows::assemble_untested(
         fake_beats,
         fake_lengths,
-        true,
+        Meaning::Lengths,
         out_fake_beats,
         out_fake_lengths,
     );

@@ -35,14 +35,15 @@ use Rattle.assembly_laws.proofs.RowLists.{TidyRows, lengths-tidy, pause
 use Rattle.assembly_laws.proofs.TidiedTempos.{TidyTempos}
 use Rattle.assembly_laws.proofs.FlatStops.{flat-taken}
 use Rattle.assembly_laws.proofs.ProcessedTempos as processed
+use Rattle.assembly_rows.specs.declared.Meaning.the-variants.{Lengths, Values}
 
 -- ---- lists that are assembled as they are given
 
 pub delays-tidy : (beats values : List Float) → listTests beats values ≡ 0 → TidyRows (rangeOf Pause) (assembledDelays beats values)
-delays-tidy beats values h = pauses-tidy (changeBy false) beats values (quantized-taken beats values false h)
+delays-tidy beats values h = pauses-tidy (changeBy Values) beats values (quantized-taken beats values Values h)
 
 pub fakes-tidy : (beats lengths : List Float) → listTests beats lengths ≡ 0 → TidyRows (rangeOf Value) (assembledFakes beats lengths)
-fakes-tidy beats lengths h = lengths-tidy (changeBy true) beats lengths (quantized-taken beats lengths true h)
+fakes-tidy beats lengths h = lengths-tidy (changeBy Lengths) beats lengths (quantized-taken beats lengths Lengths h)
 
 -- ---- lists that are processed first: raw lists that are taken, and no more warps than a list may have
 module _ (format : TimingFormat) (tempoBeats tempoValues stopBeats stopValues warpBeats warpLengths : List Float) (taken : threeNumber (threeColumns tempoBeats tempoValues stopBeats stopValues warpBeats warpLengths) ≡ 0) where
@@ -50,20 +51,20 @@ module _ (format : TimingFormat) (tempoBeats tempoValues stopBeats stopValues wa
   lists = mergedLists format (threeColumns tempoBeats tempoValues stopBeats stopValues warpBeats warpLengths)
 
   -- stops are on rows, so that quantising them again changes nothing
-  stops-are : assembledStops lists ≡ assembledRows (changeBy false) (map first (lists .stops)) (map second (lists .stops))
+  stops-are : assembledStops lists ≡ assembledRows (changeBy Values) (map first (lists .stops)) (map second (lists .stops))
   unfolding assembledRows
   stops-are = rw (stops-on-rows format (threeColumns tempoBeats tempoValues stopBeats stopValues warpBeats warpLengths) taken, map-id (map second (lists .stops)))
 
   pub stops-tidy : TidyRows (rangeOf Pause) (assembledStops lists)
   stops-tidy =
       rw stops-are
-      (pauses-tidy (changeBy false) (map first (lists .stops)) (map second (lists .stops))
-      (quantized-taken (map first (lists .stops)) (map second (lists .stops)) false (merged-stops format (threeColumns tempoBeats tempoValues stopBeats stopValues warpBeats warpLengths) taken)))
+      (pauses-tidy (changeBy Values) (map first (lists .stops)) (map second (lists .stops))
+      (quantized-taken (map first (lists .stops)) (map second (lists .stops)) Values (merged-stops format (threeColumns tempoBeats tempoValues stopBeats stopValues warpBeats warpLengths) taken)))
 
   pub warps-tidy : length (lists .warps) ≤ 1024 → TidyRows (rangeOf Value) (assembledWarps lists)
   warps-tidy few =
-      lengths-tidy (changeBy true) (map first (lists .warps)) (map second (lists .warps))
-      (quantized-taken (map first (lists .warps)) (map second (lists .warps)) true (merged-warps format (threeColumns tempoBeats tempoValues stopBeats stopValues warpBeats warpLengths) taken (rw (length-map (lists .warps) first) few)))
+      lengths-tidy (changeBy Lengths) (map first (lists .warps)) (map second (lists .warps))
+      (quantized-taken (map first (lists .warps)) (map second (lists .warps)) Lengths (merged-warps format (threeColumns tempoBeats tempoValues stopBeats stopValues warpBeats warpLengths) taken (rw (length-map (lists .warps) first) few)))
 
   -- tempos start at beat 0, rise strictly by row, and none is 0
   pub tempos-tidy : TidyTempos (assembledTempos lists)

@@ -14,16 +14,17 @@ use Rattle.order.proofs.Compare.{below?}
 use Rattle.columns.specs.Laying.{roomNumber}
 use Rattle.assembly_rows.specs.AssembledRows.{changeBy, assembledRows, assembledNumber, rowsFit}
 use Rattle.assembly_rows.proofs.Outcomes.{no-longer}
+use Rattle.assembly_rows.specs.declared.Meaning.{Meaning}
 
 flag : (t : Bool) → eqb (pick t 0 7) 0 ≡ t
 flag true = refl
 flag false = refl
 
-pub fits-when-taken : (whole : Bool) (beats values : List Float) (room : ℕ) → assembledNumber (changeBy whole) beats values ≡ 0
-    → rowsFit whole beats values room ≡ leb (length (assembledRows (changeBy whole) beats values)) room
+pub fits-when-taken : (meaning : Meaning) (beats values : List Float) (room : ℕ) → assembledNumber (changeBy meaning) beats values ≡ 0
+    → rowsFit meaning beats values room ≡ leb (length (assembledRows (changeBy meaning) beats values)) room
 unfolding rowsFit roomNumber
-fits-when-taken whole beats values room h =
+fits-when-taken meaning beats values room h =
     ⊎-elim
-    (λ l. rw (lt-leb (length beats) room l, eq-eqb (assembledNumber (changeBy whole) beats values) 0 h) (flag (leb (length (assembledRows (changeBy whole) beats values)) room)))
-    (λ l. rw (le-leb (length beats) room l, le-leb (length (assembledRows (changeBy whole) beats values)) room (omega (arith, no-longer whole beats values))))
+    (λ l. rw (lt-leb (length beats) room l, eq-eqb (assembledNumber (changeBy meaning) beats values) 0 h) (flag (leb (length (assembledRows (changeBy meaning) beats values)) room)))
+    (λ l. rw (le-leb (length beats) room l, le-leb (length (assembledRows (changeBy meaning) beats values)) room (omega (arith, no-longer meaning beats values))))
     (below? room (length beats))

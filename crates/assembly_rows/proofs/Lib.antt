@@ -8,4 +8,3 @@ pub mod WrittenRises
 pub mod WrittenTaken
 pub mod FitsWhenTaken
 pub mod Untested
-pub mod InTwoLoops

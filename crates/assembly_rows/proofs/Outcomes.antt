@@ -24,6 +24,7 @@ use Rattle.tidy_rows.specs.RowTidying.{tidyRows, RowsTidied}
 use Rattle.tidy_rows.proofs.NoLonger.{tidy-no-longer}
 use Rattle.assembly_rows.specs.AssembledRows.{narrowedEntry, narrowedFront, changeBy, assembledRows, assembledNumber, RowsAssembled, rowsFit}
 use Rattle.assembly_rows.proofs.NarrowedFront.{front-of-result}
+use Rattle.assembly_rows.specs.declared.Meaning.{Meaning}
 
 -- ---- the number
 pub number-as-tests : (tests count room : ℕ) → (tests ≡ 0 → ⊥) → roomNumber tests count room ≡ tests
@@ -98,44 +99,44 @@ pub long-number : (change : Float → Float) (beats values : List Float) → 102
 unfolding listNumber
 long-number change beats values h = rw (length-map beats quantized, lt-ltb 1024 (length beats) h)
 
-module _ (whole : Bool) (beats values : List Float) where
-  pub no-longer : length (assembledRows (changeBy whole) beats values) ≤ length beats
+module _ (meaning : Meaning) (beats values : List Float) where
+  pub no-longer : length (assembledRows (changeBy meaning) beats values) ≤ length beats
   unfolding assembledRows
   no-longer =
-      omega (arith, length-map (tidyRows (map quantized beats) (map (changeBy whole) values)) narrowedEntry, tidy-no-longer (map quantized beats) (map (changeBy whole) values), length-map beats quantized)
+      omega (arith, length-map (tidyRows (map quantized beats) (map (changeBy meaning) values)) narrowedEntry, tidy-no-longer (map quantized beats) (map (changeBy meaning) values), length-map beats quantized)
 
   -- by way of columns as long as the list
   pub by-columns : {beatsOld beatsNew valuesOld valuesNew outBeatsOld outBeatsNew outValuesOld outValuesNew : List Float} {tidied outcome : Outcome}
       → length beatsOld ≡ length beats → length valuesOld ≡ length beats → length values ≡ length beats
-      → RowsTidied (map quantized beats) (map (changeBy whole) values) tidied beatsOld beatsNew valuesOld valuesNew
+      → RowsTidied (map quantized beats) (map (changeBy meaning) values) tidied beatsOld beatsNew valuesOld valuesNew
       → LaidPair (tidied .number) (narrowedFront (tidied .count) beatsNew valuesNew) outcome outBeatsOld outBeatsNew outValuesOld outValuesNew
-      → RowsAssembled whole beats values outcome outBeatsOld outBeatsNew outValuesOld outValuesNew
+      → RowsAssembled meaning beats values outcome outBeatsOld outBeatsNew outValuesOld outValuesNew
   unfolding assembledRows
   by-columns b v even p q =
-      narrowed-result p (λ e. omega (arith, b, v, even, tidy-no-longer (map quantized beats) (map (changeBy whole) values), length-map beats quantized, length-map values (changeBy whole))) q
+      narrowed-result p (λ e. omega (arith, b, v, even, tidy-no-longer (map quantized beats) (map (changeBy meaning) values), length-map beats quantized, length-map values (changeBy meaning))) q
 
   -- where the room holds all that is given
-  pub fits-at-once : (room : ℕ) → length beats ≤ room → true ≡ rowsFit whole beats values room
+  pub fits-at-once : (room : ℕ) → length beats ≤ room → true ≡ rowsFit meaning beats values room
   unfolding rowsFit
   fits-at-once room h = rw (le-leb (length beats) room h)
 
 -- ---- whether a list fits a room that is shorter than it
-module _ (whole : Bool) (beats values : List Float) (room : ℕ) (short : room < length beats) where
-  by-number : rowsFit whole beats values room ≡ eqb (roomNumber (assembledNumber (changeBy whole) beats values) (length (assembledRows (changeBy whole) beats values)) room) 0
+module _ (meaning : Meaning) (beats values : List Float) (room : ℕ) (short : room < length beats) where
+  by-number : rowsFit meaning beats values room ≡ eqb (roomNumber (assembledNumber (changeBy meaning) beats values) (length (assembledRows (changeBy meaning) beats values)) room) 0
   unfolding rowsFit
   by-number = rw (lt-leb (length beats) room short)
 
   pub fits-by-call : {beatsOld beatsNew valuesOld valuesNew : List Float} {outcome : Outcome} → length beatsOld ≡ room → length valuesOld ≡ room
-      → RowsAssembled whole beats values outcome beatsOld beatsNew valuesOld valuesNew → eqb (outcome .number) 0 ≡ rowsFit whole beats values room
+      → RowsAssembled meaning beats values outcome beatsOld beatsNew valuesOld valuesNew → eqb (outcome .number) 0 ≡ rowsFit meaning beats values room
   fits-by-call {beatsOld} {beatsNew} {valuesOld} b v p =
       let same : min (length beatsOld) (length valuesOld) ≡ room = omega (arith, b, v) in
-      ap (λ (n : ℕ). eqb n 0) (p .number ∙ ap (roomNumber (assembledNumber (changeBy whole) beats values) (length (assembledRows (changeBy whole) beats values))) same) ∙ sym by-number
+      ap (λ (n : ℕ). eqb n 0) (p .number ∙ ap (roomNumber (assembledNumber (changeBy meaning) beats values) (length (assembledRows (changeBy meaning) beats values))) same) ∙ sym by-number
 
-  pub long-unfit : 1024 < length beats → false ≡ rowsFit whole beats values room
+  pub long-unfit : 1024 < length beats → false ≡ rowsFit meaning beats values room
   long-unfit h =
-      let one = long-number (changeBy whole) beats values h in
-      let not-taken : assembledNumber (changeBy whole) beats values ≡ 0 → ⊥ = λ e. omega (arith, one, e) in
-      sym (by-number ∙ ap (λ (n : ℕ). eqb n 0) (number-as-tests (assembledNumber (changeBy whole) beats values) (length (assembledRows (changeBy whole) beats values)) room not-taken ∙ one))
+      let one = long-number (changeBy meaning) beats values h in
+      let not-taken : assembledNumber (changeBy meaning) beats values ≡ 0 → ⊥ = λ e. omega (arith, one, e) in
+      sym (by-number ∙ ap (λ (n : ℕ). eqb n 0) (number-as-tests (assembledNumber (changeBy meaning) beats values) (length (assembledRows (changeBy meaning) beats values)) room not-taken ∙ one))
 
 -- ---- a list that is refused for its lengths
 module _ (beat value : Range) (f g : Float → Float) (beats values : List Float) where

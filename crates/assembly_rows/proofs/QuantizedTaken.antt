@@ -1,104 +1,21 @@
 -- What is quantised is taken: a taken beat, and any value at all, since a row is held at the ends of an i32. So a taken list passes the tests of what tidying is given.
 -- Assumes nothing.
-use Prim.Native.Nat.{ℕ, _+_, _*_, _^_, _≤_, _<_}
-use mathlib.Core.Path.{_≡_, refl, sym, ap, _∙_, subst}
-use mathlib.Core.Bool.{Bool, true, false, not}
+use Prim.Native.Nat.{_≤_}
+use mathlib.Core.Path.{_≡_, refl}
+use mathlib.Core.Bool.{Bool, true}
 use mathlib.Core.List.{List, [], _∷_, map}
-use native.Mathlib.Nat.{le-trans, le-of-eq, mul-one, zero-lt-suc}
-use native.Mathlib.Omega.{arith}
-use lib.Dec.{T, lit<, lit≤}
-use lib.IntN.{ℤ, pos, negsuc, natAbs}
 use lib.ListN.{length, length-map}
-use lib.Pow.{pow-pos}
-use lib.Ieee.{Float, nan, inf, fin, binary32, low, fits, isNan, round, ofInt, unlike}
-use lib.Ieee.Exact.{HasValue}
-use lib.Ieee.Fits.{div-fits}
-use lib.Ieee.Scale.{finite, grid}
-use Rattle.ieee.specs.Narrowing.{narrow}
-use Rattle.ieee.specs.Rounding.{hold}
-use Rattle.ieee.proofs.ByValue.{div-value}
-use Rattle.ieee.proofs.Magnitude.{Sized, sized-within, within-finite}
-use Rattle.ieee.proofs.RoundedSize.{grid-up-to, grid-under}
-use Rattle.ieee.proofs.SignedSizes.{negative}
-use Rattle.ieee.proofs.Units.{round-units}
-use Rattle.rows.specs.Rows.{row, beatOf, quantized}
-use Rattle.rows.proofs.Quantizing.{quantized-allowed}
-use Rattle.rows.proofs.RowValue.{like-48}
+use lib.Ieee.{Float}
+use Rattle.rows.specs.Rows.{quantized}
 use Rattle.limits.specs.declared.Kind.the-variants.{Beat, Value}
 use Rattle.limits.specs.Numbers.{inRange, rangeOf, every, allIn}
 use Rattle.limits.proofs.Every.{every-rest}
 use Rattle.limits.proofs.ListTaken.{list-taken, list-passes}
-use Rattle.limits.proofs.TakenWithin.{within-taken}
 use Rattle.tidy_rows.specs.RowTidying.{rowsNumber}
-use Rattle.rows.proofs.Allowed.{taken-allowed, allowed-taken}
+use Rattle.columns_each.proofs.QuantizedNumbers.{quantized-value-taken, quantized-beat-taken}
 use Rattle.assembly_rows.specs.AssembledRows.{changeBy, assembledNumber}
-
--- ---- the beat of any row of an i32 is below 2 ^ 30
-held-small : (z : ℤ) → natAbs (hold z) ≤ 2 ^ 31
-unfolding hold
-held-small (pos n) = omega arith
-held-small (negsuc n) = omega arith
-
-whole-rounded : (r : ℤ) → ofInt binary32 r ≡ round binary32 (negative r) (natAbs r) 1
-unfolding ofInt
-whole-rounded (pos n) = refl
-whole-rounded (negsuc n) = refl
-
-module _ (r : ℤ) (h : natAbs r ≤ 2 ^ 31) where
-  abbrev size : ℕ
-  size = grid binary32 (natAbs r) 1
-
-  few : natAbs r ≤ 1 * 2 ^ 31 * 1
-  few = omega arith
-
-  size-small : size ≤ 1 * 2 ^ (31 + low binary32)
-  size-small = grid-up-to binary32 (natAbs r) 1 1 31 (zero-lt-suc 0) (lit< tt) few
-
-  whole-value : HasValue (ofInt binary32 r) (negative r) size (2 ^ low binary32)
-  whole-value =
-      subst (λ (x : Float). HasValue x (negative r) size (2 ^ low binary32)) (sym (whole-rounded r))
-      (round-units binary32 (negative r) (natAbs r) 1 (grid-under binary32 (natAbs r) 1 1 31 (zero-lt-suc 0) (lit< tt) few (lit< tt)))
-
-  den : 0 < 48 * 2 ^ low binary32
-  den = lit< tt
-
-  part : size * 1 ≤ 1 * 2 ^ 30 * (48 * 2 ^ low binary32)
-  part = le-trans (le-of-eq (mul-one size)) (le-trans size-small (lit≤ tt))
-
-  beat-below : Sized 30 (beatOf binary32 r)
-  beat-below =
-      let s = unlike (negative r) false in
-      record {
-        negative = s;
-        num = grid binary32 (size * 1) (48 * 2 ^ low binary32);
-        den = 2 ^ low binary32;
-        den-pos = pow-pos (low binary32);
-        value =
-            subst (λ (x : Float). HasValue x s (grid binary32 (size * 1) (48 * 2 ^ low binary32)) (2 ^ low binary32))
-            (sym (div-value binary32 (ofInt binary32 r) (ofInt binary32 (pos 48)) (negative r) false size (2 ^ low binary32) 48 1 (pow-pos (low binary32)) (zero-lt-suc 0) (zero-lt-suc 47) whole-value (like-48 binary32)))
-            (round-units binary32 s (size * 1) (48 * 2 ^ low binary32) (grid-under binary32 (size * 1) (48 * 2 ^ low binary32) 1 30 den (lit< tt) part (lit< tt)));
-        small = le-trans (grid-up-to binary32 (size * 1) (48 * 2 ^ low binary32) 1 30 den (lit< tt) part) (lit≤ tt);
-      }
-
--- ---- numbers
-number : (x : Float) → T (finite x) → T (not (isNan x))
-unfolding isNan
-number nan h = absurd h
-number (inf s) h = absurd h
-number (fin s m e) h = tt
-
--- a quantised number is an f32, and no NaN
-pub quantized-fits : (x : Float) → T (fits binary32 (quantized x))
-quantized-fits x = div-fits binary32 (ofInt binary32 (row binary32 (narrow x))) (ofInt binary32 (pos 48))
-
-pub quantized-number : (x : Float) → T (not (isNan (quantized x)))
-quantized-number x = number (quantized x) (within-finite 30 (quantized x) (sized-within 30 (quantized x) (beat-below (row binary32 (narrow x)) (held-small _))))
-
-pub quantized-value-taken : (value : Float) → inRange (rangeOf Value) (quantized value) ≡ true
-quantized-value-taken value = within-taken 30 (quantized value) (sized-within 30 (quantized value) (beat-below (row binary32 (narrow value)) (held-small _)))
-
-pub quantized-beat-taken : (beat : Float) → inRange (rangeOf Beat) beat ≡ true → inRange (rangeOf Beat) (quantized beat) ≡ true
-quantized-beat-taken beat h = allowed-taken (quantized beat) (quantized-allowed beat (taken-allowed beat h))
+use Rattle.assembly_rows.specs.declared.Meaning.{Meaning}
+use Rattle.assembly_rows.specs.declared.Meaning.the-variants.{Lengths, Values}
 
 -- ---- columns
 every-map : {A B : Type 0} (test : A → Bool) (other : B → Bool) (f : A → B) → ((x : A) → test x ≡ true → other (f x) ≡ true) → (l : List A) → every test l ≡ true → every other (map f l) ≡ true
@@ -114,9 +31,9 @@ every-changed other f so (x ∷ l) = rw (so x) (every-changed other f so l)
 pub quantized-beats-taken : (beats : List Float) → allIn (rangeOf Beat) beats ≡ true → allIn (rangeOf Beat) (map quantized beats) ≡ true
 quantized-beats-taken = every-map (inRange (rangeOf Beat)) (inRange (rangeOf Beat)) quantized quantized-beat-taken
 
-pub changed-values-taken : (whole : Bool) (values : List Float) → allIn (rangeOf Value) values ≡ true → allIn (rangeOf Value) (map (changeBy whole) values) ≡ true
-changed-values-taken true values h = every-changed (inRange (rangeOf Value)) (changeBy true) quantized-value-taken values
-changed-values-taken false values h = every-map (inRange (rangeOf Value)) (inRange (rangeOf Value)) (changeBy false) (λ x k. k) values h
+pub changed-values-taken : (meaning : Meaning) (values : List Float) → allIn (rangeOf Value) values ≡ true → allIn (rangeOf Value) (map (changeBy meaning) values) ≡ true
+changed-values-taken Lengths values h = every-changed (inRange (rangeOf Value)) (changeBy Lengths) quantized-value-taken values
+changed-values-taken Values values h = every-map (inRange (rangeOf Value)) (inRange (rangeOf Value)) (changeBy Values) (λ x k. k) values h
 
 -- ---- lists
 module _ (beats values : List Float) where
@@ -125,5 +42,5 @@ module _ (beats values : List Float) where
       list-passes (rangeOf Beat) (rangeOf Value) (map quantized beats) (map change values) (simp length-map few) (simp length-map even) (quantized-beats-taken beats b) v
 
   -- a taken list
-  pub quantized-taken : (whole : Bool) → rowsNumber beats values ≡ 0 → assembledNumber (changeBy whole) beats values ≡ 0
-  quantized-taken whole h = let is = list-taken h in both-passes (changeBy whole) (is .few) (is .even) (is .beatsIn) (changed-values-taken whole values (is .valuesIn))
+  pub quantized-taken : (meaning : Meaning) → rowsNumber beats values ≡ 0 → assembledNumber (changeBy meaning) beats values ≡ 0
+  quantized-taken meaning h = let is = list-taken h in both-passes (changeBy meaning) (is .few) (is .even) (is .beatsIn) (changed-values-taken meaning values (is .valuesIn))

@@ -1,7 +1,7 @@
 -- Where quantised beats rise, the assembled list is what is given, each number by itself: the f32 beat of each row, and each value narrowed. Assumes nothing.
 use Prim.Native.Nat.{ℕ}
 use mathlib.Core.Path.{_≡_, refl, sym, ap, ap₂, _∙_}
-use mathlib.Core.Bool.{Bool, true}
+use mathlib.Core.Bool.{true}
 use mathlib.Core.List.{List, [], _∷_, map, map-map}
 use lib.Dec.{T}
 use lib.IntN.{ℤ}
@@ -27,7 +27,8 @@ use Rattle.assembly_rows.specs.AssembledRows.{narrowedEntry, changeBy, a
 use Rattle.limits.specs.Neighbours.{everyTwo}
 use Rattle.rows.proofs.Allowed.{taken-allowed}
 use Rattle.assembly_rows.proofs.InRowOrder.{narrowRow, narrow-row-within, rising-rows}
-use Rattle.assembly_rows.proofs.QuantizedTaken.{quantized-fits}
+use Rattle.columns_each.proofs.QuantizedNumbers.{quantized-fits}
+use Rattle.assembly_rows.specs.declared.Meaning.{Meaning}
 
 -- a quantised number is an f32
 pub quantized-own : (x : Float) → narrow (quantized x) ≡ quantized x
@@ -60,19 +61,19 @@ rises-entries : (l : List (Float × Float)) → Rises rowKeyAt (map first l) →
 rises-entries [] r = tt
 rises-entries (e ∷ l) r = (above-entries (rowKeyOf e) l (r .0), rises-entries l (r .1))
 
-module _ (whole : Bool) (beats values : List Float) (h : rowsNumber beats values ≡ 0) (rising : everyTwo lt (map quantized beats) ≡ true) where
+module _ (meaning : Meaning) (beats values : List Float) (h : rowsNumber beats values ≡ 0) (rising : everyTwo lt (map quantized beats) ≡ true) where
   abbrev list : List (Float × Float)
-  list = entries (map quantized beats) (map (changeBy whole) values)
+  list = entries (map quantized beats) (map (changeBy meaning) values)
 
-  even : length (map quantized beats) ≡ length (map (changeBy whole) values)
-  even = length-map beats quantized ∙ list-taken h .even ∙ sym (length-map values (changeBy whole))
+  even : length (map quantized beats) ≡ length (map (changeBy meaning) values)
+  even = length-map beats quantized ∙ list-taken h .even ∙ sym (length-map values (changeBy meaning))
 
   rises : Rises rowKeyOf list
-  rises = rises-entries list (rw (first-entries (map quantized beats) (map (changeBy whole) values) even) (rising-rows beats (list-taken h .beatsIn) rising))
+  rises = rises-entries list (rw (first-entries (map quantized beats) (map (changeBy meaning) values) even) (rising-rows beats (list-taken h .beatsIn) rising))
 
-  same : assembledRows (changeBy whole) beats values ≡ map narrowedEntry (map onItsRow list)
+  same : assembledRows (changeBy meaning) beats values ≡ map narrowedEntry (map onItsRow list)
   unfolding assembledRows tidyRows
   same = ap (λ (l : List (Float × Float)). map narrowedEntry (map onItsRow l)) (tidied-still rowKeyOf list rises)
 
-  pub rising-list : assembledRows (changeBy whole) beats values ≡ eachByItself whole (map quantized beats) values
-  rising-list = same ∙ each-on-its-row beats (map (changeBy whole) values) (list-taken h .beatsIn) ∙ ap (entries (map quantized beats)) (map-map narrow (changeBy whole) values)
+  pub rising-list : assembledRows (changeBy meaning) beats values ≡ eachByItself meaning (map quantized beats) values
+  rising-list = same ∙ each-on-its-row beats (map (changeBy meaning) values) (list-taken h .beatsIn) ∙ ap (entries (map quantized beats)) (map-map narrow (changeBy meaning) values)

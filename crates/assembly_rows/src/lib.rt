@@ -6,168 +6,41 @@ ghost use mathlib.Core.Bool.{false};
 ghost use mathlib.Core.List.{reverse};
 ghost use Prim.Native.Nat.{_≤_, _<_};
 ghost use lib.Dec.{eqb};
-ghost use lib.ListN.{length, take};
-ghost use lib.Ieee.{Float, lt};
+ghost use lib.ListN.{length};
+ghost use lib.Ieee.{Float};
 ghost use Rattle.ieee.specs.Narrowing.{narrow};
 ghost use Rattle.picks.specs.Pick.{pick};
-ghost use Rattle.rows.specs.Rows.{quantized, quantized32};
-ghost use Rattle.limits.specs.Numbers.{miss};
 ghost use Rattle.columns.specs.Each.{laidEach};
 ghost use Rattle.columns.specs.Laying.{LaidPair};
 ghost use Rattle.tidy_rows.specs.RowTidying.{rowsNumber};
-ghost use Rattle.tidy_tempos.specs.inside.Keeping.{fallsTo};
+ghost use Rattle.columns_order.specs.Falling.{falling};
 ghost use Rattle.assembly_rows.specs.AssembledRows.{changeBy, narrowedFront, eachByItself, EachLaid, RowsAssembled, RowsUntested, rowsFit};
-ghost use Rattle.limits.specs.Neighbours.{everyTwo, notFalling};
+ghost use Rattle.limits.specs.Neighbours.{everyTwo};
 
-// ---- numbers
-
-// A beat moved to its row, as an f32, in which it loses nothing.
-fn quantized_f32(beat: f64) -> f32
-    ensures { λ r. ⌜ r ≡ quantized beat ⌝ }
-{
-    rows::quantize_beat_f32(ieee::narrow_f64(beat))
+// What the values of a list are: lengths, which are moved to whole rows as beats are, or values that stay as they are.
+pub enum Meaning {
+    Lengths,
+    Values,
 }
 
-// The same as an f64. It is never a NaN, so the cast is plain, and a loop of it has no branch.
-fn quantized_f64(beat: f64) -> f64
-    ensures { λ r. ⌜ r ≡ quantized beat ⌝ }
-{
-    quantized_f32(beat) as f64
-}
+// ---- columns
 
-// ---- columns: each writes what becomes of entry i of the first column into entry i of the second, for every i that both have
-
-// Each number as an f32.
-pub fn narrow_column(from: &[f64], to: &mut [f32])
-    ensures { λ _. ⌜ now (to .exit) ≡ laidEach narrow (now (from .entry)) (now (to .entry)) ⌝ }
+fn change_column(meaning: Meaning, from: &[f64], to: &mut [f64])
+    ensures { λ _. ⌜ to.exit.now ≡ laidEach (changeBy meaning) from.entry.now to.entry.now ⌝ }
 {
-    let n = columns::room_of(from.len(), to.len());
-    let mut i = 0;
-    while i < n {
-        to[i] = ieee::narrow_f64(from[i]);
-        i += 1;
+    match meaning {
+        Meaning::Lengths => columns_each::quantize_column(from, to),
+        Meaning::Values => columns::copy(from, to),
     }
 }
 
-// ---- quantising: narrowed in one loop and moved to rows in the next, since one loop of both waits on the chain from one to the other
-
-// Each beat moved to its row, in a column of any length.
-fn quantize_each(from: &[f64], to: &mut [f64])
-    ensures { λ _. ⌜ now (to .exit) ≡ laidEach quantized (now (from .entry)) (now (to .entry)) ⌝ }
+fn change_column_f32(meaning: Meaning, from: &[f64], to: &mut [f32])
+    ensures { λ _. ⌜ to.exit.now ≡ laidEach (λ (x : Float). narrow (changeBy meaning x)) from.entry.now to.entry.now ⌝ }
 {
-    let n = columns::room_of(from.len(), to.len());
-    let mut i = 0;
-    while i < n {
-        to[i] = quantized_f64(from[i]);
-        i += 1;
+    match meaning {
+        Meaning::Lengths => columns_each::quantize_column_f32(from, to),
+        Meaning::Values => columns_each::narrow_column(from, to),
     }
-}
-
-// Each f32 moved to its row.
-fn move_narrowed(from: &[f32], to: &mut [f64])
-    ensures { λ _. ⌜ now (to .exit) ≡ laidEach (λ (beat : Float). quantized32 beat) (now (from .entry)) (now (to .entry)) ⌝ }
-{
-    let n = columns::room_of(from.len(), to.len());
-    let mut i = 0;
-    while i < n {
-        to[i] = std::num::f32_to_f64_with_nan(rows::quantize_beat_f32(from[i]));
-        i += 1;
-    }
-}
-
-// By way of a column as long as the first.
-fn quantize_by(from: &[f64], narrowed: &mut [f32], to: &mut [f64])
-    requires { ⌜ length (now from) ≡ length (now narrowed) ⌝ }
-    ensures { λ _. ⌜ now (to .exit) ≡ laidEach quantized (now (from .entry)) (now (to .entry)) ⌝ }
-{
-    narrow_column(from, narrowed);
-    move_narrowed(narrowed, to);
-}
-
-fn quantize_few(from: &[f64], to: &mut [f64])
-    requires { ⌜ length (now from) ≤ 64 ⌝ }
-    ensures { λ _. ⌜ now (to .exit) ≡ laidEach quantized (now (from .entry)) (now (to .entry)) ⌝ }
-{
-    let n = from.len();
-    let mut narrowed = [0.0f32; limits::FEW];
-    quantize_by(from, &mut narrowed[..n], to);
-}
-
-fn quantize_many(from: &[f64], to: &mut [f64])
-    requires { ⌜ length (now from) ≤ 1024 ⌝ }
-    ensures { λ _. ⌜ now (to .exit) ≡ laidEach quantized (now (from .entry)) (now (to .entry)) ⌝ }
-{
-    let n = from.len();
-    let mut narrowed = [0.0f32; limits::MOST_ENTRIES];
-    quantize_by(from, &mut narrowed[..n], to);
-}
-
-// Each beat moved to its row.
-pub fn quantize_column(from: &[f64], to: &mut [f64])
-    ensures { λ _. ⌜ now (to .exit) ≡ laidEach quantized (now (from .entry)) (now (to .entry)) ⌝ }
-{
-    if from.len() <= limits::FEW {
-        quantize_few(from, to);
-        return;
-    }
-    if from.len() <= limits::MOST_ENTRIES {
-        quantize_many(from, to);
-        return;
-    }
-    quantize_each(from, to);
-}
-
-// The first n, each an f32 already, moved to their rows.
-fn quantize_front(column: &mut [f32], n: usize)
-    requires { ⌜ n ≤ length (now column) ⌝ }
-    ensures { λ _. ⌜ now (column .exit) ≡ laidEach (λ (beat : Float). quantized32 beat) (take n (now (column .entry))) (now (column .entry)) ⌝ }
-{
-    let mut i = 0;
-    while i < n {
-        column[i] = rows::quantize_beat_f32(column[i]);
-        i += 1;
-    }
-}
-
-// The same into a column of f32.
-pub fn quantize_column_f32(from: &[f64], to: &mut [f32])
-    ensures { λ _. ⌜ now (to .exit) ≡ laidEach quantized (now (from .entry)) (now (to .entry)) ⌝ }
-{
-    let n = columns::room_of(from.len(), to.len());
-    narrow_column(from, to);
-    quantize_front(to, n);
-}
-
-// Each number as it is.
-pub fn copy_column_f32(from: &[f32], to: &mut [f32])
-    ensures { λ _. ⌜ now (to .exit) ≡ laidEach (λ (x : Float). x) (now (from .entry)) (now (to .entry)) ⌝ }
-{
-    let n = columns::room_of(from.len(), to.len());
-    let mut i = 0;
-    while i < n {
-        to[i] = from[i];
-        i += 1;
-    }
-}
-
-fn change_column(whole: bool, from: &[f64], to: &mut [f64])
-    ensures { λ _. ⌜ now (to .exit) ≡ laidEach (changeBy whole) (now (from .entry)) (now (to .entry)) ⌝ }
-{
-    if whole {
-        quantize_column(from, to);
-        return;
-    }
-    columns::copy(from, to);
-}
-
-fn change_column_f32(whole: bool, from: &[f64], to: &mut [f32])
-    ensures { λ _. ⌜ now (to .exit) ≡ laidEach (λ (x : Float). narrow (changeBy whole x)) (now (from .entry)) (now (to .entry)) ⌝ }
-{
-    if whole {
-        quantize_column_f32(from, to);
-        return;
-    }
-    narrow_column(from, to);
 }
 
 // A result of two columns as f32: its first entries over the fronts of the rooms, or the number it was refused by, or 7 where the rooms are too short.
@@ -179,7 +52,9 @@ pub fn lay_narrowed(
     out_firsts: &mut [f32],
     out_seconds: &mut [f32],
 ) -> Outcome
-    ensures { λ r. ⌜ LaidPair number (narrowedFront count (now (firsts .entry)) (now (seconds .entry))) r (now («out_firsts» .entry)) (now («out_firsts» .exit)) (now («out_seconds» .entry)) (now («out_seconds» .exit)) ⌝ }
+    ensures { λ r.
+        let front = narrowedFront count firsts.entry.now seconds.entry.now in
+        ⌜ LaidPair number front r «out_firsts».entry.now «out_firsts».exit.now «out_seconds».entry.now «out_seconds».exit.now ⌝ }
 {
     if number != limits::TAKEN {
         return columns::refused(number);
@@ -189,71 +64,12 @@ pub fn lay_narrowed(
     if n > columns::room_of(out_firsts.len(), out_seconds.len()) {
         return columns::refused(limits::NO_ROOM);
     }
-    narrow_column(&firsts[..n], out_firsts);
-    narrow_column(&seconds[..n], out_seconds);
+    columns_each::narrow_column(&firsts[..n], out_firsts);
+    columns_each::narrow_column(&seconds[..n], out_seconds);
     Outcome {
         number: limits::TAKEN,
         count: n,
     }
-}
-
-// ---- the order of beats: a loop that counts what fails has no branch, and one that ends at what fails costs little where that is early
-
-fn not_below(beat: f32, next: f32) -> usize
-    ensures { λ r. ⌜ r ≡ miss (λ (e : Float × Float). lt (e .0) (e .1)) (beat, next) ⌝ }
-{
-    if beat < next { 0 } else { 1 }
-}
-
-// Whether each beat is below the next.
-pub fn rise(beats: &[f32]) -> bool
-    ensures { λ r. ⌜ r ≡ everyTwo lt (now (beats .entry)) ⌝ }
-{
-    let mut fail: usize = 0;
-    let mut i = 0;
-    while i + 1 < beats.len() {
-        fail += not_below(beats[i], beats[i + 1]);
-        i += 1;
-    }
-    fail == 0
-}
-
-// Whether each beat is below the one before it. A list that rises early is told by few beats.
-fn falls_throughout(beats: &[f32]) -> bool
-    ensures { λ r. ⌜ r ≡ everyTwo fallsTo beats.entry.now ⌝ }
-{
-    let mut i = 0;
-    while i < beats.len() {
-        let next = i + 1;
-        if next < beats.len() {
-            if beats[next] < beats[i] {
-                i = next;
-                continue;
-            }
-            return false;
-        }
-        return true;
-    }
-    true
-}
-
-fn above(beat: f64, next: f64) -> usize
-    ensures { λ r. ⌜ r ≡ miss (λ (e : Float × Float). notFalling (e .0) (e .1)) (beat, next) ⌝ }
-{
-    if next < beat { 1 } else { 0 }
-}
-
-// Whether no beat is above the next. Quantising keeps that.
-pub fn never_fall(beats: &[f64]) -> bool
-    ensures { λ r. ⌜ r ≡ everyTwo notFalling (now (beats .entry)) ⌝ }
-{
-    let mut fail: usize = 0;
-    let mut i = 0;
-    while i + 1 < beats.len() {
-        fail += above(beats[i], beats[i + 1]);
-        i += 1;
-    }
-    fail == 0
 }
 
 // ---- any other list: by way of columns that are as long as it is
@@ -261,7 +77,7 @@ pub fn never_fall(beats: &[f64]) -> bool
 fn assemble_in(
     beats: &[f64],
     values: &[f64],
-    whole: bool,
+    meaning: Meaning,
     work_beats: &mut [f64],
     work_values: &mut [f64],
     tidy_beats: &mut [f64],
@@ -269,12 +85,14 @@ fn assemble_in(
     out_beats: &mut [f32],
     out_values: &mut [f32],
 ) -> Outcome
-    requires { ⌜ (length (now values) ≡ length (now beats)) × (length (now «work_beats») ≡ length (now beats)) × (length (now «work_values») ≡ length (now beats)) ⌝ }
-    requires { ⌜ (length (now «tidy_beats») ≡ length (now beats)) × (length (now «tidy_values») ≡ length (now beats)) ⌝ }
-    ensures { λ r. ⌜ RowsAssembled whole (now (beats .entry)) (now (values .entry)) r (now («out_beats» .entry)) (now («out_beats» .exit)) (now («out_values» .entry)) (now («out_values» .exit)) ⌝ }
+    requires { ⌜ (length values.now ≡ length beats.now) × (length «work_beats».now ≡ length beats.now) × (length «work_values».now ≡ length beats.now) ⌝ }
+    requires { ⌜ (length «tidy_beats».now ≡ length beats.now) × (length «tidy_values».now ≡ length beats.now) ⌝ }
+    ensures { λ r.
+        ⌜ RowsAssembled meaning beats.entry.now values.entry.now r
+        «out_beats».entry.now «out_beats».exit.now «out_values».entry.now «out_values».exit.now ⌝ }
 {
-    quantize_column(beats, work_beats);
-    change_column(whole, values, work_values);
+    columns_each::quantize_column(beats, work_beats);
+    change_column(meaning, values, work_values);
     let tidied = tidy_rows::tidy_row_segments(work_beats, work_values, tidy_beats, tidy_values);
     lay_narrowed(
         tidied.number,
@@ -290,12 +108,14 @@ fn assemble_in(
 fn assemble_few(
     beats: &[f64],
     values: &[f64],
-    whole: bool,
+    meaning: Meaning,
     out_beats: &mut [f32],
     out_values: &mut [f32],
 ) -> Outcome
-    requires { ⌜ (length (now values) ≡ length (now beats)) × (length (now beats) ≤ 64) ⌝ }
-    ensures { λ r. ⌜ RowsAssembled whole (now (beats .entry)) (now (values .entry)) r (now («out_beats» .entry)) (now («out_beats» .exit)) (now («out_values» .entry)) (now («out_values» .exit)) ⌝ }
+    requires { ⌜ (length values.now ≡ length beats.now) × (length beats.now ≤ 64) ⌝ }
+    ensures { λ r.
+        ⌜ RowsAssembled meaning beats.entry.now values.entry.now r
+        «out_beats».entry.now «out_beats».exit.now «out_values».entry.now «out_values».exit.now ⌝ }
 {
     let n = beats.len();
     let mut work_beats = [0.0; limits::FEW];
@@ -305,7 +125,7 @@ fn assemble_few(
     assemble_in(
         beats,
         values,
-        whole,
+        meaning,
         &mut work_beats[..n],
         &mut work_values[..n],
         &mut tidy_beats[..n],
@@ -319,12 +139,14 @@ fn assemble_few(
 fn assemble_many(
     beats: &[f64],
     values: &[f64],
-    whole: bool,
+    meaning: Meaning,
     out_beats: &mut [f32],
     out_values: &mut [f32],
 ) -> Outcome
-    requires { ⌜ (length (now values) ≡ length (now beats)) × (length (now beats) ≤ 1024) ⌝ }
-    ensures { λ r. ⌜ RowsAssembled whole (now (beats .entry)) (now (values .entry)) r (now («out_beats» .entry)) (now («out_beats» .exit)) (now («out_values» .entry)) (now («out_values» .exit)) ⌝ }
+    requires { ⌜ (length values.now ≡ length beats.now) × (length beats.now ≤ 1024) ⌝ }
+    ensures { λ r.
+        ⌜ RowsAssembled meaning beats.entry.now values.entry.now r
+        «out_beats».entry.now «out_beats».exit.now «out_values».entry.now «out_values».exit.now ⌝ }
 {
     let n = beats.len();
     let mut work_beats = [0.0; limits::MOST_ENTRIES];
@@ -334,7 +156,7 @@ fn assemble_many(
     assemble_in(
         beats,
         values,
-        whole,
+        meaning,
         &mut work_beats[..n],
         &mut work_values[..n],
         &mut tidy_beats[..n],
@@ -347,17 +169,19 @@ fn assemble_many(
 fn assemble_any(
     beats: &[f64],
     values: &[f64],
-    whole: bool,
+    meaning: Meaning,
     out_beats: &mut [f32],
     out_values: &mut [f32],
 ) -> Outcome
-    requires { ⌜ (length (now values) ≡ length (now beats)) × (length (now beats) ≤ 1024) ⌝ }
-    ensures { λ r. ⌜ RowsAssembled whole (now (beats .entry)) (now (values .entry)) r (now («out_beats» .entry)) (now («out_beats» .exit)) (now («out_values» .entry)) (now («out_values» .exit)) ⌝ }
+    requires { ⌜ (length values.now ≡ length beats.now) × (length beats.now ≤ 1024) ⌝ }
+    ensures { λ r.
+        ⌜ RowsAssembled meaning beats.entry.now values.entry.now r
+        «out_beats».entry.now «out_beats».exit.now «out_values».entry.now «out_values».exit.now ⌝ }
 {
     if beats.len() <= limits::FEW {
-        return assemble_few(beats, values, whole, out_beats, out_values);
+        return assemble_few(beats, values, meaning, out_beats, out_values);
     }
-    assemble_many(beats, values, whole, out_beats, out_values)
+    assemble_many(beats, values, meaning, out_beats, out_values)
 }
 
 // ---- lists of one length: where quantised beats rise each number is written by itself, and none is tested; where they fall, of a list that is taken, the same turned round
@@ -366,11 +190,13 @@ fn assemble_any(
 pub fn lay_each(
     quantised: &[f32],
     values: &[f64],
-    whole: bool,
+    meaning: Meaning,
     out_beats: &mut [f32],
     out_values: &mut [f32],
 ) -> Outcome
-    ensures { λ r. ⌜ EachLaid whole (now (quantised .entry)) (now (values .entry)) r (now («out_beats» .entry)) (now («out_beats» .exit)) (now («out_values» .entry)) (now («out_values» .exit)) ⌝ }
+    ensures { λ r.
+        ⌜ EachLaid meaning quantised.entry.now values.entry.now r
+        «out_beats».entry.now «out_beats».exit.now «out_values».entry.now «out_values».exit.now ⌝ }
 {
     let count = quantised.len();
     if count != values.len() {
@@ -379,8 +205,8 @@ pub fn lay_each(
     if count > columns::room_of(out_beats.len(), out_values.len()) {
         return columns::refused(limits::NO_ROOM);
     }
-    copy_column_f32(quantised, out_beats);
-    change_column_f32(whole, values, out_values);
+    columns_each::copy_column_f32(quantised, out_beats);
+    change_column_f32(meaning, values, out_values);
     Outcome {
         number: limits::TAKEN,
         count: count,
@@ -391,16 +217,16 @@ pub fn lay_each(
 fn lay_turned(
     quantised: &[f32],
     values: &[f64],
-    whole: bool,
+    meaning: Meaning,
     out_beats: &mut [f32],
     out_values: &mut [f32],
 ) -> Outcome
     requires { ⌜ length quantised.now ≡ length values.now ⌝ }
     ensures { λ r.
-        let turned = reverse (eachByItself whole quantised.entry.now values.entry.now) in
+        let turned = reverse (eachByItself meaning quantised.entry.now values.entry.now) in
         ⌜ LaidPair 0 turned r «out_beats».entry.now «out_beats».exit.now «out_values».entry.now «out_values».exit.now ⌝ }
 {
-    let outcome = lay_each(quantised, values, whole, out_beats, out_values);
+    let outcome = lay_each(quantised, values, meaning, out_beats, out_values);
     columns::turn(&mut out_beats[..outcome.count]);
     columns::turn(&mut out_values[..outcome.count]);
     outcome
@@ -410,9 +236,9 @@ fn lay_turned(
 fn falls_and_taken(beats: &[f64], values: &[f64], quantised: &[f32]) -> bool
     ensures { λ r.
         let tests = rowsNumber beats.entry.now values.entry.now in
-        ⌜ r ≡ pick (everyTwo fallsTo quantised.entry.now) (eqb tests 0) false ⌝ }
+        ⌜ r ≡ pick (everyTwo falling quantised.entry.now) (eqb tests 0) false ⌝ }
 {
-    if falls_throughout(quantised) {
+    if columns_order::falls_throughout_f32(quantised) {
         return limits::list_number(Kind::Beat, Kind::Value, beats, values) == limits::TAKEN;
     }
     false
@@ -421,40 +247,44 @@ fn falls_and_taken(beats: &[f64], values: &[f64], quantised: &[f32]) -> bool
 fn assemble_even(
     beats: &[f64],
     values: &[f64],
-    whole: bool,
+    meaning: Meaning,
     quantised: &mut [f32],
     out_beats: &mut [f32],
     out_values: &mut [f32],
 ) -> Outcome
-    requires { ⌜ (length (now values) ≡ length (now beats)) × (length (now beats) ≤ 1024) × (length (now quantised) ≡ length (now beats)) ⌝ }
-    ensures { λ r. ⌜ RowsUntested whole (now (beats .entry)) (now (values .entry)) r (now («out_beats» .entry)) (now («out_beats» .exit)) (now («out_values» .entry)) (now («out_values» .exit)) ⌝ }
+    requires { ⌜ (length values.now ≡ length beats.now) × (length beats.now ≤ 1024) × (length quantised.now ≡ length beats.now) ⌝ }
+    ensures { λ r.
+        ⌜ RowsUntested meaning beats.entry.now values.entry.now r
+        «out_beats».entry.now «out_beats».exit.now «out_values».entry.now «out_values».exit.now ⌝ }
 {
-    quantize_column_f32(beats, quantised);
-    if rise(quantised) {
-        return lay_each(quantised, values, whole, out_beats, out_values);
+    columns_each::quantize_column_f32(beats, quantised);
+    if columns_order::rise_f32(quantised) {
+        return lay_each(quantised, values, meaning, out_beats, out_values);
     }
     if falls_and_taken(beats, values, quantised) {
-        return lay_turned(quantised, values, whole, out_beats, out_values);
+        return lay_turned(quantised, values, meaning, out_beats, out_values);
     }
-    assemble_any(beats, values, whole, out_beats, out_values)
+    assemble_any(beats, values, meaning, out_beats, out_values)
 }
 
 fn assemble_even_few(
     beats: &[f64],
     values: &[f64],
-    whole: bool,
+    meaning: Meaning,
     out_beats: &mut [f32],
     out_values: &mut [f32],
 ) -> Outcome
-    requires { ⌜ (length (now values) ≡ length (now beats)) × (length (now beats) ≤ 64) ⌝ }
-    ensures { λ r. ⌜ RowsUntested whole (now (beats .entry)) (now (values .entry)) r (now («out_beats» .entry)) (now («out_beats» .exit)) (now («out_values» .entry)) (now («out_values» .exit)) ⌝ }
+    requires { ⌜ (length values.now ≡ length beats.now) × (length beats.now ≤ 64) ⌝ }
+    ensures { λ r.
+        ⌜ RowsUntested meaning beats.entry.now values.entry.now r
+        «out_beats».entry.now «out_beats».exit.now «out_values».entry.now «out_values».exit.now ⌝ }
 {
     let n = beats.len();
     let mut quantised = [0.0f32; limits::FEW];
     assemble_even(
         beats,
         values,
-        whole,
+        meaning,
         &mut quantised[..n],
         out_beats,
         out_values,
@@ -464,19 +294,21 @@ fn assemble_even_few(
 fn assemble_even_many(
     beats: &[f64],
     values: &[f64],
-    whole: bool,
+    meaning: Meaning,
     out_beats: &mut [f32],
     out_values: &mut [f32],
 ) -> Outcome
-    requires { ⌜ (length (now values) ≡ length (now beats)) × (length (now beats) ≤ 1024) ⌝ }
-    ensures { λ r. ⌜ RowsUntested whole (now (beats .entry)) (now (values .entry)) r (now («out_beats» .entry)) (now («out_beats» .exit)) (now («out_values» .entry)) (now («out_values» .exit)) ⌝ }
+    requires { ⌜ (length values.now ≡ length beats.now) × (length beats.now ≤ 1024) ⌝ }
+    ensures { λ r.
+        ⌜ RowsUntested meaning beats.entry.now values.entry.now r
+        «out_beats».entry.now «out_beats».exit.now «out_values».entry.now «out_values».exit.now ⌝ }
 {
     let n = beats.len();
     let mut quantised = [0.0f32; limits::MOST_ENTRIES];
     assemble_even(
         beats,
         values,
-        whole,
+        meaning,
         &mut quantised[..n],
         out_beats,
         out_values,
@@ -490,38 +322,42 @@ fn assemble_even_many(
 pub fn assemble_untested(
     beats: &[f64],
     values: &[f64],
-    whole: bool,
+    meaning: Meaning,
     out_beats: &mut [f32],
     out_values: &mut [f32],
 ) -> Outcome
-    ensures { λ r. ⌜ RowsUntested whole (now (beats .entry)) (now (values .entry)) r (now («out_beats» .entry)) (now («out_beats» .exit)) (now («out_values» .entry)) (now («out_values» .exit)) ⌝ }
+    ensures { λ r.
+        ⌜ RowsUntested meaning beats.entry.now values.entry.now r
+        «out_beats».entry.now «out_beats».exit.now «out_values».entry.now «out_values».exit.now ⌝ }
 {
     if beats.len() != values.len() {
         return columns::refused(limits::list_number(Kind::Beat, Kind::Value, beats, values));
     }
     if beats.len() <= limits::FEW {
-        return assemble_even_few(beats, values, whole, out_beats, out_values);
+        return assemble_even_few(beats, values, meaning, out_beats, out_values);
     }
     if beats.len() <= limits::MOST_ENTRIES {
-        return assemble_even_many(beats, values, whole, out_beats, out_values);
+        return assemble_even_many(beats, values, meaning, out_beats, out_values);
     }
     columns::refused(limits::TOO_LONG)
 }
 
-// The assembled list over the fronts of both rooms, and its length. `whole`: the values are lengths, which are quantised too.
+// The assembled list over the fronts of both rooms, and its length.
 // Refused with 1, 2, 3 or 4 for what tidying is given, and with 7 where the list does not fit.
 pub fn assemble_rows(
     beats: &[f64],
     values: &[f64],
-    whole: bool,
+    meaning: Meaning,
     out_beats: &mut [f32],
     out_values: &mut [f32],
 ) -> Outcome
-    ensures { λ r. ⌜ RowsAssembled whole (now (beats .entry)) (now (values .entry)) r (now («out_beats» .entry)) (now («out_beats» .exit)) (now («out_values» .entry)) (now («out_values» .exit)) ⌝ }
+    ensures { λ r.
+        ⌜ RowsAssembled meaning beats.entry.now values.entry.now r
+        «out_beats».entry.now «out_beats».exit.now «out_values».entry.now «out_values».exit.now ⌝ }
 {
     let number = limits::list_number(Kind::Beat, Kind::Value, beats, values);
     if number == limits::TAKEN {
-        return assemble_untested(beats, values, whole, out_beats, out_values);
+        return assemble_untested(beats, values, meaning, out_beats, out_values);
     }
     if number == limits::TOO_LONG {
         return columns::refused(limits::TOO_LONG);
@@ -529,19 +365,19 @@ pub fn assemble_rows(
     if number == limits::UNEVEN {
         return columns::refused(limits::UNEVEN);
     }
-    assemble_any(beats, values, whole, out_beats, out_values)
+    assemble_any(beats, values, meaning, out_beats, out_values)
 }
 
-fn fits_below(beats: &[f64], values: &[f64], whole: bool, room: usize) -> bool
-    requires { ⌜ (room < length (now beats)) × (length (now beats) ≤ 1024) ⌝ }
-    ensures { λ r. ⌜ r ≡ rowsFit whole (now (beats .entry)) (now (values .entry)) room ⌝ }
+fn fits_below(beats: &[f64], values: &[f64], meaning: Meaning, room: usize) -> bool
+    requires { ⌜ (room < length beats.now) × (length beats.now ≤ 1024) ⌝ }
+    ensures { λ r. ⌜ r ≡ rowsFit meaning beats.entry.now values.entry.now room ⌝ }
 {
     let mut beat_room = [0.0f32; limits::MOST_ENTRIES];
     let mut value_room = [0.0f32; limits::MOST_ENTRIES];
     let outcome = assemble_rows(
         beats,
         values,
-        whole,
+        meaning,
         &mut beat_room[..room],
         &mut value_room[..room],
     );
@@ -550,8 +386,8 @@ fn fits_below(beats: &[f64], values: &[f64], whole: bool, room: usize) -> bool
 
 // Whether a list fits into rooms of a length: yes at once where they hold all that is given, and otherwise where `assemble_rows` would take it.
 // Nothing is tested in the first case, so it is asked of lists that are known to be taken.
-pub fn rows_fit(beats: &[f64], values: &[f64], whole: bool, room: usize) -> bool
-    ensures { λ r. ⌜ r ≡ rowsFit whole (now (beats .entry)) (now (values .entry)) room ⌝ }
+pub fn rows_fit(beats: &[f64], values: &[f64], meaning: Meaning, room: usize) -> bool
+    ensures { λ r. ⌜ r ≡ rowsFit meaning beats.entry.now values.entry.now room ⌝ }
 {
     if beats.len() <= room {
         return true;
@@ -559,5 +395,5 @@ pub fn rows_fit(beats: &[f64], values: &[f64], whole: bool, room: usize) -> bool
     if beats.len() > limits::MOST_ENTRIES {
         return false;
     }
-    fits_below(beats, values, whole, room)
+    fits_below(beats, values, meaning, room)
 }

@@ -28,6 +28,7 @@ use Rattle.assembly_scrolls.specs.AssembledScrolls.{riseApart, assembled
 use Rattle.assembly_scrolls.proofs.QuantizedTaken.{scrolls-pass}
 use Rattle.assembly_scrolls.proofs.RisingKeys.{rising-keys}
 use Rattle.assembly_scrolls.proofs.Outcomes.{taken-at-once}
+use Rattle.assembly_rows.specs.declared.Meaning.the-variants.{Values}
 
 split : (rising far : Bool) → pick rising far false ≡ true → (rising ≡ true) × (far ≡ true)
 split true far h = (refl, h)
@@ -57,7 +58,7 @@ module _ (beats values : List Float) where
     not-apart even few e h p = as-assembled (by-themselves even few ∙ ap (λ (l : List Float). riseApart l values) (sym e) ∙ h) p
 
     pub apart : {quantised : List Float} → length values ≡ length beats → length beats ≤ 1024 → quantised ≡ map quantized beats → riseApart quantised values ≡ true
-        → EachLaid false quantised values outcome beatsOld beatsNew valuesOld valuesNew → ScrollsUntested beats values outcome beatsOld beatsNew valuesOld valuesNew
+        → EachLaid Values quantised values outcome beatsOld beatsNew valuesOld valuesNew → ScrollsUntested beats values outcome beatsOld beatsNew valuesOld valuesNew
     apart even few e h p =
         rw (by-themselves even few ∙ ap (λ (l : List Float). riseApart l values) (sym e) ∙ h)
         (rw (eq-eqb (length (map quantized beats)) (length values) (length-map beats quantized ∙ sym even)) at (rw e at p))
@@ -71,7 +72,7 @@ module _ (beats values : List Float) where
       apart-number : assembledScrollsNumber beats values ≡ 0
       apart-number = ordered-number (map quantized beats) values (scrolls-pass beats values h) (rising-never-falls (map quantized beats) rows-rise)
 
-      apart-list : assembledScrolls beats values ≡ eachByItself false (map quantized beats) values
+      apart-list : assembledScrolls beats values ≡ eachByItself Values (map quantized beats) values
       unfolding assembledScrolls
       apart-list =
           ap (map narrowedEntry) (ordered-list (map quantized beats) values (scrolls-pass beats values h) (rising-never-falls (map quantized beats) rows-rise)
@@ -80,7 +81,7 @@ module _ (beats values : List Float) where
 
     module _ {outcome : Outcome} {beatsOld beatsNew valuesOld valuesNew : List Float} where
       choose : (each : Bool) → scrollsByThemselves beats values ≡ each
-          → LaidPair (pick each 0 (assembledScrollsNumber beats values)) (pick each (eachByItself false (map quantized beats) values) (assembledScrolls beats values)) outcome beatsOld beatsNew valuesOld valuesNew
+          → LaidPair (pick each 0 (assembledScrollsNumber beats values)) (pick each (eachByItself Values (map quantized beats) values) (assembledScrolls beats values)) outcome beatsOld beatsNew valuesOld valuesNew
           → ScrollsAssembled beats values outcome beatsOld beatsNew valuesOld valuesNew
       choose true e p =
           let each = sym (by-themselves (sym (list-taken h .even)) (list-taken h .few)) ∙ e in

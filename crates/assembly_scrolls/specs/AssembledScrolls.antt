@@ -14,6 +14,7 @@ use Rattle.columns.specs.declared.Outcome.{Outcome}
 use Rattle.columns.specs.Laying.{roomNumber, LaidPair}
 use Rattle.tidy_scrolls.specs.ScrollTidying.{tidyScrolls, scrollsNumber}
 use Rattle.assembly_rows.specs.AssembledRows.{narrowedEntry, eachByItself}
+use Rattle.assembly_rows.specs.declared.Meaning.the-variants.{Values}
 
 -- beats quantised, tidied, and all of it as f32
 unfoldable pub assembledScrolls : List Float → List Float → List (Float × Float)
@@ -52,4 +53,4 @@ scrollsByThemselves beats values =
 abbrev pub ScrollsUntested : List Float → List Float → Outcome → List Float → List Float → List Float → List Float → Type 0
 ScrollsUntested beats values =
     LaidPair (pick (scrollsByThemselves beats values) 0 (assembledScrollsNumber beats values))
-    (pick (scrollsByThemselves beats values) (eachByItself false (map quantized beats) values) (assembledScrolls beats values))
+    (pick (scrollsByThemselves beats values) (eachByItself Values (map quantized beats) values) (assembledScrolls beats values))

@@ -1,4 +1,5 @@
 // Assembly of scrolls: beats quantised, tidied, and written as f32.
+use assembly_rows::Meaning;
 use columns::Outcome;
 ghost use mathlib.Core.Path.{_≡_};
 ghost use Prim.Native.Nat.{_≤_};
@@ -18,7 +19,7 @@ fn assemble_in(
     requires { ⌜ (length «work_beats».now ≡ length beats.now) × (length «tidy_beats».now ≡ length beats.now) × (length «tidy_values».now ≡ length beats.now) ⌝ }
     ensures { λ r. ⌜ ScrollsAssembled beats.entry.now values.entry.now r «out_beats».entry.now «out_beats».exit.now «out_values».entry.now «out_values».exit.now ⌝ }
 {
-    assembly_rows::quantize_column(beats, work_beats);
+    columns_each::quantize_column(beats, work_beats);
     let tidied = tidy_scrolls::tidy_scroll_segments(work_beats, values, tidy_beats, tidy_values);
     assembly_rows::lay_narrowed(
         tidied.number,
@@ -101,7 +102,7 @@ fn assemble_any(
 pub fn rise_apart(beats: &[f32], values: &[f64]) -> bool
     ensures { λ r. ⌜ r ≡ riseApart beats.entry.now values.entry.now ⌝ }
 {
-    if assembly_rows::rise(beats) {
+    if columns_order::rise_f32(beats) {
         return tidy_kept::all_apart(values);
     }
     false
@@ -117,9 +118,9 @@ fn assemble_by(
     requires { ⌜ (length beats.now ≤ 1024) × (length values.now ≡ length beats.now) × (length quantised.now ≡ length beats.now) ⌝ }
     ensures { λ r. ⌜ ScrollsUntested beats.entry.now values.entry.now r «out_beats».entry.now «out_beats».exit.now «out_values».entry.now «out_values».exit.now ⌝ }
 {
-    assembly_rows::quantize_column_f32(beats, quantised);
+    columns_each::quantize_column_f32(beats, quantised);
     if rise_apart(quantised, values) {
-        return assembly_rows::lay_each(quantised, values, false, out_beats, out_values);
+        return assembly_rows::lay_each(quantised, values, Meaning::Values, out_beats, out_values);
     }
     assemble_any(beats, values, out_beats, out_values)
 }
@@ -213,7 +214,7 @@ pub fn scrolls_number(beats: &[f64], values: &[f64], room: usize) -> u32
     if beats.len() > room {
         return number_in(beats, values, room);
     }
-    if assembly_rows::never_fall(beats) {
+    if columns_order::never_fall(beats) {
         return limits::TAKEN;
     }
     number_in(beats, values, room)

@@ -40,9 +40,9 @@ fn lay_narrowed(
     if n > room {
         return columns::refused(limits::NO_ROOM);
     }
-    assembly_rows::narrow_column(&beats[..n], out_beats);
-    assembly_rows::narrow_column(&ratios[..n], out_ratios);
-    assembly_rows::narrow_column(&delays[..n], out_delays);
+    columns_each::narrow_column(&beats[..n], out_beats);
+    columns_each::narrow_column(&ratios[..n], out_ratios);
+    columns_each::narrow_column(&delays[..n], out_delays);
     tidy_speeds_entries::copy_units(&units[..n], out_units);
     Outcome {
         number: limits::TAKEN,
@@ -74,7 +74,7 @@ fn assemble_in(
         let rooms = lentSpeeds «out_beats» «out_ratios» «out_delays» «out_units» in
         ⌜ SpeedsAssembled raw r (speedsBefore rooms) (speedsAfter rooms) ⌝ }
 {
-    assembly_rows::quantize_column(beats, work_beats);
+    columns_each::quantize_column(beats, work_beats);
     let tidied = tidy_speeds::tidy_speed_segments(
         work_beats,
         ratios,
@@ -259,9 +259,9 @@ fn lay_each(
     if count > room {
         return columns::refused(limits::NO_ROOM);
     }
-    assembly_rows::copy_column_f32(quantised, out_beats);
-    assembly_rows::narrow_column(ratios, out_ratios);
-    assembly_rows::narrow_column(delays, out_delays);
+    columns_each::copy_column_f32(quantised, out_beats);
+    columns_each::narrow_column(ratios, out_ratios);
+    columns_each::narrow_column(delays, out_delays);
     tidy_speeds_entries::copy_units(units, out_units);
     Outcome {
         number: limits::TAKEN,
@@ -287,7 +287,7 @@ fn assemble_by(
         let rooms = lentSpeeds «out_beats» «out_ratios» «out_delays» «out_units» in
         ⌜ SpeedsUntested raw r (speedsBefore rooms) (speedsAfter rooms) ⌝ }
 {
-    assembly_rows::quantize_column_f32(beats, quantised);
+    columns_each::quantize_column_f32(beats, quantised);
     if assembly_scrolls::rise_apart(quantised, ratios) {
         return lay_each(
             quantised,
@@ -517,7 +517,7 @@ pub fn speeds_number(
     if beats.len() > room {
         return number_in(beats, ratios, delays, units, room);
     }
-    if assembly_rows::never_fall(beats) {
+    if columns_order::never_fall(beats) {
         return limits::TAKEN;
     }
     number_in(beats, ratios, delays, units, room)

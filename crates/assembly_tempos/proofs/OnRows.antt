@@ -25,8 +25,9 @@ use Rattle.columns.proofs.EachOverFront.{each-over-front, copied-over-front}
 use Rattle.tidy_rows.specs.RowTidying.{rowsNumber}
 use Rattle.assembly_rows.specs.AssembledRows.{eachByItself, RowsUntested}
 use Rattle.assembly_tempos.specs.inside.ProcessedColumns.{heldF32}
-use Rattle.assembly_rows.proofs.QuantizedTaken.{quantized-fits, quantized-number}
+use Rattle.columns_each.proofs.QuantizedNumbers.{quantized-fits, quantized-number}
 use Rattle.assembly_rows.proofs.Untested.{rising}
+use Rattle.assembly_rows.specs.declared.Meaning.the-variants.{Values}
 
 -- ---- columns of f32s
 
@@ -58,12 +59,12 @@ module _ (beats values beatsOld valuesOld : List Float) (h : rowsNumber beats va
   even : length beats ≡ length (map narrow values)
   even = list-taken h .even ∙ sym (length-map values narrow)
 
-  long : length (eachByItself false beats values) ≡ length beats
+  long : length (eachByItself Values beats values) ≡ length beats
   long = length-entries beats (map narrow values) even
 
-  pub laid-as-they-are : RowsUntested false beats values (record { number = 0; count = length beats }) beatsOld (laidEach (λ (x : Float). x) beats beatsOld) valuesOld (laidEach narrow values valuesOld)
+  pub laid-as-they-are : RowsUntested Values beats values (record { number = 0; count = length beats }) beatsOld (laidEach (λ (x : Float). x) beats beatsOld) valuesOld (laidEach narrow values valuesOld)
   laid-as-they-are =
-      rising beats values false (list-taken h .even) (list-taken h .few) (sym onRows) rises
-      (taken _ (eachByItself false beats values) beatsOld valuesOld (length beats) _ _ (rw (eq-eqb (length beats) (length values) (list-taken h .even))) (omega (arith, long, room)) (sym long)
+      rising beats values Values (list-taken h .even) (list-taken h .few) (sym onRows) rises
+      (taken _ (eachByItself Values beats values) beatsOld valuesOld (length beats) _ _ (rw (eq-eqb (length beats) (length values) (list-taken h .even))) (omega (arith, long, room)) (sym long)
       (copied-over-front beats beatsOld (omega (arith, room)) ∙ ap (λ (l : List Float). laid l beatsOld) (sym (first-entries beats (map narrow values) even)))
       (each-over-front narrow values valuesOld (omega (arith, room, list-taken h .even)) ∙ ap (λ (l : List Float). laid l valuesOld) (sym (second-entries beats (map narrow values) even))))

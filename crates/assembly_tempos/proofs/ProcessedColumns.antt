@@ -30,6 +30,7 @@ use Rattle.assembly_tempos.specs.AssembledTempos.{assembledTempos, assem
 use Rattle.assembly_tempos.specs.inside.ProcessedColumns.{Processed, listsOf}
 use Rattle.assembly_tempos.proofs.OnRows.{held-laid, on-row-held}
 use Rattle.assembly_tempos.proofs.RowsFit.{fit-number}
+use Rattle.assembly_rows.specs.declared.Meaning.the-variants.{Lengths, Values}
 
 -- a list that fits is no longer than its room
 fitting : (count room : ℕ) → roomNumber 0 count room ≡ 0 → count ≤ room
@@ -52,13 +53,13 @@ module _ (columns : ThreeColumns) (offset : Float) (p : Processed columns) where
   tempos-count : length (assembledTempos (listsOf columns offset)) ≡ length (columns .tempos .beats)
   tempos-count = length-map (entries (columns .tempos .beats) (columns .tempos .values)) narrowedEntry ∙ length-entries (columns .tempos .beats) (columns .tempos .values) (p .tempos)
 
-  stops-are : assembledStops (listsOf columns offset) ≡ assembledRows (changeBy false) (columns .stops .beats) (columns .stops .values)
+  stops-are : assembledStops (listsOf columns offset) ≡ assembledRows (changeBy Values) (columns .stops .beats) (columns .stops .values)
   unfolding assembledRows
   stops-are =
       let even = list-taken (p .stops) .even in
       rw (first-entries (columns .stops .beats) (columns .stops .values) even, second-entries (columns .stops .beats) (columns .stops .values) even, p .onRows, map-id (columns .stops .values))
 
-  warps-are : assembledWarps (listsOf columns offset) ≡ assembledRows (changeBy true) (columns .warps .beats) (columns .warps .values)
+  warps-are : assembledWarps (listsOf columns offset) ≡ assembledRows (changeBy Lengths) (columns .warps .beats) (columns .warps .values)
   warps-are = rw (first-entries (columns .warps .beats) (columns .warps .values) (p .even), second-entries (columns .warps .beats) (columns .warps .values) (p .even))
 
   pub warps-count : length (entries (columns .warps .beats) (columns .warps .values)) ≡ length (columns .warps .beats)
@@ -67,10 +68,10 @@ module _ (columns : ThreeColumns) (offset : Float) (p : Processed columns) where
   module _ (few : length (columns .warps .beats) ≤ 1024) where
     -- the numbers of the rooms, as they are asked
     pub rooms-are : (tempoRoom stopRoom warpRoom : ℕ)
-        → lower (lower (pick (leb (length (columns .tempos .beats)) tempoRoom) 0 7) (pick (rowsFit false (columns .stops .beats) (columns .stops .values) stopRoom) 0 7)) (pick (rowsFit true (columns .warps .beats) (columns .warps .values) warpRoom) 0 7)
+        → lower (lower (pick (leb (length (columns .tempos .beats)) tempoRoom) 0 7) (pick (rowsFit Values (columns .stops .beats) (columns .stops .values) stopRoom) 0 7)) (pick (rowsFit Lengths (columns .warps .beats) (columns .warps .values) warpRoom) 0 7)
         ≡ threeRooms (listsOf columns offset) tempoRoom stopRoom warpRoom
     rooms-are tempoRoom stopRoom warpRoom =
-        rw (fit-number false (columns .stops .beats) (columns .stops .values) stopRoom (p .stops), fit-number true (columns .warps .beats) (columns .warps .values) warpRoom (p .warps few), stops-are, warps-are, tempos-count)
+        rw (fit-number Values (columns .stops .beats) (columns .stops .values) stopRoom (p .stops), fit-number Lengths (columns .warps .beats) (columns .warps .values) warpRoom (p .warps few), stops-are, warps-are, tempos-count)
         (unfold roomNumber in refl)
 
   -- rooms that hold the three lists: each is laid
@@ -85,19 +86,19 @@ module _ (columns : ThreeColumns) (offset : Float) (p : Processed columns) where
         (seconds ∙ each-over-front narrow (columns .tempos .values) secondOld (omega (arith, fits, p .tempos)) ∙ ap (λ (l : List Float). laid l secondOld) (sym (narrowed-seconds (columns .tempos .beats) (columns .tempos .values) (p .tempos))))
 
     pub stops-laid : {outcome : Outcome} → fitNumber (assembledStops (listsOf columns offset)) (roomFor firstOld secondOld) ≡ 0
-        → RowsUntested false (columns .stops .beats) (columns .stops .values) outcome firstOld firstNew secondOld secondNew
+        → RowsUntested Values (columns .stops .beats) (columns .stops .values) outcome firstOld firstNew secondOld secondNew
         → LaidList 0 (assembledStops (listsOf columns offset)) (outcome .count) firstOld firstNew secondOld secondNew
     stops-laid {outcome} fit q =
         let q′ : LaidPair 0 (assembledStops (listsOf columns offset)) outcome firstOld firstNew secondOld secondNew =
-        rw stops-are (rw (quantized-taken (columns .stops .beats) (columns .stops .values) false (p .stops)) at (untested-taken (columns .stops .beats) (columns .stops .values) false (p .stops) q)) in
+        rw stops-are (rw (quantized-taken (columns .stops .beats) (columns .stops .values) Values (p .stops)) at (untested-taken (columns .stops .beats) (columns .stops .values) Values (p .stops) q)) in
         list-of-pair q′ (q′ .number ∙ fit)
 
     pub warps-laid : {outcome : Outcome} → length (columns .warps .beats) ≤ 1024 → fitNumber (assembledWarps (listsOf columns offset)) (roomFor firstOld secondOld) ≡ 0
-        → RowsUntested true (columns .warps .beats) (columns .warps .values) outcome firstOld firstNew secondOld secondNew
+        → RowsUntested Lengths (columns .warps .beats) (columns .warps .values) outcome firstOld firstNew secondOld secondNew
         → LaidList 0 (assembledWarps (listsOf columns offset)) (outcome .count) firstOld firstNew secondOld secondNew
     warps-laid {outcome} few fit q =
         let q′ : LaidPair 0 (assembledWarps (listsOf columns offset)) outcome firstOld firstNew secondOld secondNew =
-        rw warps-are (rw (quantized-taken (columns .warps .beats) (columns .warps .values) true (p .warps few)) at (untested-taken (columns .warps .beats) (columns .warps .values) true (p .warps few) q)) in
+        rw warps-are (rw (quantized-taken (columns .warps .beats) (columns .warps .values) Lengths (p .warps few)) at (untested-taken (columns .warps .beats) (columns .warps .values) Lengths (p .warps few) q)) in
         list-of-pair q′ (q′ .number ∙ fit)
 
 pub record AllFit (later tempos stops warps : ℕ) : Type 0 where

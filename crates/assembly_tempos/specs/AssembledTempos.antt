@@ -20,6 +20,7 @@ use Rattle.process.specs.ByFormat.{ThreeLists}
 use Rattle.assembly_rows.specs.AssembledRows.{narrowedEntry, changeBy, assembledRows}
 use Rattle.assembly_warps.specs.LentLists.{ThreeColumns}
 use Rattle.assembly_tempos.specs.declared.AssembledTempos.{AssembledTempos}
+use Rattle.assembly_rows.specs.declared.Meaning.the-variants.{Lengths}
 
 -- ---- the lists, of what processing leaves
 
@@ -33,7 +34,7 @@ assembledStops lists = map narrowedEntry (tidyRows (map first (lists .stops)) (m
 
 -- warps, given and made, as any list of lengths
 abbrev pub assembledWarps : ThreeLists → List (Float × Float)
-assembledWarps lists = assembledRows (changeBy true) (map first (lists .warps)) (map second (lists .warps))
+assembledWarps lists = assembledRows (changeBy Lengths) (map first (lists .warps)) (map second (lists .warps))
 
 -- ---- the number
 

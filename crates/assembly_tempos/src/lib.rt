@@ -1,4 +1,5 @@
 // Assembly of tempos, stops and warps: processed by format, the made warps behind the given ones, tidied, and written as f32.
+use assembly_rows::Meaning;
 use chart::TimingFormat;
 use columns::Outcome;
 ghost use mathlib.Core.Path.{_≡_};
@@ -6,11 +7,10 @@ ghost use mathlib.Core.Bool.{true, false};
 ghost use mathlib.Core.List.{map};
 ghost use Prim.Native.Nat.{_≤_, min};
 ghost use lib.ListN.{length};
-ghost use lib.Ieee.{Float, lt};
+ghost use lib.Ieee.{Float};
 ghost use Rattle.rows.specs.Rows.{quantized};
 ghost use Rattle.ieee.specs.Narrowing.{narrow};
-ghost use Rattle.limits.specs.Numbers.{miss, every};
-ghost use Rattle.limits.specs.Neighbours.{everyTwo};
+ghost use Rattle.limits.specs.Numbers.{every};
 ghost use Rattle.columns.specs.Each.{laidEach};
 ghost use Rattle.tidy_rows.specs.RowTidying.{rowsNumber};
 ghost use Rattle.assembly_rows.specs.AssembledRows.{RowsUntested};
@@ -69,31 +69,22 @@ fn rooms_number(
         ⌜ ((offset : Float) → r ≡ threeRooms (listsOf columns offset) «tempo_room» «stop_room» «warp_room») ⌝ }
 {
     let tempos = limits::no_room(tempo_beats.len() <= tempo_room);
-    let stops = limits::no_room(assembly_rows::rows_fit(stop_beats, stop_values, false, stop_room));
-    let warps = limits::no_room(assembly_rows::rows_fit(warp_beats, warp_lengths, true, warp_room));
+    let stops = limits::no_room(assembly_rows::rows_fit(
+        stop_beats,
+        stop_values,
+        Meaning::Values,
+        stop_room,
+    ));
+    let warps = limits::no_room(assembly_rows::rows_fit(
+        warp_beats,
+        warp_lengths,
+        Meaning::Lengths,
+        warp_room,
+    ));
     limits::lower_of(limits::lower_of(tempos, stops), warps)
 }
 
 // ---- tempos and stops: beats are on rows, each an f32 already, and so are SM's values
-
-fn not_below(beat: f64, next: f64) -> usize
-    ensures { λ r. ⌜ r ≡ miss (λ (e : Float × Float). lt (e .0) (e .1)) (beat, next) ⌝ }
-{
-    if beat < next { 0 } else { 1 }
-}
-
-// Whether each beat is below the next: a loop that counts those that are not has no branch.
-fn rise(beats: &[f64]) -> bool
-    ensures { λ r. ⌜ r ≡ everyTwo lt (now (beats .entry)) ⌝ }
-{
-    let mut fail: usize = 0;
-    let mut i = 0;
-    while i + 1 < beats.len() {
-        fail += not_below(beats[i], beats[i + 1]);
-        i += 1;
-    }
-    fail == 0
-}
 
 // Each number as an f32, in which it loses nothing.
 fn cast_column(from: &[f64], to: &mut [f32])
@@ -115,7 +106,7 @@ fn narrow_values(format: TimingFormat, from: &[f64], to: &mut [f32])
 {
     match format {
         TimingFormat::Sm => cast_column(from, to),
-        TimingFormat::Ssc => assembly_rows::narrow_column(from, to),
+        TimingFormat::Ssc => columns_each::narrow_column(from, to),
     }
 }
 
@@ -129,12 +120,18 @@ fn assemble_stops(
 ) -> Outcome
     requires { ⌜ (rowsNumber (now beats) (now values) ≡ 0) × (map quantized (now beats) ≡ now beats) × Held format (now values) ⌝ }
     ensures { λ r.
-        ⌜ RowsUntested false beats.entry.now values.entry.now r «out_beats».entry.now «out_beats».exit.now «out_values».entry.now «out_values».exit.now ⌝ }
+        ⌜ RowsUntested Meaning.Values beats.entry.now values.entry.now r «out_beats».entry.now «out_beats».exit.now «out_values».entry.now «out_values».exit.now ⌝ }
 {
     if beats.len() > columns::room_of(out_beats.len(), out_values.len()) {
-        return assembly_rows::assemble_untested(beats, values, false, out_beats, out_values);
+        return assembly_rows::assemble_untested(
+            beats,
+            values,
+            Meaning::Values,
+            out_beats,
+            out_values,
+        );
     }
-    if rise(beats) {
+    if columns_order::rise(beats) {
         cast_column(beats, out_beats);
         narrow_values(format, values, out_values);
         return Outcome {
@@ -142,7 +139,7 @@ fn assemble_stops(
             count: beats.len(),
         };
     }
-    assembly_rows::assemble_untested(beats, values, false, out_beats, out_values)
+    assembly_rows::assemble_untested(beats, values, Meaning::Values, out_beats, out_values)
 }
 
 // ---- the three lists
@@ -209,7 +206,7 @@ fn lay_lists(
     let warps = assembly_rows::assemble_untested(
         warp_beats,
         warp_lengths,
-        true,
+        Meaning::Lengths,
         out_warp_beats,
         out_warp_lengths,
     );

@@ -98,7 +98,7 @@ fn lesser(a: usize, b: usize) -> usize
 // The nearest whole number of each f64.
 #[no_mangle]
 pub extern "C" fn marrighentu_each_lrint_f64(from: &[f64], to: &mut [i32])
-    ensures { λ _. ⌜ now (to .exit) ≡ laidEach (λ (x : Float). hold (rint x)) (now (from .entry)) (now (to .entry)) ⌝ }
+    ensures { λ _. ⌜ to.exit.now ≡ laidEach (λ (x : Float). hold (rint x)) from.entry.now to.entry.now ⌝ }
 {
     let n = lesser(from.len(), to.len());
     let mut i = 0;
@@ -111,7 +111,7 @@ pub extern "C" fn marrighentu_each_lrint_f64(from: &[f64], to: &mut [i32])
 // The nearest whole number of each f32.
 #[no_mangle]
 pub extern "C" fn marrighentu_each_lrint_f32(from: &[f32], to: &mut [i32])
-    ensures { λ _. ⌜ now (to .exit) ≡ laidEach (λ (x : Float). hold (rint x)) (now (from .entry)) (now (to .entry)) ⌝ }
+    ensures { λ _. ⌜ to.exit.now ≡ laidEach (λ (x : Float). hold (rint x)) from.entry.now to.entry.now ⌝ }
 {
     let n = lesser(from.len(), to.len());
     let mut i = 0;
@@ -124,20 +124,15 @@ pub extern "C" fn marrighentu_each_lrint_f32(from: &[f32], to: &mut [i32])
 // The nearest f32 of each f64.
 #[no_mangle]
 pub extern "C" fn marrighentu_each_narrow_f64(from: &[f64], to: &mut [f32])
-    ensures { λ _. ⌜ now (to .exit) ≡ laidEach narrow (now (from .entry)) (now (to .entry)) ⌝ }
+    ensures { λ _. ⌜ to.exit.now ≡ laidEach narrow from.entry.now to.entry.now ⌝ }
 {
-    let n = lesser(from.len(), to.len());
-    let mut i = 0;
-    while i < n {
-        to[i] = ieee::narrow_f64(from[i]);
-        i += 1;
-    }
+    columns_each::narrow_column(from, to);
 }
 
 // The beat of each row.
 #[no_mangle]
 pub extern "C" fn marrighentu_each_note_row_to_beat(rows: &[i32], beats: &mut [f64])
-    ensures { λ _. ⌜ now (beats .exit) ≡ laidEach (beatOf binary64) (now (rows .entry)) (now (beats .entry)) ⌝ }
+    ensures { λ _. ⌜ beats.exit.now ≡ laidEach (beatOf binary64) rows.entry.now beats.entry.now ⌝ }
 {
     let n = lesser(rows.len(), beats.len());
     let mut i = 0;
@@ -150,7 +145,7 @@ pub extern "C" fn marrighentu_each_note_row_to_beat(rows: &[i32], beats: &mut [f
 // The f32 beat of each row.
 #[no_mangle]
 pub extern "C" fn marrighentu_each_note_row_to_beat_f32(rows: &[i32], beats: &mut [f32])
-    ensures { λ _. ⌜ now (beats .exit) ≡ laidEach (beatOf binary32) (now (rows .entry)) (now (beats .entry)) ⌝ }
+    ensures { λ _. ⌜ beats.exit.now ≡ laidEach (beatOf binary32) rows.entry.now beats.entry.now ⌝ }
 {
     let n = lesser(rows.len(), beats.len());
     let mut i = 0;
@@ -163,7 +158,7 @@ pub extern "C" fn marrighentu_each_note_row_to_beat_f32(rows: &[i32], beats: &mu
 // The row of each beat.
 #[no_mangle]
 pub extern "C" fn marrighentu_each_beat_to_note_row(beats: &[f64], rows: &mut [i32])
-    ensures { λ _. ⌜ now (rows .exit) ≡ laidEach (row binary64) (now (beats .entry)) (now (rows .entry)) ⌝ }
+    ensures { λ _. ⌜ rows.exit.now ≡ laidEach (row binary64) beats.entry.now rows.entry.now ⌝ }
 {
     let n = lesser(beats.len(), rows.len());
     let mut i = 0;
@@ -176,7 +171,7 @@ pub extern "C" fn marrighentu_each_beat_to_note_row(beats: &[f64], rows: &mut [i
 // The row of each f32 beat.
 #[no_mangle]
 pub extern "C" fn marrighentu_each_beat_to_note_row_f32(beats: &[f32], rows: &mut [i32])
-    ensures { λ _. ⌜ now (rows .exit) ≡ laidEach (row binary32) (now (beats .entry)) (now (rows .entry)) ⌝ }
+    ensures { λ _. ⌜ rows.exit.now ≡ laidEach (row binary32) beats.entry.now rows.entry.now ⌝ }
 {
     let n = lesser(beats.len(), rows.len());
     let mut i = 0;
@@ -189,7 +184,7 @@ pub extern "C" fn marrighentu_each_beat_to_note_row_f32(beats: &[f32], rows: &mu
 // Each beat moved to its row.
 #[no_mangle]
 pub extern "C" fn marrighentu_each_quantize_beat(beats: &[f64], quantised: &mut [f64])
-    ensures { λ _. ⌜ now (quantised .exit) ≡ laidEach quantized (now (beats .entry)) (now (quantised .entry)) ⌝ }
+    ensures { λ _. ⌜ quantised.exit.now ≡ laidEach quantized beats.entry.now quantised.entry.now ⌝ }
 {
     let n = lesser(beats.len(), quantised.len());
     let mut i = 0;
@@ -202,7 +197,7 @@ pub extern "C" fn marrighentu_each_quantize_beat(beats: &[f64], quantised: &mut 
 // Each f32 beat moved to its row.
 #[no_mangle]
 pub extern "C" fn marrighentu_each_quantize_beat_f32(beats: &[f32], quantised: &mut [f32])
-    ensures { λ _. ⌜ now (quantised .exit) ≡ laidEach quantized32 (now (beats .entry)) (now (quantised .entry)) ⌝ }
+    ensures { λ _. ⌜ quantised.exit.now ≡ laidEach quantized32 beats.entry.now quantised.entry.now ⌝ }
 {
     let n = lesser(beats.len(), quantised.len());
     let mut i = 0;

@@ -6,8 +6,6 @@ ghost use Prim.Native.Nat.{ℕ, _≤_, _<_};
 ghost use lib.ListN.{length, getD};
 ghost use lib.Ieee.{Float, nan};
 ghost use Rattle.limits.specs.Table.{mostEntries};
-ghost use Rattle.limits.specs.Numbers.{miss};
-ghost use Rattle.limits.specs.Neighbours.{everyTwo, notFalling};
 ghost use Rattle.order.specs.Order.{laid};
 ghost use Rattle.columns.specs.Each.{laidEach};
 ghost use Rattle.clock_tests.specs.TimingNumbers.{beatNumber};
@@ -24,32 +22,13 @@ pub struct Displayed {
 
 // ---- the tests
 
-fn one_fall(beat: f32, next: f32) -> usize
-    ensures { λ r. ⌜ r ≡ miss (λ (e : Float × Float). notFalling (e .0) (e .1)) (beat, next) ⌝ }
-{
-    if next < beat { 1 } else { 0 }
-}
-
-// Whether no beat is above the next. All falls are counted, which a loop does for several entries at a time.
-fn never_fall(beats: &[f32]) -> bool
-    ensures { λ r. ⌜ r ≡ everyTwo notFalling beats.entry.now ⌝ }
-{
-    let mut falls: usize = 0;
-    let mut i = 0;
-    while i + 1 < beats.len() {
-        falls += one_fall(beats[i], beats[i + 1]);
-        i += 1;
-    }
-    falls == 0
-}
-
 // What the scrolls answer by themselves: 1, 2, 3 or 4, 5 where their beats fall, and 0 where they are taken.
 fn scroll_columns_number(scroll_beats: &[f32], scroll_ratios: &[f32]) -> u32
     ensures { λ r. ⌜ r ≡ scrollColumnsNumber «scroll_beats».entry.now «scroll_ratios».entry.now ⌝ }
 {
     let number = limits_f32::list_number_f32(Kind::Beat, Kind::Value, scroll_beats, scroll_ratios);
     if number == limits::TAKEN {
-        if never_fall(scroll_beats) {
+        if columns_order::never_fall_f32(scroll_beats) {
             return limits::TAKEN;
         }
         return limits::NOT_RISING;

@@ -1,6 +1,6 @@
 -- What each format's processing leaves is the outcome by format: SSC's has no warps and leaves their rooms alone, and tempos that are not given count as one. Assumes nothing.
-use Prim.Native.Nat.{ℕ, zero, suc, _≤_}
-use mathlib.Core.Path.{_≡_, refl, sym, ap, _∙_}
+use Prim.Native.Nat.{ℕ, zero, suc}
+use mathlib.Core.Path.{_≡_, refl, sym, _∙_}
 use mathlib.Core.Bool.{Bool, true, false}
 use mathlib.Core.List.{List, [], _∷_}
 use native.Mathlib.Omega.{arith}
@@ -16,11 +16,13 @@ use Rattle.order.specs.Order.{laid}
 use Rattle.columns.specs.Laying.{roomNumber, LaidList}
 use Rattle.columns.proofs.Rooms.{number-of-tests, number-taken, list-refused, list-laid}
 use Rattle.process_raw.specs.declared.Processed.{Processed}
-use Rattle.process_raw.specs.RawLists.{rawNumber, rawNumbers}
-use Rattle.process_ssc.specs.Ssc.{SscProcessed}
+use Rattle.chart.specs.ChartColumns.{ListColumns}
+use Rattle.process_raw.specs.LentLists.{TwoColumns, twoColumns, ThreeColumns}
+use Rattle.process_raw.specs.RawLists.{rawNumber, rawNumbers, rawNumbersOf}
+use Rattle.process_ssc.specs.Ssc.{SscLaid}
 use Rattle.chart.specs.declared.TimingFormat.{TimingFormat}
-use Rattle.chart.specs.declared.TimingFormat.the-variants.{Sm, Ssc}
-use Rattle.process.specs.ByFormat.{noneGiven, tempoBeatsOf, tempoValuesOf, listsBy, processedLists, ListsLaid, ProcessedBy}
+use Rattle.chart.specs.declared.TimingFormat.the-variants.{Ssc}
+use Rattle.process.specs.ByFormat.{noneGiven, tempoBeatsOf, tempoValuesOf, listsBy, listsByOf, processedLists, ThreeListsLaid, ProcessedBy}
 
 -- ---- no warps: no number of their own, and nothing written
 
@@ -37,14 +39,15 @@ no-offset : (t : Bool) → plusZero ≡ pick t plusZero plusZero
 no-offset true = refl
 no-offset false = refl
 
-module _ {tempoBeats tempoValues stopBeats stopValues : List Float} {outcome : Processed} {tempoBeatsOld tempoBeatsNew tempoValuesOld tempoValuesNew stopBeatsOld stopBeatsNew stopValuesOld stopValuesNew : List Float} (warpBeats warpLengths : List Float) where
-  pub ssc-laid : SscProcessed tempoBeats tempoValues stopBeats stopValues outcome tempoBeatsOld tempoBeatsNew tempoValuesOld tempoValuesNew stopBeatsOld stopBeatsNew stopValuesOld stopValuesNew
-      → ListsLaid (rawNumbers tempoBeats tempoValues stopBeats stopValues) (listsBy Ssc tempoBeats tempoValues stopBeats stopValues) outcome tempoBeatsOld tempoBeatsNew tempoValuesOld tempoValuesNew stopBeatsOld stopBeatsNew stopValuesOld stopValuesNew warpBeats warpBeats warpLengths warpLengths
+module _ {raw : TwoColumns} {outcome : Processed} {old new : TwoColumns} (warps : ListColumns) where
+  pub ssc-laid : SscLaid raw outcome old new
+      → ThreeListsLaid (rawNumbersOf raw) (listsByOf Ssc raw) outcome
+      (record { tempos = old .tempos; stops = old .stops; warps = warps }) (record { tempos = new .tempos; stops = new .stops; warps = warps })
   ssc-laid p = record {
     number = rw none-fits (p .number);
     temposLaid = p .tempos;
     stopsLaid = p .stops;
-    warpsLaid = none-laid (outcome .number) (outcome .warps) (p .warps) warpBeats warpLengths;
+    warpsLaid = none-laid (outcome .number) (outcome .warps) (p .warps) (warps .beats) (warps .values);
     offsetIs = p .offset ∙ no-offset (eqb (outcome .number) 0);
   }
 
@@ -79,13 +82,13 @@ module _ (format : TimingFormat) (stopBeats stopValues : List Float) where
   number-sixty [] (v ∷ values) h k = absurd (omega arith)
   number-sixty (b ∷ beats) values h k = absurd (omega arith)
 
-module _ (format : TimingFormat) (tempoBeats tempoValues stopBeats stopValues : List Float) {outcome : Processed} {tempoBeatsOld tempoBeatsNew tempoValuesOld tempoValuesNew stopBeatsOld stopBeatsNew stopValuesOld stopValuesNew warpBeatsOld warpBeatsNew warpLengthsOld warpLengthsNew : List Float} where
+module _ (format : TimingFormat) (tempoBeats tempoValues stopBeats stopValues : List Float) {outcome : Processed} {old new : ThreeColumns} where
   pub as-given : (length tempoBeats ≡ 0 → length tempoValues ≡ 0 → ⊥)
-      → ListsLaid (rawNumbers tempoBeats tempoValues stopBeats stopValues) (listsBy format tempoBeats tempoValues stopBeats stopValues) outcome tempoBeatsOld tempoBeatsNew tempoValuesOld tempoValuesNew stopBeatsOld stopBeatsNew stopValuesOld stopValuesNew warpBeatsOld warpBeatsNew warpLengthsOld warpLengthsNew
-      → ProcessedBy format tempoBeats tempoValues stopBeats stopValues outcome tempoBeatsOld tempoBeatsNew tempoValuesOld tempoValuesNew stopBeatsOld stopBeatsNew stopValuesOld stopValuesNew warpBeatsOld warpBeatsNew warpLengthsOld warpLengthsNew
+      → ThreeListsLaid (rawNumbers tempoBeats tempoValues stopBeats stopValues) (listsBy format tempoBeats tempoValues stopBeats stopValues) outcome old new
+      → ProcessedBy format (twoColumns tempoBeats tempoValues stopBeats stopValues) outcome old new
   as-given h p = rw (lists-given format stopBeats stopValues tempoBeats tempoValues h) p
 
   pub as-sixty : length tempoBeats ≡ 0 → length tempoValues ≡ 0
-      → ListsLaid (rawNumbers (plusZero ∷ []) (sixty ∷ []) stopBeats stopValues) (listsBy format (plusZero ∷ []) (sixty ∷ []) stopBeats stopValues) outcome tempoBeatsOld tempoBeatsNew tempoValuesOld tempoValuesNew stopBeatsOld stopBeatsNew stopValuesOld stopValuesNew warpBeatsOld warpBeatsNew warpLengthsOld warpLengthsNew
-      → ProcessedBy format tempoBeats tempoValues stopBeats stopValues outcome tempoBeatsOld tempoBeatsNew tempoValuesOld tempoValuesNew stopBeatsOld stopBeatsNew stopValuesOld stopValuesNew warpBeatsOld warpBeatsNew warpLengthsOld warpLengthsNew
+      → ThreeListsLaid (rawNumbers (plusZero ∷ []) (sixty ∷ []) stopBeats stopValues) (listsBy format (plusZero ∷ []) (sixty ∷ []) stopBeats stopValues) outcome old new
+      → ProcessedBy format (twoColumns tempoBeats tempoValues stopBeats stopValues) outcome old new
   as-sixty h k p = rw (number-sixty format stopBeats stopValues tempoBeats tempoValues h k, lists-sixty format stopBeats stopValues tempoBeats tempoValues h k) p

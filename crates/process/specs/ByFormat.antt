@@ -8,7 +8,8 @@ use lib.Ieee.{Float}
 use Rattle.ieee.specs.Constants.{plusZero, sixty}
 use Rattle.picks.specs.Pick.{pick}
 use Rattle.process_raw.specs.declared.Processed.{Processed}
-use Rattle.process_raw.specs.RawLists.{rawNumbers}
+use Rattle.process_raw.specs.LentLists.{TwoColumns, ThreeColumns, threeColumns}
+use Rattle.process_raw.specs.RawLists.{rawNumbersOf}
 use Rattle.process_ssc.specs.Ssc as ssc
 use Rattle.process_sm_changes.specs.SmChanges.{smChanges}
 use Rattle.process_sm_walk.specs.Chart.{offsetOf}
@@ -56,13 +57,28 @@ unfoldable pub processedLists : TimingFormat → (tempoBeats tempoValues stopBea
 processedLists format tempoBeats tempoValues stopBeats stopValues =
     listsBy format (tempoBeatsOf tempoBeats tempoValues) (tempoValuesOf tempoBeats tempoValues) stopBeats stopValues
 
--- lists of processing under one number: that of the tests, then 7 where one is longer than its room
-abbrev pub ListsLaid : ℕ → ThreeLists → Processed
-    → (tempoBeatsOld tempoBeatsNew tempoValuesOld tempoValuesNew stopBeatsOld stopBeatsNew stopValuesOld stopValuesNew warpBeatsOld warpBeatsNew warpLengthsOld warpLengthsNew : List Float) → Type 0
-ListsLaid tests lists outcome = ProcessedLaid tests (lists .tempos) (lists .stops) (lists .warps) (lists .offset) outcome
+-- ---- the one outcome of the call
 
--- the one outcome of the call
-abbrev pub ProcessedBy : TimingFormat → (tempoBeats tempoValues stopBeats stopValues : List Float) → Processed
-    → (tempoBeatsOld tempoBeatsNew tempoValuesOld tempoValuesNew stopBeatsOld stopBeatsNew stopValuesOld stopValuesNew warpBeatsOld warpBeatsNew warpLengthsOld warpLengthsNew : List Float) → Type 0
-ProcessedBy format tempoBeats tempoValues stopBeats stopValues outcome =
-    ListsLaid (rawNumbers tempoBeats tempoValues stopBeats stopValues) (processedLists format tempoBeats tempoValues stopBeats stopValues) outcome
+-- lists of processing under one number: that of the tests, then 7 where one is longer than its room
+abbrev pub ThreeListsLaid : ℕ → ThreeLists → Processed → (old new : ThreeColumns) → Type 0
+ThreeListsLaid tests lists outcome old new = ProcessedLaid tests (lists .tempos) (lists .stops) (lists .warps) (lists .offset) outcome old new
+
+abbrev pub listsByOf : TimingFormat → TwoColumns → ThreeLists
+listsByOf format raw = listsBy format (raw .tempos .beats) (raw .tempos .values) (raw .stops .beats) (raw .stops .values)
+
+abbrev pub processedListsOf : TimingFormat → TwoColumns → ThreeLists
+processedListsOf format raw = processedLists format (raw .tempos .beats) (raw .tempos .values) (raw .stops .beats) (raw .stops .values)
+
+abbrev pub ProcessedBy : TimingFormat → TwoColumns → Processed → (old new : ThreeColumns) → Type 0
+ProcessedBy format raw outcome old new = ThreeListsLaid (rawNumbersOf raw) (processedListsOf format raw) outcome old new
+
+-- lists laid, by the columns themselves
+abbrev pub ListsLaid : ℕ → ThreeLists → Processed
+    → (tempoBeatsOld tempoBeatsNew tempoValuesOld tempoValuesNew stopBeatsOld stopBeatsNew stopValuesOld stopValuesNew : List Float)
+    → (warpBeatsOld warpBeatsNew warpLengthsOld warpLengthsNew : List Float) → Type 0
+ListsLaid tests lists outcome
+    tempoBeatsOld tempoBeatsNew tempoValuesOld tempoValuesNew stopBeatsOld stopBeatsNew stopValuesOld stopValuesNew
+    warpBeatsOld warpBeatsNew warpLengthsOld warpLengthsNew =
+    ThreeListsLaid tests lists outcome
+    (threeColumns tempoBeatsOld tempoValuesOld stopBeatsOld stopValuesOld warpBeatsOld warpLengthsOld)
+    (threeColumns tempoBeatsNew tempoValuesNew stopBeatsNew stopValuesNew warpBeatsNew warpLengthsNew)

@@ -1,9 +1,9 @@
 // Raw tempos and stops, processed by the format of the chart.
 use chart::TimingFormat;
 use process_raw::Processed;
-ghost use mathlib.Core.Path.{_≡_};
-ghost use Rattle.process_raw.specs.RawLists.{rawNumbers};
-ghost use Rattle.process.specs.ByFormat.{listsBy, ListsLaid, ProcessedBy};
+ghost use Rattle.process_raw.specs.LentLists.{twoColumns, lentThree, threeBefore, threeAfter};
+ghost use Rattle.process_raw.specs.RawLists.{rawNumbersOf};
+ghost use Rattle.process.specs.ByFormat.{listsByOf, ThreeListsLaid, ProcessedBy};
 
 fn process_given(
     format: TimingFormat,
@@ -18,7 +18,10 @@ fn process_given(
     out_warp_beats: &mut [f64],
     out_warp_lengths: &mut [f64],
 ) -> Processed
-    ensures { λ r. ⌜ ListsLaid (rawNumbers (now («tempo_beats» .entry)) (now («tempo_values» .entry)) (now («stop_beats» .entry)) (now («stop_values» .entry))) (listsBy format (now («tempo_beats» .entry)) (now («tempo_values» .entry)) (now («stop_beats» .entry)) (now («stop_values» .entry))) r (now («out_tempo_beats» .entry)) (now («out_tempo_beats» .exit)) (now («out_tempo_values» .entry)) (now («out_tempo_values» .exit)) (now («out_stop_beats» .entry)) (now («out_stop_beats» .exit)) (now («out_stop_values» .entry)) (now («out_stop_values» .exit)) (now («out_warp_beats» .entry)) (now («out_warp_beats» .exit)) (now («out_warp_lengths» .entry)) (now («out_warp_lengths» .exit)) ⌝ }
+    ensures { λ r.
+        let raw = twoColumns «tempo_beats».entry.now «tempo_values».entry.now «stop_beats».entry.now «stop_values».entry.now in
+        let rooms = lentThree «out_tempo_beats» «out_tempo_values» «out_stop_beats» «out_stop_values» «out_warp_beats» «out_warp_lengths» in
+        ⌜ ThreeListsLaid (rawNumbersOf raw) (listsByOf format raw) r (threeBefore rooms) (threeAfter rooms) ⌝ }
 {
     match format {
         TimingFormat::Sm => process_sm::process_bpms_and_stops_sm(
@@ -60,7 +63,10 @@ pub fn process_bpms_and_stops(
     out_warp_beats: &mut [f64],
     out_warp_lengths: &mut [f64],
 ) -> Processed
-    ensures { λ r. ⌜ ProcessedBy format (now («tempo_beats» .entry)) (now («tempo_values» .entry)) (now («stop_beats» .entry)) (now («stop_values» .entry)) r (now («out_tempo_beats» .entry)) (now («out_tempo_beats» .exit)) (now («out_tempo_values» .entry)) (now («out_tempo_values» .exit)) (now («out_stop_beats» .entry)) (now («out_stop_beats» .exit)) (now («out_stop_values» .entry)) (now («out_stop_values» .exit)) (now («out_warp_beats» .entry)) (now («out_warp_beats» .exit)) (now («out_warp_lengths» .entry)) (now («out_warp_lengths» .exit)) ⌝ }
+    ensures { λ r.
+        let raw = twoColumns «tempo_beats».entry.now «tempo_values».entry.now «stop_beats».entry.now «stop_values».entry.now in
+        let rooms = lentThree «out_tempo_beats» «out_tempo_values» «out_stop_beats» «out_stop_values» «out_warp_beats» «out_warp_lengths» in
+        ⌜ ProcessedBy format raw r (threeBefore rooms) (threeAfter rooms) ⌝ }
 {
     if tempo_beats.len() == 0 {
         if tempo_values.len() == 0 {

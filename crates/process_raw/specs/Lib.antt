@@ -1,3 +1,4 @@
+pub mod LentLists
 pub mod RawLists
 pub mod ProcessedLaid
 pub mod inside

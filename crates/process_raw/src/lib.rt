@@ -33,7 +33,7 @@ pub fn number_of(
     stop_beats: &[f64],
     stop_values: &[f64],
 ) -> u32
-    ensures { λ r. ⌜ r ≡ rawNumbers (now («tempo_beats» .entry)) (now («tempo_values» .entry)) (now («stop_beats» .entry)) (now («stop_values» .entry)) ⌝ }
+    ensures { λ r. ⌜ r ≡ rawNumbers «tempo_beats».entry.now «tempo_values».entry.now «stop_beats».entry.now «stop_values».entry.now ⌝ }
 {
     let tempos = limits::list_number(Kind::RawBeat, Kind::RawTempo, tempo_beats, tempo_values);
     let stops = limits::list_number(Kind::RawBeat, Kind::RawTempo, stop_beats, stop_values);

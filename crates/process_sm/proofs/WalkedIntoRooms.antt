@@ -1,6 +1,6 @@
 -- Stops and warps that the walk has written into their rooms, and tempos tidied: the one outcome of processing. Assumes nothing.
 use Prim.Native.Nat.{ℕ, _≤_, max, min}
-use mathlib.Core.Path.{_≡_, refl, sym, ap, _∙_}
+use mathlib.Core.Path.{_≡_, refl, sym, _∙_}
 use mathlib.Core.List.{List, map}
 use native.Mathlib.Omega.{arith}
 use native.Mathlib.Nat.{max-le, le-max-left, le-max-right}
@@ -12,12 +12,13 @@ use Rattle.order.specs.Entries.{first, second}
 use Rattle.columns.specs.declared.Outcome.{Outcome}
 use Rattle.columns.specs.Laying.{given, columnLaid, LaidPair}
 use Rattle.columns.proofs.Rooms.{number-taken}
+use Rattle.process_raw.specs.LentLists.{twoColumns, threeColumns}
 use Rattle.process_raw.specs.RawLists.{rawNumbers, processedNothing, roomFor}
 use Rattle.process_raw.proofs.BothTaken.{both-taken}
 use Rattle.process_sm_changes.specs.SmChanges.{smChanges}
 use Rattle.process_sm_walk.specs.declared.Walked.{Walked}
-use Rattle.process_sm_walk.specs.Chart.{Output, offsetOf}
-use Rattle.process_sm_walk.specs.Columns.{Columns, columns, mostWritten}
+use Rattle.process_sm_walk.specs.Chart.{Output}
+use Rattle.process_sm_walk.specs.Columns.{Columns, columns}
 use Rattle.process_sm_walk.specs.Walking.{WalkLaid}
 use Rattle.process_sm_walk.proofs.Lengths.{Bounded}
 use Rattle.tidy_tempos.specs.TempoTidying.{tidyTempos}
@@ -31,7 +32,7 @@ use Rattle.process_sm_walk_raw.proofs.Numbers.{number-with-room}
 use Rattle.tidy_tempos.specs.TempoTidying.{tidiedTempos}
 use Rattle.process_sm_lent.proofs.Ends.{by-tests, taken}
 use Rattle.process_sm_lent.proofs.WalkedColumns.{Fronts, walked-fronts}
-use Rattle.process_sm.specs.inside.Rooms.{WalkRooms, RoomsHold, ResultRooms}
+use Rattle.process_sm.specs.inside.Rooms.{WalkRooms, ResultRooms}
 use Rattle.process_sm.specs.Sm.{SmProcessed}
 use Rattle.process_sm.proofs.FewTidied.{few-tidied}
 use Rattle.process_sm.proofs.WorkRoom.{room-for}
@@ -42,20 +43,20 @@ unfolding given laid
 untouched number field list column h = rw (ne-eqb number 0 h)
 
 module _ (tb tv sb sv wtb wtv otb otv osb osv owb owl : List Float)
-    (rooms : ResultRooms tb sb otb otv osb osv owb owl) (work : rawNumbers tb tv sb sv ≡ 0 → max (length tb) 1 ≤ min (length wtb) (length wtv)) where
+    (rooms : ResultRooms (length tb) (length sb) (threeColumns otb otv osb osv owb owl)) (work : rawNumbers tb tv sb sv ≡ 0 → max (length tb) 1 ≤ min (length wtb) (length wtv)) where
   abbrev old : Columns
   old = columns wtb wtv osb osv owb owl
 
   abbrev out : Output
   out = smWritten tb tv sb sv
 
-  work-rooms : WalkRooms tb tv sb sv wtb wtv osb osv owb owl
+  work-rooms : WalkRooms (twoColumns tb tv sb sv) old
   work-rooms = record { tempos = work; stops = λ h. rooms .stopsFit; warps = λ h. rooms .warpsFit }
 
   number-is : walkedNumber tb tv sb sv old ≡ rawNumbers tb tv sb sv
   number-is = number-with-room tb tv sb sv old (room-for tb tv sb sv work-rooms)
 
-  module _ (walked : Walked) (new : Columns) (w : RawWalked tb tv sb sv walked old new) where
+  module _ (walked : Walked) (new : Columns) (w : RawWalked (twoColumns tb tv sb sv) walked old new) where
     pub number-walked : walked .number ≡ rawNumbers tb tv sb sv
     number-walked = w .number ∙ number-is
 

@@ -5,6 +5,7 @@ use native.Mathlib.Omega.{arith}
 use native.Mathlib.Nat.{le-max-left, le-max-right, max-le, min-le-left, min-le-right}
 use lib.ListN.{length}
 use lib.Ieee.{Float}
+use Rattle.process_raw.specs.LentLists.{twoColumns, ThreeColumns}
 use Rattle.process_raw.specs.RawLists.{rawNumbers}
 use Rattle.process_raw.proofs.BothTaken.{both-taken}
 use Rattle.process_sm_changes.specs.SmChanges.{smChanges}
@@ -15,10 +16,10 @@ use Rattle.process_sm_laws.proofs.ChangesTaken.{few-changes}
 use Rattle.process_raw.specs.declared.Processed.{Processed}
 use Rattle.process_sm_walk_raw.proofs.Numbers.{number-with-room}
 use Rattle.process_sm_lent.specs.Lent.{LentLaid}
-use Rattle.process_sm.specs.Sm.{SmProcessed}
+use Rattle.process_sm.specs.Sm.{SmLaid}
 
 -- room for the walk
-pub room-for : (tb tv sb sv : List Float) {wtb wtv wsb wsv wwb wwl : List Float} → WalkRooms tb tv sb sv wtb wtv wsb wsv wwb wwl → rawNumbers tb tv sb sv ≡ 0
+pub room-for : (tb tv sb sv : List Float) {wtb wtv wsb wsv wwb wwl : List Float} → WalkRooms (twoColumns tb tv sb sv) (columns wtb wtv wsb wsv wwb wwl) → rawNumbers tb tv sb sv ≡ 0
     → Room (mostWritten (length (smChanges tb tv)) (length (smChanges sb sv))) (columns wtb wtv wsb wsv wwb wwl)
 room-for tb tv sb sv {wtb} {wtv} {wsb} {wsv} {wwb} {wwl} w h =
     let both = both-taken h in
@@ -36,6 +37,7 @@ room-for tb tv sb sv {wtb} {wtv} {wsb} {wsv} {wwb} {wwl} w h =
     }
 
 -- by the tests of both lists, where the work columns have room
-pub with-room : {tb tv sb sv : List Float} {outcome : Processed} {wtb wtv wsb wsv wwb wwl : List Float} {new : Columns} {a a′ b b′ c c′ d d′ e e′ f f′ : List Float}
-    → LentLaid tb tv sb sv outcome (columns wtb wtv wsb wsv wwb wwl) new a a′ b b′ c c′ d d′ e e′ f f′ → WalkRooms tb tv sb sv wtb wtv wsb wsv wwb wwl → SmProcessed tb tv sb sv outcome a a′ b b′ c c′ d d′ e e′ f f′
+pub with-room : {tb tv sb sv : List Float} {outcome : Processed} {wtb wtv wsb wsv wwb wwl : List Float} {workNew : Columns} {old new : ThreeColumns}
+    → LentLaid (twoColumns tb tv sb sv) outcome (columns wtb wtv wsb wsv wwb wwl) workNew old new
+    → WalkRooms (twoColumns tb tv sb sv) (columns wtb wtv wsb wsv wwb wwl) → SmLaid (twoColumns tb tv sb sv) outcome old new
 with-room {tb} {tv} {sb} {sv} {outcome} {wtb} {wtv} {wsb} {wsv} {wwb} {wwl} p w = rw (number-with-room tb tv sb sv (columns wtb wtv wsb wsv wwb wwl) (room-for tb tv sb sv w)) at (p .lists)

@@ -5,7 +5,8 @@ ghost use mathlib.Core.Bool.{true};
 ghost use Prim.Native.Nat.{_≤_, _+_, _<_, _^_, max, min};
 ghost use lib.ListN.{length};
 ghost use Rattle.process_raw.specs.RawLists.{rawNumbers};
-ghost use Rattle.process_sm.specs.Sm.{SmProcessed};
+ghost use Rattle.process_raw.specs.LentLists.{twoColumns, threeColumns, lentThree, threeBefore, threeAfter};
+ghost use Rattle.process_sm.specs.Sm.{SmLaid};
 ghost use Rattle.process_sm.specs.inside.Rooms.{RoomsHold, ResultRooms};
 
 // ---- where every room holds the most that the lists come to: stops and warps are written into their rooms by the walk itself
@@ -47,9 +48,15 @@ fn process_into(
     out_warp_beats: &mut [f64],
     out_warp_lengths: &mut [f64],
 ) -> Processed
-    requires { ⌜ ResultRooms (now «tempo_beats») (now «stop_beats») (now «out_tempo_beats») (now «out_tempo_values») (now «out_stop_beats») (now «out_stop_values») (now «out_warp_beats») (now «out_warp_lengths») ⌝ }
-    requires { ⌜ (rawNumbers (now «tempo_beats») (now «tempo_values») (now «stop_beats») (now «stop_values») ≡ 0 → max (length (now «tempo_beats»)) 1 ≤ min (length (now «walked_beats»)) (length (now «walked_values»))) ⌝ }
-    ensures { λ r. ⌜ SmProcessed (now («tempo_beats» .entry)) (now («tempo_values» .entry)) (now («stop_beats» .entry)) (now («stop_values» .entry)) r (now («out_tempo_beats» .entry)) (now («out_tempo_beats» .exit)) (now («out_tempo_values» .entry)) (now («out_tempo_values» .exit)) (now («out_stop_beats» .entry)) (now («out_stop_beats» .exit)) (now («out_stop_values» .entry)) (now («out_stop_values» .exit)) (now («out_warp_beats» .entry)) (now («out_warp_beats» .exit)) (now («out_warp_lengths» .entry)) (now («out_warp_lengths» .exit)) ⌝ }
+    requires { let rooms = threeColumns «out_tempo_beats».now «out_tempo_values».now
+        «out_stop_beats».now «out_stop_values».now «out_warp_beats».now «out_warp_lengths».now in
+        ⌜ ResultRooms (length «tempo_beats».now) (length «stop_beats».now) rooms ⌝ }
+    requires { let number = rawNumbers «tempo_beats».now «tempo_values».now «stop_beats».now «stop_values».now in
+        ⌜ (number ≡ 0 → max (length «tempo_beats».now) 1 ≤ min (length «walked_beats».now) (length «walked_values».now)) ⌝ }
+    ensures { λ r.
+        let raw = twoColumns «tempo_beats».entry.now «tempo_values».entry.now «stop_beats».entry.now «stop_values».entry.now in
+        let rooms = lentThree «out_tempo_beats» «out_tempo_values» «out_stop_beats» «out_stop_values» «out_warp_beats» «out_warp_lengths» in
+        ⌜ SmLaid raw r (threeBefore rooms) (threeAfter rooms) ⌝ }
 {
     let walked = process_sm_walk_raw::walk_raw(
         tempo_beats,
@@ -95,9 +102,14 @@ fn into_few(
     out_warp_beats: &mut [f64],
     out_warp_lengths: &mut [f64],
 ) -> Processed
-    requires { ⌜ length (now «tempo_beats») ≤ 64 ⌝ }
-    requires { ⌜ ResultRooms (now «tempo_beats») (now «stop_beats») (now «out_tempo_beats») (now «out_tempo_values») (now «out_stop_beats») (now «out_stop_values») (now «out_warp_beats») (now «out_warp_lengths») ⌝ }
-    ensures { λ r. ⌜ SmProcessed (now («tempo_beats» .entry)) (now («tempo_values» .entry)) (now («stop_beats» .entry)) (now («stop_values» .entry)) r (now («out_tempo_beats» .entry)) (now («out_tempo_beats» .exit)) (now («out_tempo_values» .entry)) (now («out_tempo_values» .exit)) (now («out_stop_beats» .entry)) (now («out_stop_beats» .exit)) (now («out_stop_values» .entry)) (now («out_stop_values» .exit)) (now («out_warp_beats» .entry)) (now («out_warp_beats» .exit)) (now («out_warp_lengths» .entry)) (now («out_warp_lengths» .exit)) ⌝ }
+    requires { ⌜ length «tempo_beats».now ≤ 64 ⌝ }
+    requires { let rooms = threeColumns «out_tempo_beats».now «out_tempo_values».now
+        «out_stop_beats».now «out_stop_values».now «out_warp_beats».now «out_warp_lengths».now in
+        ⌜ ResultRooms (length «tempo_beats».now) (length «stop_beats».now) rooms ⌝ }
+    ensures { λ r.
+        let raw = twoColumns «tempo_beats».entry.now «tempo_values».entry.now «stop_beats».entry.now «stop_values».entry.now in
+        let rooms = lentThree «out_tempo_beats» «out_tempo_values» «out_stop_beats» «out_stop_values» «out_warp_beats» «out_warp_lengths» in
+        ⌜ SmLaid raw r (threeBefore rooms) (threeAfter rooms) ⌝ }
 {
     let mut walked_beats = [0.0; limits::FEW];
     let mut walked_values = [0.0; limits::FEW];
@@ -130,8 +142,13 @@ fn into_many(
     out_warp_beats: &mut [f64],
     out_warp_lengths: &mut [f64],
 ) -> Processed
-    requires { ⌜ ResultRooms (now «tempo_beats») (now «stop_beats») (now «out_tempo_beats») (now «out_tempo_values») (now «out_stop_beats») (now «out_stop_values») (now «out_warp_beats») (now «out_warp_lengths») ⌝ }
-    ensures { λ r. ⌜ SmProcessed (now («tempo_beats» .entry)) (now («tempo_values» .entry)) (now («stop_beats» .entry)) (now («stop_values» .entry)) r (now («out_tempo_beats» .entry)) (now («out_tempo_beats» .exit)) (now («out_tempo_values» .entry)) (now («out_tempo_values» .exit)) (now («out_stop_beats» .entry)) (now («out_stop_beats» .exit)) (now («out_stop_values» .entry)) (now («out_stop_values» .exit)) (now («out_warp_beats» .entry)) (now («out_warp_beats» .exit)) (now («out_warp_lengths» .entry)) (now («out_warp_lengths» .exit)) ⌝ }
+    requires { let rooms = threeColumns «out_tempo_beats».now «out_tempo_values».now
+        «out_stop_beats».now «out_stop_values».now «out_warp_beats».now «out_warp_lengths».now in
+        ⌜ ResultRooms (length «tempo_beats».now) (length «stop_beats».now) rooms ⌝ }
+    ensures { λ r.
+        let raw = twoColumns «tempo_beats».entry.now «tempo_values».entry.now «stop_beats».entry.now «stop_values».entry.now in
+        let rooms = lentThree «out_tempo_beats» «out_tempo_values» «out_stop_beats» «out_stop_values» «out_warp_beats» «out_warp_lengths» in
+        ⌜ SmLaid raw r (threeBefore rooms) (threeAfter rooms) ⌝ }
 {
     let mut walked_beats = [0.0; limits::MOST_ENTRIES];
     let mut walked_values = [0.0; limits::MOST_ENTRIES];
@@ -163,8 +180,13 @@ fn into_rooms(
     out_warp_beats: &mut [f64],
     out_warp_lengths: &mut [f64],
 ) -> Processed
-    requires { ⌜ ResultRooms (now «tempo_beats») (now «stop_beats») (now «out_tempo_beats») (now «out_tempo_values») (now «out_stop_beats») (now «out_stop_values») (now «out_warp_beats») (now «out_warp_lengths») ⌝ }
-    ensures { λ r. ⌜ SmProcessed (now («tempo_beats» .entry)) (now («tempo_values» .entry)) (now («stop_beats» .entry)) (now («stop_values» .entry)) r (now («out_tempo_beats» .entry)) (now («out_tempo_beats» .exit)) (now («out_tempo_values» .entry)) (now («out_tempo_values» .exit)) (now («out_stop_beats» .entry)) (now («out_stop_beats» .exit)) (now («out_stop_values» .entry)) (now («out_stop_values» .exit)) (now («out_warp_beats» .entry)) (now («out_warp_beats» .exit)) (now («out_warp_lengths» .entry)) (now («out_warp_lengths» .exit)) ⌝ }
+    requires { let rooms = threeColumns «out_tempo_beats».now «out_tempo_values».now
+        «out_stop_beats».now «out_stop_values».now «out_warp_beats».now «out_warp_lengths».now in
+        ⌜ ResultRooms (length «tempo_beats».now) (length «stop_beats».now) rooms ⌝ }
+    ensures { λ r.
+        let raw = twoColumns «tempo_beats».entry.now «tempo_values».entry.now «stop_beats».entry.now «stop_values».entry.now in
+        let rooms = lentThree «out_tempo_beats» «out_tempo_values» «out_stop_beats» «out_stop_values» «out_warp_beats» «out_warp_lengths» in
+        ⌜ SmLaid raw r (threeBefore rooms) (threeAfter rooms) ⌝ }
 {
     if tempo_beats.len() <= limits::FEW {
         return into_few(
@@ -214,8 +236,11 @@ fn process_few(
     out_warp_beats: &mut [f64],
     out_warp_lengths: &mut [f64],
 ) -> Processed
-    requires { ⌜ (length (now «tempo_beats») ≤ 64) × (length (now «stop_beats») ≤ 64) ⌝ }
-    ensures { λ r. ⌜ SmProcessed (now («tempo_beats» .entry)) (now («tempo_values» .entry)) (now («stop_beats» .entry)) (now («stop_values» .entry)) r (now («out_tempo_beats» .entry)) (now («out_tempo_beats» .exit)) (now («out_tempo_values» .entry)) (now («out_tempo_values» .exit)) (now («out_stop_beats» .entry)) (now («out_stop_beats» .exit)) (now («out_stop_values» .entry)) (now («out_stop_values» .exit)) (now («out_warp_beats» .entry)) (now («out_warp_beats» .exit)) (now («out_warp_lengths» .entry)) (now («out_warp_lengths» .exit)) ⌝ }
+    requires { ⌜ (length «tempo_beats».now ≤ 64) × (length «stop_beats».now ≤ 64) ⌝ }
+    ensures { λ r.
+        let raw = twoColumns «tempo_beats».entry.now «tempo_values».entry.now «stop_beats».entry.now «stop_values».entry.now in
+        let rooms = lentThree «out_tempo_beats» «out_tempo_values» «out_stop_beats» «out_stop_values» «out_warp_beats» «out_warp_lengths» in
+        ⌜ SmLaid raw r (threeBefore rooms) (threeAfter rooms) ⌝ }
 {
     let mut walked_tempo_beats = [0.0; limits::FEW];
     let mut walked_tempo_values = [0.0; limits::FEW];
@@ -255,7 +280,10 @@ fn process_by_columns(
     out_warp_beats: &mut [f64],
     out_warp_lengths: &mut [f64],
 ) -> Processed
-    ensures { λ r. ⌜ SmProcessed (now («tempo_beats» .entry)) (now («tempo_values» .entry)) (now («stop_beats» .entry)) (now («stop_values» .entry)) r (now («out_tempo_beats» .entry)) (now («out_tempo_beats» .exit)) (now («out_tempo_values» .entry)) (now («out_tempo_values» .exit)) (now («out_stop_beats» .entry)) (now («out_stop_beats» .exit)) (now («out_stop_values» .entry)) (now («out_stop_values» .exit)) (now («out_warp_beats» .entry)) (now («out_warp_beats» .exit)) (now («out_warp_lengths» .entry)) (now («out_warp_lengths» .exit)) ⌝ }
+    ensures { λ r.
+        let raw = twoColumns «tempo_beats».entry.now «tempo_values».entry.now «stop_beats».entry.now «stop_values».entry.now in
+        let rooms = lentThree «out_tempo_beats» «out_tempo_values» «out_stop_beats» «out_stop_values» «out_warp_beats» «out_warp_lengths» in
+        ⌜ SmLaid raw r (threeBefore rooms) (threeAfter rooms) ⌝ }
 {
     if tempo_beats.len() <= limits::FEW {
         if stop_beats.len() <= limits::FEW {
@@ -316,7 +344,10 @@ pub fn process_bpms_and_stops_sm(
     out_warp_beats: &mut [f64],
     out_warp_lengths: &mut [f64],
 ) -> Processed
-    ensures { λ r. ⌜ SmProcessed (now («tempo_beats» .entry)) (now («tempo_values» .entry)) (now («stop_beats» .entry)) (now («stop_values» .entry)) r (now («out_tempo_beats» .entry)) (now («out_tempo_beats» .exit)) (now («out_tempo_values» .entry)) (now («out_tempo_values» .exit)) (now («out_stop_beats» .entry)) (now («out_stop_beats» .exit)) (now («out_stop_values» .entry)) (now («out_stop_values» .exit)) (now («out_warp_beats» .entry)) (now («out_warp_beats» .exit)) (now («out_warp_lengths» .entry)) (now («out_warp_lengths» .exit)) ⌝ }
+    ensures { λ r.
+        let raw = twoColumns «tempo_beats».entry.now «tempo_values».entry.now «stop_beats».entry.now «stop_values».entry.now in
+        let rooms = lentThree «out_tempo_beats» «out_tempo_values» «out_stop_beats» «out_stop_values» «out_warp_beats» «out_warp_lengths» in
+        ⌜ SmLaid raw r (threeBefore rooms) (threeAfter rooms) ⌝ }
 {
     let tempo_room = columns::room_of(out_tempo_beats.len(), out_tempo_values.len());
     let stop_room = columns::room_of(out_stop_beats.len(), out_stop_values.len());

@@ -3,5 +3,4 @@ pub mod Narrowed
 pub mod SortedChanges
 pub mod Outcomes
 pub mod EachStays
-pub mod OrderSoFar
 pub mod OneOutcome

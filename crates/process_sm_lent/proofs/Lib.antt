@@ -1,3 +1,4 @@
+pub mod CopiedLists
 pub mod Ends
 pub mod WalkedColumns
 pub mod OneOutcome

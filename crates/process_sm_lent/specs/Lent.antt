@@ -1,14 +1,13 @@
 -- The one outcome of processing by way of lent work columns. Definitions only.
 use Prim.Native.Nat.{ℕ}
-use mathlib.Core.List.{List}
 use mathlib.Core.Path.{_≡_}
-use lib.Ieee.{Float}
 use Rattle.order.specs.Entries.{first, second}
 use Rattle.columns.specs.Laying.{columnLaid}
 use Rattle.process_raw.specs.declared.Processed.{Processed}
+use Rattle.process_raw.specs.LentLists.{TwoColumns, ThreeColumns}
 use Rattle.process_sm_walk.specs.Chart.{Output}
 use Rattle.process_sm_walk.specs.Columns.{Columns}
-use Rattle.process_sm_walk_raw.specs.RawWalk.{walkedNumber, smWritten}
+use Rattle.process_sm_walk_raw.specs.RawWalk.{walkedNumberOf, smWrittenOf}
 use Rattle.process_sm_lent.specs.Sm.{SmListsLaid}
 
 -- what the walk writes stands in the fronts of the work columns
@@ -21,9 +20,6 @@ pub record WorkLaid (number : ℕ) (out : Output) (old new : Columns) : Type 0 w
   pub warpLengths : new .warpLengths ≡ columnLaid second number (out .warps) (old .warpLengths)
 
 -- the tests are those of both lists, then 7 for the room of the work columns
-pub record LentLaid (tempoBeats tempoValues stopBeats stopValues : List Float) (outcome : Processed) (workOld workNew : Columns)
-    (tempoBeatsOld tempoBeatsNew tempoValuesOld tempoValuesNew stopBeatsOld stopBeatsNew stopValuesOld stopValuesNew warpBeatsOld warpBeatsNew warpLengthsOld warpLengthsNew : List Float) : Type 0 where
-  pub lists :
-      SmListsLaid (walkedNumber tempoBeats tempoValues stopBeats stopValues workOld) tempoBeats tempoValues stopBeats stopValues outcome
-      tempoBeatsOld tempoBeatsNew tempoValuesOld tempoValuesNew stopBeatsOld stopBeatsNew stopValuesOld stopValuesNew warpBeatsOld warpBeatsNew warpLengthsOld warpLengthsNew
-  pub work : WorkLaid (walkedNumber tempoBeats tempoValues stopBeats stopValues workOld) (smWritten tempoBeats tempoValues stopBeats stopValues) workOld workNew
+pub record LentLaid (raw : TwoColumns) (outcome : Processed) (workOld workNew : Columns) (old new : ThreeColumns) : Type 0 where
+  pub lists : SmListsLaid (walkedNumberOf raw workOld) raw outcome old new
+  pub work : WorkLaid (walkedNumberOf raw workOld) (smWrittenOf raw) workOld workNew

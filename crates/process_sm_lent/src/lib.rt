@@ -1,30 +1,18 @@
 // SM: the processing of raw tempos and stops by way of lent work columns.
 use process_raw::Processed;
 ghost use mathlib.Core.Path.{_≡_};
-ghost use Prim.Native.Nat.{_≤_};
 ghost use lib.ListN.{length};
 ghost use Rattle.limits.specs.declared.Kind.the-variants.{Beat, TidyTempo};
 ghost use Rattle.limits.specs.Numbers.{rangeOf};
 ghost use Rattle.limits.specs.Refusals.{listNumber};
-ghost use Rattle.order.specs.Order.{laid};
 ghost use Rattle.order.specs.Entries.{entries};
 ghost use Rattle.tidy_tempos.specs.TempoTidying.{tidyTempos};
-ghost use Rattle.process_sm_walk.specs.Columns.{columns};
+ghost use Rattle.process_sm_walk.specs.Columns.{columnsBefore, columnsAfter};
+ghost use Rattle.process_raw.specs.LentLists.{twoColumns, lentThree, threeBefore, threeAfter};
 ghost use Rattle.process_raw.specs.ProcessedLaid.{ProcessedLaid};
 ghost use Rattle.process_sm_lent.specs.Lent.{LentLaid};
 
 // ---- results into their rooms
-
-fn copy(from: &[f64], to: &mut [f64])
-    requires { ⌜ length (now from) ≤ length (now to) ⌝ }
-    ensures { λ _. ⌜ now (to .exit) ≡ laid (now (from .entry)) (now (to .entry)) ⌝ }
-{
-    let mut i = 0;
-    while i < from.len() {
-        to[i] = from[i];
-        i += 1;
-    }
-}
 
 // Tempos tidied, stops and warps as they are; or 7, and nothing is written.
 fn lay_results(
@@ -42,9 +30,14 @@ fn lay_results(
     out_warp_beats: &mut [f64],
     out_warp_lengths: &mut [f64],
 ) -> Processed
-    requires { ⌜ listNumber (rangeOf Beat) (rangeOf TidyTempo) (now «tempo_beats») (now «tempo_values») ≡ 0 ⌝ }
-    requires { ⌜ (length (now «stop_beats») ≡ length (now «stop_values»)) × (length (now «warp_beats») ≡ length (now «warp_lengths»)) ⌝ }
-    ensures { λ r. ⌜ ProcessedLaid 0 (tidyTempos (now («tempo_beats» .entry)) (now («tempo_values» .entry))) (entries (now («stop_beats» .entry)) (now («stop_values» .entry))) (entries (now («warp_beats» .entry)) (now («warp_lengths» .entry))) offset r (now («out_tempo_beats» .entry)) (now («out_tempo_beats» .exit)) (now («out_tempo_values» .entry)) (now («out_tempo_values» .exit)) (now («out_stop_beats» .entry)) (now («out_stop_beats» .exit)) (now («out_stop_values» .entry)) (now («out_stop_values» .exit)) (now («out_warp_beats» .entry)) (now («out_warp_beats» .exit)) (now («out_warp_lengths» .entry)) (now («out_warp_lengths» .exit)) ⌝ }
+    requires { ⌜ listNumber (rangeOf Beat) (rangeOf TidyTempo) «tempo_beats».now «tempo_values».now ≡ 0 ⌝ }
+    requires { ⌜ (length «stop_beats».now ≡ length «stop_values».now) × (length «warp_beats».now ≡ length «warp_lengths».now) ⌝ }
+    ensures { λ r.
+        let tempos = tidyTempos «tempo_beats».entry.now «tempo_values».entry.now in
+        let stops = entries «stop_beats».entry.now «stop_values».entry.now in
+        let warps = entries «warp_beats».entry.now «warp_lengths».entry.now in
+        let rooms = lentThree «out_tempo_beats» «out_tempo_values» «out_stop_beats» «out_stop_values» «out_warp_beats» «out_warp_lengths» in
+        ⌜ ProcessedLaid 0 tempos stops warps offset r (threeBefore rooms) (threeAfter rooms) ⌝ }
 {
     if stop_beats.len() > columns::room_of(out_stop_beats.len(), out_stop_values.len()) {
         return process_raw::refused(limits::NO_ROOM);
@@ -61,10 +54,10 @@ fn lay_results(
     if tempos.number != limits::TAKEN {
         return process_raw::refused(limits::NO_ROOM);
     }
-    copy(stop_beats, out_stop_beats);
-    copy(stop_values, out_stop_values);
-    copy(warp_beats, out_warp_beats);
-    copy(warp_lengths, out_warp_lengths);
+    columns::copy(stop_beats, out_stop_beats);
+    columns::copy(stop_values, out_stop_values);
+    columns::copy(warp_beats, out_warp_beats);
+    columns::copy(warp_lengths, out_warp_lengths);
     Processed {
         number: limits::TAKEN,
         tempos: tempos.count,
@@ -96,7 +89,11 @@ pub fn process_lent(
     out_warp_beats: &mut [f64],
     out_warp_lengths: &mut [f64],
 ) -> Processed
-    ensures { λ r. ⌜ LentLaid (now («tempo_beats» .entry)) (now («tempo_values» .entry)) (now («stop_beats» .entry)) (now («stop_values» .entry)) r (columns (now («walked_tempo_beats» .entry)) (now («walked_tempo_values» .entry)) (now («walked_stop_beats» .entry)) (now («walked_stop_values» .entry)) (now («walked_warp_beats» .entry)) (now («walked_warp_lengths» .entry))) (columns (now («walked_tempo_beats» .exit)) (now («walked_tempo_values» .exit)) (now («walked_stop_beats» .exit)) (now («walked_stop_values» .exit)) (now («walked_warp_beats» .exit)) (now («walked_warp_lengths» .exit))) (now («out_tempo_beats» .entry)) (now («out_tempo_beats» .exit)) (now («out_tempo_values» .entry)) (now («out_tempo_values» .exit)) (now («out_stop_beats» .entry)) (now («out_stop_beats» .exit)) (now («out_stop_values» .entry)) (now («out_stop_values» .exit)) (now («out_warp_beats» .entry)) (now («out_warp_beats» .exit)) (now («out_warp_lengths» .entry)) (now («out_warp_lengths» .exit)) ⌝ }
+    ensures { λ r.
+        let raw = twoColumns «tempo_beats».entry.now «tempo_values».entry.now «stop_beats».entry.now «stop_values».entry.now in
+        let work = lentThree «walked_tempo_beats» «walked_tempo_values» «walked_stop_beats» «walked_stop_values» «walked_warp_beats» «walked_warp_lengths» in
+        let rooms = lentThree «out_tempo_beats» «out_tempo_values» «out_stop_beats» «out_stop_values» «out_warp_beats» «out_warp_lengths» in
+        ⌜ LentLaid raw r (columnsBefore work) (columnsAfter work) (threeBefore rooms) (threeAfter rooms) ⌝ }
 {
     let walked = process_sm_walk_raw::walk_raw(
         tempo_beats,

@@ -85,7 +85,8 @@ openingPlaces tempos stops = record { tempo = max (temposBy0 tempos) 1; stop = s
 
 abbrev pub processed : List (Float × Float) → List (Float × Float) → Output
 processed tempos stops =
-    joined (writtenBy (openChart (openingTempo tempos))) (walkChanges (changesLeft tempos stops (openingPlaces tempos stops)) (openChart (openingTempo tempos) .state))
+    joined (writtenBy (openChart (openingTempo tempos)))
+    (walkChanges (changesLeft tempos stops (openingPlaces tempos stops)) (openChart (openingTempo tempos) .state))
 
 abbrev pub offsetOf : List (Float × Float) → Float
 offsetOf stops = takenOff plusZero32 stops

@@ -2,6 +2,7 @@
 use Prim.Native.Nat.{ℕ, _+_, max}
 use mathlib.Core.List.{List}
 use lib.Ieee.{Float}
+use Rattle.process_raw.specs.LentLists.{LentThree}
 use Rattle.process_sm_walk.specs.declared.Counts.{Counts}
 
 pub record Columns : Type 0 where
@@ -21,6 +22,19 @@ columns tempoBeats tempoValues stopBeats stopValues warpBeats warpLengths = reco
   warpBeats = warpBeats;
   warpLengths = warpLengths;
 }
+
+-- the columns of rooms that are lent to a call, as it begins and as it ends
+abbrev pub columnsBefore : LentThree → Columns
+columnsBefore rooms =
+    columns (rooms .tempos .beats .entry .now) (rooms .tempos .values .entry .now)
+    (rooms .stops .beats .entry .now) (rooms .stops .values .entry .now)
+    (rooms .warps .beats .entry .now) (rooms .warps .values .entry .now)
+
+abbrev pub columnsAfter : LentThree → Columns
+columnsAfter rooms =
+    columns (rooms .tempos .beats .exit .now) (rooms .tempos .values .exit .now)
+    (rooms .stops .beats .exit .now) (rooms .stops .values .exit .now)
+    (rooms .warps .beats .exit .now) (rooms .warps .values .exit .now)
 
 -- the most that a chart of so many tempos and stops writes
 abbrev pub mostWritten : ℕ → ℕ → Counts

@@ -23,7 +23,8 @@ isNumber x = eq x x
 
 -- room for so many of each list, by the room of each
 abbrev pub roomForCounts : Counts → (tempoRoom stopRoom warpRoom : ℕ) → Bool
-roomForCounts counts tempoRoom stopRoom warpRoom = pick (leb (counts .tempos) tempoRoom) (pick (leb (counts .stops) stopRoom) (leb (counts .warps) warpRoom) false) false
+roomForCounts counts tempoRoom stopRoom warpRoom =
+    pick (leb (counts .tempos) tempoRoom) (pick (leb (counts .stops) stopRoom) (leb (counts .warps) warpRoom) false) false
 
 -- the columns of a list have one room, the shorter
 unfoldable pub hasRoom : Counts → Columns → Bool

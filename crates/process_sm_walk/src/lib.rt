@@ -19,7 +19,8 @@ ghost use Rattle.process_sm_walk.specs.inside.NextChange.{headOf, advanc
 ghost use Rattle.process_sm_walk.specs.Changes.{changesLeft};
 ghost use Rattle.process_sm_walk.specs.Chart.{writtenList, writtenBy, writtenAt, walkChanges, stopsBefore, offsetOf, temposBy0, openingTempo, processed, Chart};
 ghost use Rattle.process_sm_walk.specs.inside.Opening.{firstValue};
-ghost use Rattle.process_sm_walk.specs.Columns.{columns, mostWritten};
+ghost use Rattle.process_raw.specs.LentLists.{lentThree};
+ghost use Rattle.process_sm_walk.specs.Columns.{columns, columnsBefore, columnsAfter, mostWritten};
 ghost use lib.Dec.{eqb};
 ghost use Rattle.picks.specs.Pick.{pick};
 ghost use Rattle.process_sm_walk.specs.Walking.{isNumber, roomForCounts, chartNumber, walkNumber, WalkLaid};
@@ -58,8 +59,8 @@ pub struct Walked {
 // ---- the order of the changes
 
 fn entry_at(beats: &[f32], values: &[f32], at: usize) -> Entry
-    requires { ⌜ (at < length (now beats)) × (at < length (now values)) ⌝ }
-    ensures { λ r. ⌜ r ≡ record { beat = getD (now (beats .entry)) at nan; value = getD (now (values .entry)) at nan } ⌝ }
+    requires { ⌜ (at < length beats.now) × (at < length values.now) ⌝ }
+    ensures { λ r. ⌜ r ≡ record { beat = getD beats.entry.now at nan; value = getD values.entry.now at nan } ⌝ }
 {
     Entry {
         beat: beats[at],
@@ -74,9 +75,12 @@ fn next_change(
     stop_values: &[f32],
     places: Places,
 ) -> Next
-    requires { ⌜ length (now «tempo_beats») ≡ length (now «tempo_values») ⌝ }
-    requires { ⌜ length (now «stop_beats») ≡ length (now «stop_values») ⌝ }
-    ensures { λ r. ⌜ r ≡ headOf (changesLeft (entries (now («tempo_beats» .entry)) (now («tempo_values» .entry))) (entries (now («stop_beats» .entry)) (now («stop_values» .entry))) places) ⌝ }
+    requires { ⌜ length «tempo_beats».now ≡ length «tempo_values».now ⌝ }
+    requires { ⌜ length «stop_beats».now ≡ length «stop_values».now ⌝ }
+    ensures { λ r.
+        let tempos = entries «tempo_beats».entry.now «tempo_values».entry.now in
+        let stops = entries «stop_beats».entry.now «stop_values».entry.now in
+        ⌜ r ≡ headOf (changesLeft tempos stops places) ⌝ }
 {
     let tempo_at = places.tempo;
     let stop_at = places.stop;
@@ -119,10 +123,10 @@ fn advance(places: Places, change: Change) -> Places
 // ---- writing
 
 fn put(beats: &mut [f64], values: &mut [f64], at: usize, what: Written) -> usize
-    requires { ⌜ (at + length (writtenList what) ≤ length (now beats)) × (at + length (writtenList what) ≤ length (now values)) ⌝ }
+    requires { ⌜ (at + length (writtenList what) ≤ length beats.now) × (at + length (writtenList what) ≤ length values.now) ⌝ }
     ensures { λ r. ⌜ r ≡ at + length (writtenList what) ⌝ }
-    ensures { λ r. ⌜ now (beats .exit) ≡ laidFrom at (map first (writtenList what)) (now (beats .entry)) ⌝ }
-    ensures { λ r. ⌜ now (values .exit) ≡ laidFrom at (map second (writtenList what)) (now (values .entry)) ⌝ }
+    ensures { λ r. ⌜ beats.exit.now ≡ laidFrom at (map first (writtenList what)) beats.entry.now ⌝ }
+    ensures { λ r. ⌜ values.exit.now ≡ laidFrom at (map second (writtenList what)) values.entry.now ⌝ }
 {
     match what {
         Written::Nothing => at,
@@ -144,9 +148,12 @@ fn write(
     counts: Counts,
     moved: Moved,
 ) -> Counts
-    requires { ⌜ Room (counted counts (writtenBy moved)) (columns (now «tempo_beats») (now «tempo_values») (now «stop_beats») (now «stop_values») (now «warp_beats») (now «warp_lengths»)) ⌝ }
+    requires { let rooms = columns «tempo_beats».now «tempo_values».now «stop_beats».now «stop_values».now «warp_beats».now «warp_lengths».now in
+        ⌜ Room (counted counts (writtenBy moved)) rooms ⌝ }
     ensures { λ r. ⌜ r ≡ counted counts (writtenBy moved) ⌝ }
-    ensures { λ r. ⌜ columns (now («tempo_beats» .exit)) (now («tempo_values» .exit)) (now («stop_beats» .exit)) (now («stop_values» .exit)) (now («warp_beats» .exit)) (now («warp_lengths» .exit)) ≡ writtenInto counts (writtenBy moved) (columns (now («tempo_beats» .entry)) (now («tempo_values» .entry)) (now («stop_beats» .entry)) (now («stop_values» .entry)) (now («warp_beats» .entry)) (now («warp_lengths» .entry))) ⌝ }
+    ensures { λ r.
+        let rooms = lentThree «tempo_beats» «tempo_values» «stop_beats» «stop_values» «warp_beats» «warp_lengths» in
+        ⌜ columnsAfter rooms ≡ writtenInto counts (writtenBy moved) (columnsBefore rooms) ⌝ }
 {
     let tempo = moved.tempo;
     let stop = moved.stop;
@@ -180,9 +187,12 @@ fn take_change(
     counts: Counts,
     change: Change,
 ) -> Standing
-    requires { ⌜ Room (counted counts (writtenAt state change)) (columns (now «tempo_beats») (now «tempo_values») (now «stop_beats») (now «stop_values») (now «warp_beats») (now «warp_lengths»)) ⌝ }
+    requires { let rooms = columns «tempo_beats».now «tempo_values».now «stop_beats».now «stop_values».now «warp_beats».now «warp_lengths».now in
+        ⌜ Room (counted counts (writtenAt state change)) rooms ⌝ }
     ensures { λ r. ⌜ r ≡ record { state = met state change .state; counts = counted counts (writtenAt state change) } ⌝ }
-    ensures { λ r. ⌜ columns (now («tempo_beats» .exit)) (now («tempo_values» .exit)) (now («stop_beats» .exit)) (now («stop_values» .exit)) (now («warp_beats» .exit)) (now («warp_lengths» .exit)) ≡ writtenInto counts (writtenAt state change) (columns (now («tempo_beats» .entry)) (now («tempo_values» .entry)) (now («stop_beats» .entry)) (now («stop_values» .entry)) (now («warp_beats» .entry)) (now («warp_lengths» .entry))) ⌝ }
+    ensures { λ r.
+        let rooms = lentThree «tempo_beats» «tempo_values» «stop_beats» «stop_values» «warp_beats» «warp_lengths» in
+        ⌜ columnsAfter rooms ≡ writtenInto counts (writtenAt state change) (columnsBefore rooms) ⌝ }
 {
     let passing = process_sm_machine::pass(state, process_sm_machine::beat_at(change));
     let midway = write(
@@ -231,12 +241,21 @@ fn run(
     opening: State,
     so_far: Counts,
 ) -> Counts
-    requires { ⌜ Chart (now «tempo_beats») (now «tempo_values») (now «stop_beats») (now «stop_values») ⌝ }
-    requires { ⌜ Reached (length (now «tempo_beats»)) (length (now «stop_beats»)) first ⌝ }
+    requires { ⌜ Chart «tempo_beats».now «tempo_values».now «stop_beats».now «stop_values».now ⌝ }
+    requires { ⌜ Reached (length «tempo_beats».now) (length «stop_beats».now) first ⌝ }
     requires { ⌜ WrittenWithin first opening «so_far» ⌝ }
-    requires { ⌜ Room (mostWritten (length (now «tempo_beats»)) (length (now «stop_beats»))) (columns (now «out_tempo_beats») (now «out_tempo_values») (now «out_stop_beats») (now «out_stop_values») (now «out_warp_beats») (now «out_warp_lengths»)) ⌝ }
-    ensures { λ r. ⌜ r ≡ counted «so_far» (walkChanges (changesLeft (entries (now («tempo_beats» .entry)) (now («tempo_values» .entry))) (entries (now («stop_beats» .entry)) (now («stop_values» .entry))) first) opening) ⌝ }
-    ensures { λ r. ⌜ columns (now («out_tempo_beats» .exit)) (now («out_tempo_values» .exit)) (now («out_stop_beats» .exit)) (now («out_stop_values» .exit)) (now («out_warp_beats» .exit)) (now («out_warp_lengths» .exit)) ≡ writtenInto «so_far» (walkChanges (changesLeft (entries (now («tempo_beats» .entry)) (now («tempo_values» .entry))) (entries (now («stop_beats» .entry)) (now («stop_values» .entry))) first) opening) (columns (now («out_tempo_beats» .entry)) (now («out_tempo_values» .entry)) (now («out_stop_beats» .entry)) (now («out_stop_values» .entry)) (now («out_warp_beats» .entry)) (now («out_warp_lengths» .entry))) ⌝ }
+    requires { let rooms = columns «out_tempo_beats».now «out_tempo_values».now
+        «out_stop_beats».now «out_stop_values».now «out_warp_beats».now «out_warp_lengths».now in
+        ⌜ Room (mostWritten (length «tempo_beats».now) (length «stop_beats».now)) rooms ⌝ }
+    ensures { λ r.
+        let tempos = entries «tempo_beats».entry.now «tempo_values».entry.now in
+        let stops = entries «stop_beats».entry.now «stop_values».entry.now in
+        ⌜ r ≡ counted «so_far» (walkChanges (changesLeft tempos stops first) opening) ⌝ }
+    ensures { λ r.
+        let tempos = entries «tempo_beats».entry.now «tempo_values».entry.now in
+        let stops = entries «stop_beats».entry.now «stop_values».entry.now in
+        let rooms = lentThree «out_tempo_beats» «out_tempo_values» «out_stop_beats» «out_stop_values» «out_warp_beats» «out_warp_lengths» in
+        ⌜ columnsAfter rooms ≡ writtenInto «so_far» (walkChanges (changesLeft tempos stops first) opening) (columnsBefore rooms) ⌝ }
 {
     let mut places = first;
     let mut state = opening;
@@ -286,7 +305,7 @@ fn both(one: bool, other: bool) -> bool
 }
 
 fn all_fit(tempos: &[f32], from: usize) -> bool
-    ensures { λ r. ⌜ r ≡ every fits (drop from (now (tempos .entry))) ⌝ }
+    ensures { λ r. ⌜ r ≡ every fits (drop from tempos.entry.now) ⌝ }
 {
     let mut so_far = true;
     let mut i = from;
@@ -304,7 +323,7 @@ fn is_pause(length: f32) -> bool
 }
 
 fn all_pause(stops: &[f32], from: usize) -> bool
-    ensures { λ r. ⌜ r ≡ every isPause (drop from (now (stops .entry))) ⌝ }
+    ensures { λ r. ⌜ r ≡ every isPause (drop from stops.entry.now) ⌝ }
 {
     let mut so_far = true;
     let mut i = from;
@@ -316,7 +335,7 @@ fn all_pause(stops: &[f32], from: usize) -> bool
 }
 
 fn no_warp(tempo_values: &[f32], stop_values: &[f32], first: Places, state: State) -> bool
-    ensures { λ r. ⌜ (r ≡ true → NoWarp (now («tempo_values» .entry)) (now («stop_values» .entry)) first state) ⌝ }
+    ensures { λ r. ⌜ (r ≡ true → NoWarp «tempo_values».entry.now «stop_values».entry.now first state) ⌝ }
 {
     let warp = state.warp;
     match warp {
@@ -339,11 +358,12 @@ fn lay_on_rows(
     out_values: &mut [f64],
     written: usize,
 ) -> usize
-    requires { ⌜ length (now beats) ≡ length (now values) ⌝ }
-    requires { ⌜ (written + length (rowed (now beats) (now values) from) ≤ length (now «out_beats»)) × (written + length (rowed (now beats) (now values) from) ≤ length (now «out_values»)) ⌝ }
-    ensures { λ r. ⌜ r ≡ written + length (rowed (now (beats .entry)) (now (values .entry)) from) ⌝ }
-    ensures { λ _. ⌜ now («out_beats» .exit) ≡ laidFrom written (map first (rowed (now (beats .entry)) (now (values .entry)) from)) (now («out_beats» .entry)) ⌝ }
-    ensures { λ _. ⌜ now («out_values» .exit) ≡ laidFrom written (map second (rowed (now (beats .entry)) (now (values .entry)) from)) (now («out_values» .entry)) ⌝ }
+    requires { ⌜ length beats.now ≡ length values.now ⌝ }
+    requires { let count = length (rowed beats.now values.now from) in
+        ⌜ (written + count ≤ length «out_beats».now) × (written + count ≤ length «out_values».now) ⌝ }
+    ensures { λ r. ⌜ r ≡ written + length (rowed beats.entry.now values.entry.now from) ⌝ }
+    ensures { λ _. ⌜ «out_beats».exit.now ≡ laidFrom written (map first (rowed beats.entry.now values.entry.now from)) «out_beats».entry.now ⌝ }
+    ensures { λ _. ⌜ «out_values».exit.now ≡ laidFrom written (map second (rowed beats.entry.now values.entry.now from)) «out_values».entry.now ⌝ }
 {
     let mut i = from;
     let mut count = written;
@@ -372,12 +392,21 @@ fn walk_on(
     opening: State,
     so_far: Counts,
 ) -> Counts
-    requires { ⌜ Chart (now «tempo_beats») (now «tempo_values») (now «stop_beats») (now «stop_values») ⌝ }
-    requires { ⌜ Reached (length (now «tempo_beats»)) (length (now «stop_beats»)) first ⌝ }
+    requires { ⌜ Chart «tempo_beats».now «tempo_values».now «stop_beats».now «stop_values».now ⌝ }
+    requires { ⌜ Reached (length «tempo_beats».now) (length «stop_beats».now) first ⌝ }
     requires { ⌜ WrittenWithin first opening «so_far» ⌝ }
-    requires { ⌜ Room (mostWritten (length (now «tempo_beats»)) (length (now «stop_beats»))) (columns (now «out_tempo_beats») (now «out_tempo_values») (now «out_stop_beats») (now «out_stop_values») (now «out_warp_beats») (now «out_warp_lengths»)) ⌝ }
-    ensures { λ r. ⌜ r ≡ counted «so_far» (walkChanges (changesLeft (entries (now («tempo_beats» .entry)) (now («tempo_values» .entry))) (entries (now («stop_beats» .entry)) (now («stop_values» .entry))) first) opening) ⌝ }
-    ensures { λ r. ⌜ columns (now («out_tempo_beats» .exit)) (now («out_tempo_values» .exit)) (now («out_stop_beats» .exit)) (now («out_stop_values» .exit)) (now («out_warp_beats» .exit)) (now («out_warp_lengths» .exit)) ≡ writtenInto «so_far» (walkChanges (changesLeft (entries (now («tempo_beats» .entry)) (now («tempo_values» .entry))) (entries (now («stop_beats» .entry)) (now («stop_values» .entry))) first) opening) (columns (now («out_tempo_beats» .entry)) (now («out_tempo_values» .entry)) (now («out_stop_beats» .entry)) (now («out_stop_values» .entry)) (now («out_warp_beats» .entry)) (now («out_warp_lengths» .entry))) ⌝ }
+    requires { let rooms = columns «out_tempo_beats».now «out_tempo_values».now
+        «out_stop_beats».now «out_stop_values».now «out_warp_beats».now «out_warp_lengths».now in
+        ⌜ Room (mostWritten (length «tempo_beats».now) (length «stop_beats».now)) rooms ⌝ }
+    ensures { λ r.
+        let tempos = entries «tempo_beats».entry.now «tempo_values».entry.now in
+        let stops = entries «stop_beats».entry.now «stop_values».entry.now in
+        ⌜ r ≡ counted «so_far» (walkChanges (changesLeft tempos stops first) opening) ⌝ }
+    ensures { λ r.
+        let tempos = entries «tempo_beats».entry.now «tempo_values».entry.now in
+        let stops = entries «stop_beats».entry.now «stop_values».entry.now in
+        let rooms = lentThree «out_tempo_beats» «out_tempo_values» «out_stop_beats» «out_stop_values» «out_warp_beats» «out_warp_lengths» in
+        ⌜ columnsAfter rooms ≡ writtenInto «so_far» (walkChanges (changesLeft tempos stops first) opening) (columnsBefore rooms) ⌝ }
 {
     if no_warp(tempo_values, stop_values, first, opening) {
         let tempos = lay_on_rows(
@@ -428,7 +457,7 @@ pub struct Opener {
 }
 
 fn first_tempo(values: &[f32]) -> f32
-    ensures { λ r. ⌜ r ≡ firstValue (now (values .entry)) ⌝ }
+    ensures { λ r. ⌜ r ≡ firstValue values.entry.now ⌝ }
 {
     if values.len() == 0 {
         return 60.0;
@@ -446,8 +475,10 @@ fn opener_at(tempo: f32, at: usize) -> Opener
 }
 
 fn opening_tempo(beats: &[f32], values: &[f32]) -> Opener
-    requires { ⌜ length (now beats) ≡ length (now values) ⌝ }
-    ensures { λ r. ⌜ r ≡ record { tempo = openingTempo (entries (now (beats .entry)) (now (values .entry))); used = max (temposBy0 (entries (now (beats .entry)) (now (values .entry)))) 1 } ⌝ }
+    requires { ⌜ length beats.now ≡ length values.now ⌝ }
+    ensures { λ r.
+        let list = entries beats.entry.now values.entry.now in
+        ⌜ r ≡ record { tempo = openingTempo list; used = max (temposBy0 list) 1 } ⌝ }
 {
     let mut tempo = first_tempo(values);
     let mut at = 0;
@@ -470,8 +501,10 @@ pub struct Early {
 }
 
 fn early_stops(beats: &[f32], values: &[f32]) -> Early
-    requires { ⌜ length (now beats) ≡ length (now values) ⌝ }
-    ensures { λ r. ⌜ r ≡ record { offset = offsetOf (entries (now (beats .entry)) (now (values .entry))); used = stopsBefore (entries (now (beats .entry)) (now (values .entry))) } ⌝ }
+    requires { ⌜ length beats.now ≡ length values.now ⌝ }
+    ensures { λ r.
+        let list = entries beats.entry.now values.entry.now in
+        ⌜ r ≡ record { offset = offsetOf list; used = stopsBefore list } ⌝ }
 {
     let mut offset: f32 = 0.0;
     let mut at = 0;
@@ -507,10 +540,19 @@ fn walk_chart(
     out_warp_beats: &mut [f64],
     out_warp_lengths: &mut [f64],
 ) -> Finished
-    requires { ⌜ Chart (now «tempo_beats») (now «tempo_values») (now «stop_beats») (now «stop_values») ⌝ }
-    requires { ⌜ Room (mostWritten (length (now «tempo_beats»)) (length (now «stop_beats»))) (columns (now «out_tempo_beats») (now «out_tempo_values») (now «out_stop_beats») (now «out_stop_values») (now «out_warp_beats») (now «out_warp_lengths»)) ⌝ }
-    ensures { λ r. ⌜ r ≡ record { offset = offsetOf (entries (now («stop_beats» .entry)) (now («stop_values» .entry))); counts = counted noneCounted (processed (entries (now («tempo_beats» .entry)) (now («tempo_values» .entry))) (entries (now («stop_beats» .entry)) (now («stop_values» .entry)))) } ⌝ }
-    ensures { λ r. ⌜ columns (now («out_tempo_beats» .exit)) (now («out_tempo_values» .exit)) (now («out_stop_beats» .exit)) (now («out_stop_values» .exit)) (now («out_warp_beats» .exit)) (now («out_warp_lengths» .exit)) ≡ writtenInto noneCounted (processed (entries (now («tempo_beats» .entry)) (now («tempo_values» .entry))) (entries (now («stop_beats» .entry)) (now («stop_values» .entry)))) (columns (now («out_tempo_beats» .entry)) (now («out_tempo_values» .entry)) (now («out_stop_beats» .entry)) (now («out_stop_values» .entry)) (now («out_warp_beats» .entry)) (now («out_warp_lengths» .entry))) ⌝ }
+    requires { ⌜ Chart «tempo_beats».now «tempo_values».now «stop_beats».now «stop_values».now ⌝ }
+    requires { let rooms = columns «out_tempo_beats».now «out_tempo_values».now
+        «out_stop_beats».now «out_stop_values».now «out_warp_beats».now «out_warp_lengths».now in
+        ⌜ Room (mostWritten (length «tempo_beats».now) (length «stop_beats».now)) rooms ⌝ }
+    ensures { λ r.
+        let tempos = entries «tempo_beats».entry.now «tempo_values».entry.now in
+        let stops = entries «stop_beats».entry.now «stop_values».entry.now in
+        ⌜ r ≡ record { offset = offsetOf stops; counts = counted noneCounted (processed tempos stops) } ⌝ }
+    ensures { λ r.
+        let tempos = entries «tempo_beats».entry.now «tempo_values».entry.now in
+        let stops = entries «stop_beats».entry.now «stop_values».entry.now in
+        let rooms = lentThree «out_tempo_beats» «out_tempo_values» «out_stop_beats» «out_stop_values» «out_warp_beats» «out_warp_lengths» in
+        ⌜ columnsAfter rooms ≡ writtenInto noneCounted (processed tempos stops) (columnsBefore rooms) ⌝ }
 {
     let opener = opening_tempo(tempo_beats, tempo_values);
     let early = early_stops(stop_beats, stop_values);
@@ -565,7 +607,7 @@ fn is_number(x: f32) -> bool
 }
 
 fn all_numbers(values: &[f32]) -> bool
-    ensures { λ r. ⌜ r ≡ every isNumber (now (values .entry)) ⌝ }
+    ensures { λ r. ⌜ r ≡ every isNumber values.entry.now ⌝ }
 {
     let mut so_far = true;
     let mut i = 0;
@@ -582,7 +624,7 @@ fn chart_number(
     stop_beats: &[f32],
     stop_values: &[f32],
 ) -> u32
-    ensures { λ r. ⌜ r ≡ chartNumber (now («tempo_beats» .entry)) (now («tempo_values» .entry)) (now («stop_beats» .entry)) (now («stop_values» .entry)) ⌝ }
+    ensures { λ r. ⌜ r ≡ chartNumber «tempo_beats».entry.now «tempo_values».entry.now «stop_beats».entry.now «stop_values».entry.now ⌝ }
 {
     if tempo_beats.len() == tempo_values.len() {
         if stop_beats.len() == stop_values.len() {
@@ -638,7 +680,10 @@ fn walk_number(
     stop_room: usize,
     warp_room: usize,
 ) -> u32
-    ensures { λ r. ⌜ r ≡ pick (eqb (chartNumber (now («tempo_beats» .entry)) (now («tempo_values» .entry)) (now («stop_beats» .entry)) (now («stop_values» .entry))) 0) (pick (roomForCounts (mostWritten (length (now («tempo_beats» .entry))) (length (now («stop_beats» .entry)))) «tempo_room» «stop_room» «warp_room») 0 7) (chartNumber (now («tempo_beats» .entry)) (now («tempo_values» .entry)) (now («stop_beats» .entry)) (now («stop_values» .entry))) ⌝ }
+    ensures { λ r.
+        let number = chartNumber «tempo_beats».entry.now «tempo_values».entry.now «stop_beats».entry.now «stop_values».entry.now in
+        let most = mostWritten (length «tempo_beats».entry.now) (length «stop_beats».entry.now) in
+        ⌜ r ≡ pick (eqb number 0) (pick (roomForCounts most «tempo_room» «stop_room» «warp_room») 0 7) number ⌝ }
 {
     let number = chart_number(tempo_beats, tempo_values, stop_beats, stop_values);
     if number == limits::TAKEN {
@@ -678,7 +723,12 @@ pub fn walk_changes(
     out_warp_beats: &mut [f64],
     out_warp_lengths: &mut [f64],
 ) -> Walked
-    ensures { λ r. ⌜ WalkLaid (entries (now («tempo_beats» .entry)) (now («tempo_values» .entry))) (entries (now («stop_beats» .entry)) (now («stop_values» .entry))) (walkNumber (now («tempo_beats» .entry)) (now («tempo_values» .entry)) (now («stop_beats» .entry)) (now («stop_values» .entry)) (columns (now («out_tempo_beats» .entry)) (now («out_tempo_values» .entry)) (now («out_stop_beats» .entry)) (now («out_stop_values» .entry)) (now («out_warp_beats» .entry)) (now («out_warp_lengths» .entry)))) r (columns (now («out_tempo_beats» .entry)) (now («out_tempo_values» .entry)) (now («out_stop_beats» .entry)) (now («out_stop_values» .entry)) (now («out_warp_beats» .entry)) (now («out_warp_lengths» .entry))) (columns (now («out_tempo_beats» .exit)) (now («out_tempo_values» .exit)) (now («out_stop_beats» .exit)) (now («out_stop_values» .exit)) (now («out_warp_beats» .exit)) (now («out_warp_lengths» .exit))) ⌝ }
+    ensures { λ r.
+        let tempos = entries «tempo_beats».entry.now «tempo_values».entry.now in
+        let stops = entries «stop_beats».entry.now «stop_values».entry.now in
+        let rooms = lentThree «out_tempo_beats» «out_tempo_values» «out_stop_beats» «out_stop_values» «out_warp_beats» «out_warp_lengths» in
+        let number = walkNumber «tempo_beats».entry.now «tempo_values».entry.now «stop_beats».entry.now «stop_values».entry.now (columnsBefore rooms) in
+        ⌜ WalkLaid tempos stops number r (columnsBefore rooms) (columnsAfter rooms) ⌝ }
 {
     let tempo_room = columns::room_of(out_tempo_beats.len(), out_tempo_values.len());
     let stop_room = columns::room_of(out_stop_beats.len(), out_stop_values.len());

@@ -6,6 +6,7 @@ use lib.ListN.{length}
 use lib.Ieee.{Float}
 use Rattle.limits.specs.Table.{noRoom}
 use Rattle.picks.specs.Pick.{pick}
+use Rattle.process_raw.specs.LentLists.{TwoColumns}
 use Rattle.process_raw.specs.RawLists.{rawNumbers}
 use Rattle.process_sm_changes.specs.SmChanges.{smChanges}
 use Rattle.process_sm_walk.specs.Chart.{Output, processed}
@@ -24,7 +25,15 @@ walkedNumber tempoBeats tempoValues stopBeats stopValues into =
     (pick (hasRoom (mostWritten (length (smChanges tempoBeats tempoValues)) (length (smChanges stopBeats stopValues))) into) 0 noRoom)
     (rawNumbers tempoBeats tempoValues stopBeats stopValues)
 
+-- ---- the same of raw columns
+
+abbrev pub smWrittenOf : TwoColumns → Output
+smWrittenOf raw = smWritten (raw .tempos .beats) (raw .tempos .values) (raw .stops .beats) (raw .stops .values)
+
+abbrev pub walkedNumberOf : TwoColumns → Columns → ℕ
+walkedNumberOf raw into = walkedNumber (raw .tempos .beats) (raw .tempos .values) (raw .stops .beats) (raw .stops .values) into
+
 -- the one outcome: what the walk lays of the changes of both lists
-abbrev pub RawWalked : (tempoBeats tempoValues stopBeats stopValues : List Float) → Walked → Columns → Columns → Type 0
-RawWalked tempoBeats tempoValues stopBeats stopValues outcome old new =
-    WalkLaid (smChanges tempoBeats tempoValues) (smChanges stopBeats stopValues) (walkedNumber tempoBeats tempoValues stopBeats stopValues old) outcome old new
+abbrev pub RawWalked : TwoColumns → Walked → (old new : Columns) → Type 0
+RawWalked raw outcome old new =
+    WalkLaid (smChanges (raw .tempos .beats) (raw .tempos .values)) (smChanges (raw .stops .beats) (raw .stops .values)) (walkedNumberOf raw old) outcome old new

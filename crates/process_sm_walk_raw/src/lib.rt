@@ -1,9 +1,9 @@
 // SM: both raw lists as changes, and what the walk makes of them.
 use process_sm_walk::Walked;
-ghost use mathlib.Core.Path.{_≡_};
 ghost use Prim.Native.Nat.{_≤_};
 ghost use lib.ListN.{length};
-ghost use Rattle.process_sm_walk.specs.Columns.{columns};
+ghost use Rattle.process_raw.specs.LentLists.{twoColumns, lentThree};
+ghost use Rattle.process_sm_walk.specs.Columns.{columnsBefore, columnsAfter};
 ghost use Rattle.process_sm_walk_raw.specs.RawWalk.{RawWalked};
 ghost use Rattle.process_sm_walk_raw.specs.inside.ChangeRooms.{ChangeRooms};
 
@@ -24,8 +24,13 @@ fn walk_in(
     walked_warp_beats: &mut [f64],
     walked_warp_lengths: &mut [f64],
 ) -> Walked
-    requires { ⌜ ChangeRooms (now «tempo_beats») (now «tempo_values») (now «stop_beats») (now «stop_values») (now «change_tempo_beats») (now «change_tempo_values») (now «change_stop_beats») (now «change_stop_values») ⌝ }
-    ensures { λ r. ⌜ RawWalked (now («tempo_beats» .entry)) (now («tempo_values» .entry)) (now («stop_beats» .entry)) (now («stop_values» .entry)) r (columns (now («walked_tempo_beats» .entry)) (now («walked_tempo_values» .entry)) (now («walked_stop_beats» .entry)) (now («walked_stop_values» .entry)) (now («walked_warp_beats» .entry)) (now («walked_warp_lengths» .entry))) (columns (now («walked_tempo_beats» .exit)) (now («walked_tempo_values» .exit)) (now («walked_stop_beats» .exit)) (now («walked_stop_values» .exit)) (now («walked_warp_beats» .exit)) (now («walked_warp_lengths» .exit))) ⌝ }
+    requires { let raw = twoColumns «tempo_beats».now «tempo_values».now «stop_beats».now «stop_values».now in
+        let rooms = twoColumns «change_tempo_beats».now «change_tempo_values».now «change_stop_beats».now «change_stop_values».now in
+        ⌜ ChangeRooms raw rooms ⌝ }
+    ensures { λ r.
+        let raw = twoColumns «tempo_beats».entry.now «tempo_values».entry.now «stop_beats».entry.now «stop_values».entry.now in
+        let rooms = lentThree «walked_tempo_beats» «walked_tempo_values» «walked_stop_beats» «walked_stop_values» «walked_warp_beats» «walked_warp_lengths» in
+        ⌜ RawWalked raw r (columnsBefore rooms) (columnsAfter rooms) ⌝ }
 {
     let tempos = process_sm_changes::sm_changes(
         tempo_beats,
@@ -78,8 +83,11 @@ fn walk_few(
     walked_warp_beats: &mut [f64],
     walked_warp_lengths: &mut [f64],
 ) -> Walked
-    requires { ⌜ (length (now «tempo_beats») ≤ 64) × (length (now «stop_beats») ≤ 64) ⌝ }
-    ensures { λ r. ⌜ RawWalked (now («tempo_beats» .entry)) (now («tempo_values» .entry)) (now («stop_beats» .entry)) (now («stop_values» .entry)) r (columns (now («walked_tempo_beats» .entry)) (now («walked_tempo_values» .entry)) (now («walked_stop_beats» .entry)) (now («walked_stop_values» .entry)) (now («walked_warp_beats» .entry)) (now («walked_warp_lengths» .entry))) (columns (now («walked_tempo_beats» .exit)) (now («walked_tempo_values» .exit)) (now («walked_stop_beats» .exit)) (now («walked_stop_values» .exit)) (now («walked_warp_beats» .exit)) (now («walked_warp_lengths» .exit))) ⌝ }
+    requires { ⌜ (length «tempo_beats».now ≤ 64) × (length «stop_beats».now ≤ 64) ⌝ }
+    ensures { λ r.
+        let raw = twoColumns «tempo_beats».entry.now «tempo_values».entry.now «stop_beats».entry.now «stop_values».entry.now in
+        let rooms = lentThree «walked_tempo_beats» «walked_tempo_values» «walked_stop_beats» «walked_stop_values» «walked_warp_beats» «walked_warp_lengths» in
+        ⌜ RawWalked raw r (columnsBefore rooms) (columnsAfter rooms) ⌝ }
 {
     let mut change_tempo_beats = [0.0f32; limits::FEW];
     let mut change_tempo_values = [0.0f32; limits::FEW];
@@ -117,7 +125,10 @@ pub fn walk_raw(
     walked_warp_beats: &mut [f64],
     walked_warp_lengths: &mut [f64],
 ) -> Walked
-    ensures { λ r. ⌜ RawWalked (now («tempo_beats» .entry)) (now («tempo_values» .entry)) (now («stop_beats» .entry)) (now («stop_values» .entry)) r (columns (now («walked_tempo_beats» .entry)) (now («walked_tempo_values» .entry)) (now («walked_stop_beats» .entry)) (now («walked_stop_values» .entry)) (now («walked_warp_beats» .entry)) (now («walked_warp_lengths» .entry))) (columns (now («walked_tempo_beats» .exit)) (now («walked_tempo_values» .exit)) (now («walked_stop_beats» .exit)) (now («walked_stop_values» .exit)) (now («walked_warp_beats» .exit)) (now («walked_warp_lengths» .exit))) ⌝ }
+    ensures { λ r.
+        let raw = twoColumns «tempo_beats».entry.now «tempo_values».entry.now «stop_beats».entry.now «stop_values».entry.now in
+        let rooms = lentThree «walked_tempo_beats» «walked_tempo_values» «walked_stop_beats» «walked_stop_values» «walked_warp_beats» «walked_warp_lengths» in
+        ⌜ RawWalked raw r (columnsBefore rooms) (columnsAfter rooms) ⌝ }
 {
     if tempo_beats.len() <= limits::FEW {
         if stop_beats.len() <= limits::FEW {

@@ -1,19 +1,22 @@
--- What is said of SSC's tempos and stops leaves one outcome: number, counts, offset and the four columns. Assumes nothing.
-use mathlib.Core.Path.{_≡_, sym}
-use mathlib.Core.List.{List}
-use lib.Ieee.{Float}
+-- What is said of SSC's tempos and stops leaves one outcome: number, counts, offset and both lists. Assumes nothing.
+use mathlib.Core.Path.{_≡_, sym, _∙_}
 use Rattle.columns.proofs.OneOutcome.{one-list}
 use Rattle.process_raw.specs.declared.Processed.{Processed}
-use Rattle.process_ssc.specs.Ssc.{SscProcessed}
+use Rattle.process_raw.specs.LentLists.{TwoColumns}
+use Rattle.process_ssc.specs.Ssc.{SscLaid}
 
-pub one-outcome : {tempoBeats tempoValues stopBeats stopValues : List Float} {a b : Processed}
-    {tempoBeatsOld tempoBeatsA tempoBeatsB tempoValuesOld tempoValuesA tempoValuesB stopBeatsOld stopBeatsA stopBeatsB stopValuesOld stopValuesA stopValuesB : List Float}
-    → SscProcessed tempoBeats tempoValues stopBeats stopValues a tempoBeatsOld tempoBeatsA tempoValuesOld tempoValuesA stopBeatsOld stopBeatsA stopValuesOld stopValuesA
-    → SscProcessed tempoBeats tempoValues stopBeats stopValues b tempoBeatsOld tempoBeatsB tempoValuesOld tempoValuesB stopBeatsOld stopBeatsB stopValuesOld stopValuesB
-    → (a ≡ b) × (tempoBeatsA ≡ tempoBeatsB) × (tempoValuesA ≡ tempoValuesB) × (stopBeatsA ≡ stopBeatsB) × (stopValuesA ≡ stopValuesB)
+pub one-outcome : {raw : TwoColumns} {a b : Processed} {old newA newB : TwoColumns}
+    → SscLaid raw a old newA → SscLaid raw b old newB
+    → (a ≡ b) × (newA ≡ newB)
 one-outcome {a = a} {b = b} x y =
-    let number : a .number ≡ b .number = cc in
+    let number : a .number ≡ b .number = x .number ∙ sym (y .number) in
     let tempos = one-list (x .tempos) (rw (sym number) at (y .tempos)) in
     let stops = one-list (x .stops) (rw (sym number) at (y .stops)) in
-    let same : _≡_ {A = Processed} (record { number = a .number; tempos = a .tempos; stops = a .stops; warps = a .warps; offset = a .offset }) (record { number = b .number; tempos = b .tempos; stops = b .stops; warps = b .warps; offset = b .offset }) = cc in
-    (same, tempos .1, tempos .2, stops .1, stops .2)
+    let warps = x .warps ∙ sym (y .warps) in
+    let offset = x .offset ∙ sym (y .offset) in (
+      λ i. record { number = number i; tempos = tempos .0 i; stops = stops .0 i; warps = warps i; offset = offset i },
+      λ i. record {
+        tempos = record { beats = tempos .1 i; values = tempos .2 i };
+        stops = record { beats = stops .1 i; values = stops .2 i };
+      },
+    )

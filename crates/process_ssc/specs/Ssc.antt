@@ -1,5 +1,4 @@
 -- The processing of raw tempos and stops in SSC. Definitions only.
-use Prim.Native.Nat.{ℕ}
 use mathlib.Core.Bool.{Bool, false}
 use mathlib.Core.List.{List, map}
 use mathlib.Core.Path.{_≡_}
@@ -11,10 +10,12 @@ use Rattle.picks.specs.Pick.{pick}
 use Rattle.rows.specs.Rows.{quantized}
 use Rattle.order.specs.Entries.{entries, first, second}
 use Rattle.columns.specs.Kept.{kept}
-use Rattle.columns.specs.Laying.{roomNumber, LaidList}
+use Rattle.columns.specs.Laying.{roomNumber}
 use Rattle.tidy_tempos.specs.TempoTidying.{tidyTempos}
 use Rattle.process_raw.specs.declared.Processed.{Processed}
-use Rattle.process_raw.specs.RawLists.{rawNumbers, roomFor}
+use Rattle.process_raw.specs.LentLists.{TwoColumns, twoColumns}
+use Rattle.process_raw.specs.RawLists.{rawNumbersOf, listRoom}
+use Rattle.process_raw.specs.ProcessedLaid.{ListLaidIn}
 
 -- two finite numbers, the beat not below 0 and the value above it
 unfoldable pub staysSsc : Float × Float → Bool
@@ -33,14 +34,21 @@ abbrev pub sscTempos : List Float → List Float → List (Float × Float)
 sscTempos beats values = tidyTempos (map first (stayedSsc beats values)) (map second (stayedSsc beats values))
 
 -- The one outcome: the number by the tests of both lists, then 7 by the rooms of both results; under it the lists. SSC makes no warps and has no offset.
-pub record SscProcessed (tempoBeats tempoValues stopBeats stopValues : List Float) (outcome : Processed)
-    (tempoBeatsOld tempoBeatsNew tempoValuesOld tempoValuesNew stopBeatsOld stopBeatsNew stopValuesOld stopValuesNew : List Float) : Type 0 where
+pub record SscLaid (raw : TwoColumns) (outcome : Processed) (old new : TwoColumns) : Type 0 where
   pub number :
       outcome .number
       ≡ roomNumber
-      (roomNumber (rawNumbers tempoBeats tempoValues stopBeats stopValues) (length (stayedSsc stopBeats stopValues)) (roomFor stopBeatsOld stopValuesOld))
-      (length (sscTempos tempoBeats tempoValues)) (roomFor tempoBeatsOld tempoValuesOld)
-  pub tempos : LaidList (outcome .number) (sscTempos tempoBeats tempoValues) (outcome .tempos) tempoBeatsOld tempoBeatsNew tempoValuesOld tempoValuesNew
-  pub stops : LaidList (outcome .number) (stayedSsc stopBeats stopValues) (outcome .stops) stopBeatsOld stopBeatsNew stopValuesOld stopValuesNew
+      (roomNumber (rawNumbersOf raw) (length (stayedSsc (raw .stops .beats) (raw .stops .values))) (listRoom (old .stops)))
+      (length (sscTempos (raw .tempos .beats) (raw .tempos .values))) (listRoom (old .tempos))
+  pub tempos : ListLaidIn (outcome .number) (sscTempos (raw .tempos .beats) (raw .tempos .values)) (outcome .tempos) (old .tempos) (new .tempos)
+  pub stops : ListLaidIn (outcome .number) (stayedSsc (raw .stops .beats) (raw .stops .values)) (outcome .stops) (old .stops) (new .stops)
   pub warps : outcome .warps ≡ 0
   pub offset : outcome .offset ≡ plusZero
+
+-- the same by the columns themselves
+abbrev pub SscProcessed : (tempoBeats tempoValues stopBeats stopValues : List Float) → Processed
+    → (tempoBeatsOld tempoBeatsNew tempoValuesOld tempoValuesNew stopBeatsOld stopBeatsNew stopValuesOld stopValuesNew : List Float) → Type 0
+SscProcessed tempoBeats tempoValues stopBeats stopValues outcome
+    tempoBeatsOld tempoBeatsNew tempoValuesOld tempoValuesNew stopBeatsOld stopBeatsNew stopValuesOld stopValuesNew =
+    SscLaid (twoColumns tempoBeats tempoValues stopBeats stopValues) outcome
+    (twoColumns tempoBeatsOld tempoValuesOld stopBeatsOld stopValuesOld) (twoColumns tempoBeatsNew tempoValuesNew stopBeatsNew stopValuesNew)

@@ -7,18 +7,16 @@ ghost use mathlib.Core.List.{map};
 ghost use Prim.Native.Nat.{_≤_, min};
 ghost use lib.Dec.{leb};
 ghost use lib.ListN.{length};
-ghost use lib.Ieee.{Float};
 ghost use Rattle.limits.specs.Numbers.{every, miss};
-ghost use Rattle.ieee.specs.Narrowing.{narrow};
-ghost use Rattle.rows.specs.Rows.{quantized, quantized32};
+ghost use Rattle.rows.specs.Rows.{quantized};
 ghost use Rattle.order.specs.Order.{laid};
 ghost use Rattle.order.specs.Entries.{first, second};
-ghost use Rattle.columns.specs.Each.{laidEach};
 ghost use Rattle.columns.specs.Laying.{LaidPair};
+ghost use Rattle.process_raw.specs.LentLists.{twoColumns, lentTwo, twoBefore, twoAfter};
 ghost use Rattle.process_raw.specs.RawLists.{rawNumber, rawNumbers};
 ghost use Rattle.process_raw.specs.inside.TakenWhole.{Known};
 ghost use Rattle.process_ssc.specs.inside.Tests.{beatStays, valueStays};
-ghost use Rattle.process_ssc.specs.Ssc.{staysSsc, stayedSsc, sscTempos, SscProcessed};
+ghost use Rattle.process_ssc.specs.Ssc.{staysSsc, stayedSsc, sscTempos, SscLaid};
 
 // Whether an entry stays: finite, the beat not below 0, the value above it.
 fn stays(beat: f64, value: f64) -> bool
@@ -37,8 +35,8 @@ fn stays(beat: f64, value: f64) -> bool
 }
 
 fn count_stayed(beats: &[f64], values: &[f64]) -> usize
-    requires { ⌜ length (now beats) ≡ length (now values) ⌝ }
-    ensures { λ r. ⌜ r ≡ length (stayedSsc (now (beats .entry)) (now (values .entry))) ⌝ }
+    requires { ⌜ length beats.now ≡ length values.now ⌝ }
+    ensures { λ r. ⌜ r ≡ length (stayedSsc beats.entry.now values.entry.now) ⌝ }
 {
     let mut count = 0;
     let mut i = 0;
@@ -55,8 +53,8 @@ fn count_stayed(beats: &[f64], values: &[f64]) -> usize
 
 // Whether the entries that stay have room: counted only where there are more entries than room.
 fn have_room(beats: &[f64], values: &[f64], room: usize) -> bool
-    requires { ⌜ length (now beats) ≡ length (now values) ⌝ }
-    ensures { λ r. ⌜ r ≡ leb (length (stayedSsc (now (beats .entry)) (now (values .entry)))) room ⌝ }
+    requires { ⌜ length beats.now ≡ length values.now ⌝ }
+    ensures { λ r. ⌜ r ≡ leb (length (stayedSsc beats.entry.now values.entry.now)) room ⌝ }
 {
     if beats.len() <= room {
         return true;
@@ -66,11 +64,11 @@ fn have_room(beats: &[f64], values: &[f64], room: usize) -> bool
 
 // Where some are dropped: one by one.
 fn lay_some(beats: &[f64], values: &[f64], out_beats: &mut [f64], out_values: &mut [f64]) -> usize
-    requires { ⌜ length (now beats) ≡ length (now values) ⌝ }
-    requires { ⌜ length (stayedSsc (now beats) (now values)) ≤ min (length (now «out_beats»)) (length (now «out_values»)) ⌝ }
-    ensures { λ r. ⌜ r ≡ length (stayedSsc (now (beats .entry)) (now (values .entry))) ⌝ }
-    ensures { λ _. ⌜ now («out_beats» .exit) ≡ laid (map first (stayedSsc (now (beats .entry)) (now (values .entry)))) (now («out_beats» .entry)) ⌝ }
-    ensures { λ _. ⌜ now («out_values» .exit) ≡ laid (map second (stayedSsc (now (beats .entry)) (now (values .entry)))) (now («out_values» .entry)) ⌝ }
+    requires { ⌜ length beats.now ≡ length values.now ⌝ }
+    requires { ⌜ length (stayedSsc beats.now values.now) ≤ min (length «out_beats».now) (length «out_values».now) ⌝ }
+    ensures { λ r. ⌜ r ≡ length (stayedSsc beats.entry.now values.entry.now) ⌝ }
+    ensures { λ _. ⌜ «out_beats».exit.now ≡ laid (map first (stayedSsc beats.entry.now values.entry.now)) «out_beats».entry.now ⌝ }
+    ensures { λ _. ⌜ «out_values».exit.now ≡ laid (map second (stayedSsc beats.entry.now values.entry.now)) «out_values».entry.now ⌝ }
 {
     let mut count = 0;
     let mut i = 0;
@@ -89,102 +87,15 @@ fn lay_some(beats: &[f64], values: &[f64], out_beats: &mut [f64], out_values: &m
     count
 }
 
-// ---- every entry: narrowed first, and quantised then, each in a loop that a machine does for several beats at a time
-
-fn narrow_beats(beats: &[f64], to: &mut [f32])
-    ensures { λ _. ⌜ now (to .exit) ≡ laidEach narrow (now (beats .entry)) (now (to .entry)) ⌝ }
-{
-    let n = columns::room_of(beats.len(), to.len());
-    let mut i = 0;
-    while i < n {
-        to[i] = ieee::narrow_f64(beats[i]);
-        i += 1;
-    }
-}
-
-fn quantize_narrowed(beats: &[f32], to: &mut [f64])
-    ensures { λ _. ⌜ now (to .exit) ≡ laidEach (λ (beat : Float). quantized32 beat) (now (beats .entry)) (now (to .entry)) ⌝ }
-{
-    let n = columns::room_of(beats.len(), to.len());
-    let mut i = 0;
-    while i < n {
-        to[i] = std::num::f32_to_f64_with_nan(rows::quantize_beat_f32(beats[i]));
-        i += 1;
-    }
-}
-
-// By way of a column as long as the beats.
-fn lay_by(
-    beats: &[f64],
-    values: &[f64],
-    narrowed: &mut [f32],
-    out_beats: &mut [f64],
-    out_values: &mut [f64],
-)
-    requires { ⌜ (length (now beats) ≡ length (now values)) × (length (now beats) ≡ length (now narrowed)) ⌝ }
-    requires { ⌜ length (now beats) ≤ min (length (now «out_beats»)) (length (now «out_values»)) ⌝ }
-    ensures { λ _. ⌜ now («out_beats» .exit) ≡ laid (map quantized (now (beats .entry))) (now («out_beats» .entry)) ⌝ }
-    ensures { λ _. ⌜ now («out_values» .exit) ≡ laid (now (values .entry)) (now («out_values» .entry)) ⌝ }
-{
-    narrow_beats(beats, narrowed);
-    quantize_narrowed(narrowed, out_beats);
-    columns::copy(values, out_values);
-}
-
-// A column for as many beats as a chart has.
-fn lay_few(beats: &[f64], values: &[f64], out_beats: &mut [f64], out_values: &mut [f64])
-    requires { ⌜ (length (now beats) ≡ length (now values)) × (length (now beats) ≤ 64) ⌝ }
-    requires { ⌜ length (now beats) ≤ min (length (now «out_beats»)) (length (now «out_values»)) ⌝ }
-    ensures { λ _. ⌜ now («out_beats» .exit) ≡ laid (map quantized (now (beats .entry))) (now («out_beats» .entry)) ⌝ }
-    ensures { λ _. ⌜ now («out_values» .exit) ≡ laid (now (values .entry)) (now («out_values» .entry)) ⌝ }
-{
-    let n = beats.len();
-    let mut narrowed = [0.0f32; limits::FEW];
-    lay_by(beats, values, &mut narrowed[..n], out_beats, out_values);
-}
-
-// A column for as many as are taken.
-fn lay_many(beats: &[f64], values: &[f64], out_beats: &mut [f64], out_values: &mut [f64])
-    requires { ⌜ (length (now beats) ≡ length (now values)) × (length (now beats) ≤ 1024) ⌝ }
-    requires { ⌜ length (now beats) ≤ min (length (now «out_beats»)) (length (now «out_values»)) ⌝ }
-    ensures { λ _. ⌜ now («out_beats» .exit) ≡ laid (map quantized (now (beats .entry))) (now («out_beats» .entry)) ⌝ }
-    ensures { λ _. ⌜ now («out_values» .exit) ≡ laid (now (values .entry)) (now («out_values» .entry)) ⌝ }
-{
-    let n = beats.len();
-    let mut narrowed = [0.0f32; limits::MOST_ENTRIES];
-    lay_by(beats, values, &mut narrowed[..n], out_beats, out_values);
-}
-
-// Every entry of a list of any length.
-fn lay_each(beats: &[f64], values: &[f64], out_beats: &mut [f64], out_values: &mut [f64])
-    requires { ⌜ length (now beats) ≡ length (now values) ⌝ }
-    requires { ⌜ length (now beats) ≤ min (length (now «out_beats»)) (length (now «out_values»)) ⌝ }
-    ensures { λ _. ⌜ now («out_beats» .exit) ≡ laid (map quantized (now (beats .entry))) (now («out_beats» .entry)) ⌝ }
-    ensures { λ _. ⌜ now («out_values» .exit) ≡ laid (now (values .entry)) (now («out_values» .entry)) ⌝ }
-{
-    let mut i = 0;
-    while i < beats.len() {
-        out_beats[i] = rows::quantize_beat(beats[i]);
-        out_values[i] = values[i];
-        i += 1;
-    }
-}
-
+// Where every entry stays.
 fn lay_all(beats: &[f64], values: &[f64], out_beats: &mut [f64], out_values: &mut [f64])
-    requires { ⌜ length (now beats) ≡ length (now values) ⌝ }
-    requires { ⌜ length (now beats) ≤ min (length (now «out_beats»)) (length (now «out_values»)) ⌝ }
-    ensures { λ _. ⌜ now («out_beats» .exit) ≡ laid (map quantized (now (beats .entry))) (now («out_beats» .entry)) ⌝ }
-    ensures { λ _. ⌜ now («out_values» .exit) ≡ laid (now (values .entry)) (now («out_values» .entry)) ⌝ }
+    requires { ⌜ length beats.now ≡ length values.now ⌝ }
+    requires { ⌜ length beats.now ≤ min (length «out_beats».now) (length «out_values».now) ⌝ }
+    ensures { λ _. ⌜ «out_beats».exit.now ≡ laid (map quantized beats.entry.now) «out_beats».entry.now ⌝ }
+    ensures { λ _. ⌜ «out_values».exit.now ≡ laid values.entry.now «out_values».entry.now ⌝ }
 {
-    if beats.len() <= limits::FEW {
-        lay_few(beats, values, out_beats, out_values);
-        return;
-    }
-    if beats.len() <= limits::MOST_ENTRIES {
-        lay_many(beats, values, out_beats, out_values);
-        return;
-    }
-    lay_each(beats, values, out_beats, out_values);
+    columns_each::quantize_column(beats, out_beats);
+    columns::copy(values, out_values);
 }
 
 // ---- whether every entry stays, column by column: loops that count what fails have no branch
@@ -202,7 +113,7 @@ fn beat_goes(beat: f64) -> usize
 }
 
 fn beats_stay(beats: &[f64]) -> bool
-    ensures { λ r. ⌜ r ≡ every beatStays (now (beats .entry)) ⌝ }
+    ensures { λ r. ⌜ r ≡ every beatStays beats.entry.now ⌝ }
 {
     let mut gone: usize = 0;
     let mut i = 0;
@@ -226,7 +137,7 @@ fn value_goes(value: f64) -> usize
 }
 
 fn values_stay(values: &[f64]) -> bool
-    ensures { λ r. ⌜ r ≡ every valueStays (now (values .entry)) ⌝ }
+    ensures { λ r. ⌜ r ≡ every valueStays values.entry.now ⌝ }
 {
     let mut gone: usize = 0;
     let mut i = 0;
@@ -239,7 +150,7 @@ fn values_stay(values: &[f64]) -> bool
 
 // Whether the list is taken and every entry stays, by one test of each number.
 fn all_stay(beats: &[f64], values: &[f64]) -> bool
-    ensures { λ r. ⌜ Known stayedSsc r (now (beats .entry)) (now (values .entry)) ⌝ }
+    ensures { λ r. ⌜ Known stayedSsc r beats.entry.now values.entry.now ⌝ }
 {
     if beats.len() > limits::MOST_ENTRIES {
         return false;
@@ -261,12 +172,12 @@ fn lay_stayed(
     out_values: &mut [f64],
     whole: bool,
 ) -> usize
-    requires { ⌜ length (now beats) ≡ length (now values) ⌝ }
-    requires { ⌜ length (stayedSsc (now beats) (now values)) ≤ min (length (now «out_beats»)) (length (now «out_values»)) ⌝ }
-    requires { ⌜ Known stayedSsc whole (now beats) (now values) ⌝ }
-    ensures { λ r. ⌜ r ≡ length (stayedSsc (now (beats .entry)) (now (values .entry))) ⌝ }
-    ensures { λ _. ⌜ now («out_beats» .exit) ≡ laid (map first (stayedSsc (now (beats .entry)) (now (values .entry)))) (now («out_beats» .entry)) ⌝ }
-    ensures { λ _. ⌜ now («out_values» .exit) ≡ laid (map second (stayedSsc (now (beats .entry)) (now (values .entry)))) (now («out_values» .entry)) ⌝ }
+    requires { ⌜ length beats.now ≡ length values.now ⌝ }
+    requires { ⌜ length (stayedSsc beats.now values.now) ≤ min (length «out_beats».now) (length «out_values».now) ⌝ }
+    requires { ⌜ Known stayedSsc whole beats.now values.now ⌝ }
+    ensures { λ r. ⌜ r ≡ length (stayedSsc beats.entry.now values.entry.now) ⌝ }
+    ensures { λ _. ⌜ «out_beats».exit.now ≡ laid (map first (stayedSsc beats.entry.now values.entry.now)) «out_beats».entry.now ⌝ }
+    ensures { λ _. ⌜ «out_values».exit.now ≡ laid (map second (stayedSsc beats.entry.now values.entry.now)) «out_values».entry.now ⌝ }
 {
     if whole {
         lay_all(beats, values, out_beats, out_values);
@@ -285,9 +196,11 @@ fn tidy_stayed(
     out_values: &mut [f64],
     whole: bool,
 ) -> Outcome
-    requires { ⌜ (rawNumber (now beats) (now values) ≡ 0) × (length (now beats) ≤ min (length (now «work_beats»)) (length (now «work_values»))) ⌝ }
-    requires { ⌜ Known stayedSsc whole (now beats) (now values) ⌝ }
-    ensures { λ r. ⌜ LaidPair 0 (sscTempos (now (beats .entry)) (now (values .entry))) r (now («out_beats» .entry)) (now («out_beats» .exit)) (now («out_values» .entry)) (now («out_values» .exit)) ⌝ }
+    requires { ⌜ (rawNumber beats.now values.now ≡ 0) × (length beats.now ≤ min (length «work_beats».now) (length «work_values».now)) ⌝ }
+    requires { ⌜ Known stayedSsc whole beats.now values.now ⌝ }
+    ensures { λ r.
+        let tempos = sscTempos beats.entry.now values.entry.now in
+        ⌜ LaidPair 0 tempos r «out_beats».entry.now «out_beats».exit.now «out_values».entry.now «out_values».exit.now ⌝ }
 {
     let count = lay_stayed(beats, values, work_beats, work_values, whole);
     tidy_tempos::tidy_bpms(
@@ -306,9 +219,11 @@ fn tidy_few(
     out_values: &mut [f64],
     whole: bool,
 ) -> Outcome
-    requires { ⌜ (rawNumber (now beats) (now values) ≡ 0) × (length (now beats) ≤ 64) ⌝ }
-    requires { ⌜ Known stayedSsc whole (now beats) (now values) ⌝ }
-    ensures { λ r. ⌜ LaidPair 0 (sscTempos (now (beats .entry)) (now (values .entry))) r (now («out_beats» .entry)) (now («out_beats» .exit)) (now («out_values» .entry)) (now («out_values» .exit)) ⌝ }
+    requires { ⌜ (rawNumber beats.now values.now ≡ 0) × (length beats.now ≤ 64) ⌝ }
+    requires { ⌜ Known stayedSsc whole beats.now values.now ⌝ }
+    ensures { λ r.
+        let tempos = sscTempos beats.entry.now values.entry.now in
+        ⌜ LaidPair 0 tempos r «out_beats».entry.now «out_beats».exit.now «out_values».entry.now «out_values».exit.now ⌝ }
 {
     let mut work_beats = [0.0; limits::FEW];
     let mut work_values = [0.0; limits::FEW];
@@ -331,9 +246,11 @@ fn tidy_many(
     out_values: &mut [f64],
     whole: bool,
 ) -> Outcome
-    requires { ⌜ rawNumber (now beats) (now values) ≡ 0 ⌝ }
-    requires { ⌜ Known stayedSsc whole (now beats) (now values) ⌝ }
-    ensures { λ r. ⌜ LaidPair 0 (sscTempos (now (beats .entry)) (now (values .entry))) r (now («out_beats» .entry)) (now («out_beats» .exit)) (now («out_values» .entry)) (now («out_values» .exit)) ⌝ }
+    requires { ⌜ rawNumber beats.now values.now ≡ 0 ⌝ }
+    requires { ⌜ Known stayedSsc whole beats.now values.now ⌝ }
+    ensures { λ r.
+        let tempos = sscTempos beats.entry.now values.entry.now in
+        ⌜ LaidPair 0 tempos r «out_beats».entry.now «out_beats».exit.now «out_values».entry.now «out_values».exit.now ⌝ }
 {
     let mut work_beats = [0.0; limits::MOST_ENTRIES];
     let mut work_values = [0.0; limits::MOST_ENTRIES];
@@ -355,9 +272,11 @@ fn lay_tempos(
     out_values: &mut [f64],
     whole: bool,
 ) -> Outcome
-    requires { ⌜ rawNumber (now beats) (now values) ≡ 0 ⌝ }
-    requires { ⌜ Known stayedSsc whole (now beats) (now values) ⌝ }
-    ensures { λ r. ⌜ LaidPair 0 (sscTempos (now (beats .entry)) (now (values .entry))) r (now («out_beats» .entry)) (now («out_beats» .exit)) (now («out_values» .entry)) (now («out_values» .exit)) ⌝ }
+    requires { ⌜ rawNumber beats.now values.now ≡ 0 ⌝ }
+    requires { ⌜ Known stayedSsc whole beats.now values.now ⌝ }
+    ensures { λ r.
+        let tempos = sscTempos beats.entry.now values.entry.now in
+        ⌜ LaidPair 0 tempos r «out_beats».entry.now «out_beats».exit.now «out_values».entry.now «out_values».exit.now ⌝ }
 {
     if beats.len() <= limits::FEW {
         return tidy_few(beats, values, out_beats, out_values, whole);
@@ -374,9 +293,9 @@ fn number_of(
     tempos_whole: bool,
     stops_whole: bool,
 ) -> u32
-    requires { ⌜ Known stayedSsc «tempos_whole» (now «tempo_beats») (now «tempo_values») ⌝ }
-    requires { ⌜ Known stayedSsc «stops_whole» (now «stop_beats») (now «stop_values») ⌝ }
-    ensures { λ r. ⌜ r ≡ rawNumbers (now («tempo_beats» .entry)) (now («tempo_values» .entry)) (now («stop_beats» .entry)) (now («stop_values» .entry)) ⌝ }
+    requires { ⌜ Known stayedSsc «tempos_whole» «tempo_beats».now «tempo_values».now ⌝ }
+    requires { ⌜ Known stayedSsc «stops_whole» «stop_beats».now «stop_values».now ⌝ }
+    ensures { λ r. ⌜ r ≡ rawNumbers «tempo_beats».entry.now «tempo_values».entry.now «stop_beats».entry.now «stop_values».entry.now ⌝ }
 {
     if tempos_whole {
         if stops_whole {
@@ -398,9 +317,12 @@ fn process_known(
     tempos_whole: bool,
     stops_whole: bool,
 ) -> Processed
-    requires { ⌜ Known stayedSsc «tempos_whole» (now «tempo_beats») (now «tempo_values») ⌝ }
-    requires { ⌜ Known stayedSsc «stops_whole» (now «stop_beats») (now «stop_values») ⌝ }
-    ensures { λ r. ⌜ SscProcessed (now («tempo_beats» .entry)) (now («tempo_values» .entry)) (now («stop_beats» .entry)) (now («stop_values» .entry)) r (now («out_tempo_beats» .entry)) (now («out_tempo_beats» .exit)) (now («out_tempo_values» .entry)) (now («out_tempo_values» .exit)) (now («out_stop_beats» .entry)) (now («out_stop_beats» .exit)) (now («out_stop_values» .entry)) (now («out_stop_values» .exit)) ⌝ }
+    requires { ⌜ Known stayedSsc «tempos_whole» «tempo_beats».now «tempo_values».now ⌝ }
+    requires { ⌜ Known stayedSsc «stops_whole» «stop_beats».now «stop_values».now ⌝ }
+    ensures { λ r.
+        let raw = twoColumns «tempo_beats».entry.now «tempo_values».entry.now «stop_beats».entry.now «stop_values».entry.now in
+        let rooms = lentTwo «out_tempo_beats» «out_tempo_values» «out_stop_beats» «out_stop_values» in
+        ⌜ SscLaid raw r (twoBefore rooms) (twoAfter rooms) ⌝ }
 {
     let number = number_of(
         tempo_beats,
@@ -454,7 +376,10 @@ pub fn process_bpms_and_stops_ssc(
     out_stop_beats: &mut [f64],
     out_stop_values: &mut [f64],
 ) -> Processed
-    ensures { λ r. ⌜ SscProcessed (now («tempo_beats» .entry)) (now («tempo_values» .entry)) (now («stop_beats» .entry)) (now («stop_values» .entry)) r (now («out_tempo_beats» .entry)) (now («out_tempo_beats» .exit)) (now («out_tempo_values» .entry)) (now («out_tempo_values» .exit)) (now («out_stop_beats» .entry)) (now («out_stop_beats» .exit)) (now («out_stop_values» .entry)) (now («out_stop_values» .exit)) ⌝ }
+    ensures { λ r.
+        let raw = twoColumns «tempo_beats».entry.now «tempo_values».entry.now «stop_beats».entry.now «stop_values».entry.now in
+        let rooms = lentTwo «out_tempo_beats» «out_tempo_values» «out_stop_beats» «out_stop_values» in
+        ⌜ SscLaid raw r (twoBefore rooms) (twoAfter rooms) ⌝ }
 {
     let tempos_whole = all_stay(tempo_beats, tempo_values);
     let stops_whole = all_stay(stop_beats, stop_values);

@@ -50,7 +50,8 @@ isOwn s = pick (eqb (length (s .delayBeats)) 0) (eqb (length (s .warpBeats)) 0) 
 unfoldable pub sourcesNumber : Sources → ℕ → ℕ
 sourcesNumber s size =
     lower (lower (listNumber (rangeOf Beat) (rangeOf Tempo) (s .tempoBeats) (s .tempoValues)) (flatNumber (rangeOf Beat) (rangeOf Pause) (s .stops)))
-    (lower (lower (listNumber (rangeOf Beat) (rangeOf Pause) (s .delayBeats) (s .delayValues)) (listNumber (rangeOf Beat) (rangeOf Value) (s .warpBeats) (s .warpLengths))) (pick (isEven size) 0 uneven))
+    (lower (lower (listNumber (rangeOf Beat) (rangeOf Pause) (s .delayBeats) (s .delayValues)) (listNumber (rangeOf Beat) (rangeOf Value) (s .warpBeats) (s .warpLengths)))
+    (pick (isEven size) 0 uneven))
 
 -- a warp and no tempo
 abbrev pub lacksTempo : Sources → Bool

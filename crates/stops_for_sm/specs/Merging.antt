@@ -113,7 +113,9 @@ module _ (s : Sources) (h : Heads) where
 
   -- no list has a head
   unfoldable pub isOver : Bool
-  isOver = pick (ltb (h .stop) (length (s .stops))) false (pick (ltb (h .delay) (length (s .delayBeats))) false (pick (ltb (h .warp) (length (s .warpBeats))) false true))
+  isOver =
+      pick (ltb (h .stop) (length (s .stops))) false
+      (pick (ltb (h .delay) (length (s .delayBeats))) false (pick (ltb (h .warp) (length (s .warpBeats))) false true))
 
   -- how many turns there are at most: one for each entry
   abbrev pub turnsLeft : ℕ

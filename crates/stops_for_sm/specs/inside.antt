@@ -1,1 +1,2 @@
 pub mod InHand
+pub mod Passing

@@ -11,8 +11,9 @@ ghost use Rattle.ieee.specs.Constants.{plusZero};
 ghost use Rattle.picks.specs.Pick.{pick};
 ghost use Rattle.limits.specs.Numbers.{rangeOf};
 ghost use Rattle.order.specs.Order.{laid};
-ghost use Rattle.stops_for_sm.specs.Merging.{sources, meets, plus, forward, tempoPlace, less, movedOn, mergedStops, atFirst};
+ghost use Rattle.stops_for_sm.specs.Merging.{sources, forward, mergedStops, atFirst};
 ghost use Rattle.stops_for_sm.specs.inside.InHand.{headAt, secondsAt, stopsAlone, atStop};
+ghost use Rattle.stops_for_sm.specs.inside.Passing.{ListPassed, PaceReached, WarpPassed};
 ghost use Rattle.stops_for_sm.specs.Plain.{AllFinite, Plain};
 ghost use Rattle.stops_for_sm.specs.Filling.{beatsIn, valuesIn, isEven, flatNumber, flat, sourcesNumber, StopsFilled, chosen};
 
@@ -28,7 +29,7 @@ pub struct Filled {
 
 // A number of a list, and a NaN beyond its end.
 fn read_at(list: &[f32], place: usize) -> f32
-    ensures { λ r. ⌜ r ≡ getD (now (list .entry)) place nan ⌝ }
+    ensures { λ r. ⌜ r ≡ getD list.entry.now place nan ⌝ }
 {
     if place < list.len() {
         return list[place];
@@ -38,7 +39,7 @@ fn read_at(list: &[f32], place: usize) -> f32
 
 // The beat of a list's head, and infinity beyond its end.
 fn head_at(beats: &[f32], place: usize) -> f32
-    ensures { λ r. ⌜ r ≡ headAt (now (beats .entry)) place ⌝ }
+    ensures { λ r. ⌜ r ≡ headAt beats.entry.now place ⌝ }
 {
     if place < beats.len() {
         return beats[place];
@@ -73,9 +74,9 @@ struct Passed {
 }
 
 fn pass_stop(stops: &[f32], place: usize, head: f32, beat: f32) -> Passed
-    requires { ⌜ (place < 2 ^ 63) × (place % 2 ≡ 0) × (length (now stops) % 2 ≡ 0) ⌝ }
-    requires { ⌜ (head ≡ headAt (now stops) place) × (lt beat (inf false) ≡ true) ⌝ }
-    ensures { λ r. ⌜ (r .place ≡ movedOn (meets (now (stops .entry)) place beat) place 2) × (r .sum ≡ plus (meets (now (stops .entry)) place beat) plusZero (getD (now (stops .entry)) (place + 1) nan)) × (r .head ≡ headAt (now (stops .entry)) (r .place)) ⌝ }
+    requires { ⌜ (place < 2 ^ 63) × (place % 2 ≡ 0) × (length stops.now % 2 ≡ 0) ⌝ }
+    requires { ⌜ (head ≡ headAt stops.now place) × (lt beat (inf false) ≡ true) ⌝ }
+    ensures { λ r. ⌜ ListPassed stops.entry.now place 2 beat plusZero (getD stops.entry.now (place + 1) nan) r ⌝ }
 {
     if head == beat {
         return Passed {
@@ -99,9 +100,9 @@ fn pass_delay(
     beat: f32,
     sum: f32,
 ) -> Passed
-    requires { ⌜ (place < 2 ^ 63) × (length (now «delay_beats») ≡ length (now «delay_values»)) ⌝ }
-    requires { ⌜ (head ≡ headAt (now «delay_beats») place) × (lt beat (inf false) ≡ true) ⌝ }
-    ensures { λ r. ⌜ (r .place ≡ movedOn (meets (now («delay_beats» .entry)) place beat) place 1) × (r .sum ≡ plus (meets (now («delay_beats» .entry)) place beat) sum (getD (now («delay_values» .entry)) place nan)) × (r .head ≡ headAt (now («delay_beats» .entry)) (r .place)) ⌝ }
+    requires { ⌜ (place < 2 ^ 63) × (length «delay_beats».now ≡ length «delay_values».now) ⌝ }
+    requires { ⌜ (head ≡ headAt «delay_beats».now place) × (lt beat (inf false) ≡ true) ⌝ }
+    ensures { λ r. ⌜ ListPassed «delay_beats».entry.now place 1 beat sum (getD «delay_values».entry.now place nan) r ⌝ }
 {
     if head == beat {
         return Passed {
@@ -120,7 +121,7 @@ fn pass_delay(
 // The place of the last of the leading tempos up to a beat, from a place on.
 fn tempo_up_to(tempo_beats: &[f32], place: usize, beat: f32) -> usize
     requires { ⌜ place < 2 ^ 63 ⌝ }
-    ensures { λ r. ⌜ r ≡ forward (now («tempo_beats» .entry)) place beat ⌝ }
+    ensures { λ r. ⌜ r ≡ forward «tempo_beats».entry.now place beat ⌝ }
 {
     let mut at = place;
     while at + 1 < tempo_beats.len() {
@@ -148,9 +149,9 @@ fn pace_up_to(
     seconds: f32,
     beat: f32,
 ) -> Pace
-    requires { ⌜ tempo ≤ length (now «tempo_beats») ⌝ }
-    requires { ⌜ (next ≡ headAt (now «tempo_beats») (tempo + 1)) × (seconds ≡ secondsAt (now «tempo_values») tempo) ⌝ }
-    ensures { λ r. ⌜ (r .tempo ≡ forward (now («tempo_beats» .entry)) tempo beat) × (r .next ≡ headAt (now («tempo_beats» .entry)) (r .tempo + 1)) × (r .seconds ≡ secondsAt (now («tempo_values» .entry)) (r .tempo)) ⌝ }
+    requires { ⌜ tempo ≤ length «tempo_beats».now ⌝ }
+    requires { ⌜ (next ≡ headAt «tempo_beats».now (tempo + 1)) × (seconds ≡ secondsAt «tempo_values».now tempo) ⌝ }
+    ensures { λ r. ⌜ PaceReached «tempo_beats».entry.now «tempo_values».entry.now tempo beat r ⌝ }
 {
     if next <= beat {
         let here = tempo_up_to(tempo_beats, tempo, beat);
@@ -190,11 +191,12 @@ fn pass_warp(
     beat: f32,
     sum: f32,
 ) -> Warped
-    requires { ⌜ (tempo ≤ length (now «tempo_beats»)) × (place < 2 ^ 63) × (length (now «warp_beats») ≡ length (now «warp_lengths»)) ⌝ }
-    requires { ⌜ (next ≡ headAt (now «tempo_beats») (tempo + 1)) × (seconds ≡ secondsAt (now «tempo_values») tempo) ⌝ }
-    requires { ⌜ (head ≡ headAt (now «warp_beats») place) × (lt beat (inf false) ≡ true) ⌝ }
-    ensures { λ r. ⌜ (r .tempo ≡ tempoPlace (meets (now («warp_beats» .entry)) place beat) (now («tempo_beats» .entry)) tempo beat) × (r .place ≡ movedOn (meets (now («warp_beats» .entry)) place beat) place 1) × (r .sum ≡ less (meets (now («warp_beats» .entry)) place beat) sum (getD (now («tempo_values» .entry)) (r .tempo) nan) (getD (now («warp_lengths» .entry)) place nan)) ⌝ }
-    ensures { λ r. ⌜ (r .next ≡ headAt (now («tempo_beats» .entry)) (r .tempo + 1)) × (r .seconds ≡ secondsAt (now («tempo_values» .entry)) (r .tempo)) × (r .head ≡ headAt (now («warp_beats» .entry)) (r .place)) ⌝ }
+    requires { ⌜ (tempo ≤ length «tempo_beats».now) × (place < 2 ^ 63) × (length «warp_beats».now ≡ length «warp_lengths».now) ⌝ }
+    requires { ⌜ (next ≡ headAt «tempo_beats».now (tempo + 1)) × (seconds ≡ secondsAt «tempo_values».now tempo) ⌝ }
+    requires { ⌜ (head ≡ headAt «warp_beats».now place) × (lt beat (inf false) ≡ true) ⌝ }
+    ensures { λ r.
+        ⌜ WarpPassed «tempo_beats».entry.now «tempo_values».entry.now «warp_beats».entry.now «warp_lengths».entry.now
+        tempo place beat sum r ⌝ }
 {
     if head == beat {
         let pace = pace_up_to(tempo_beats, tempo_values, tempo, next, seconds, beat);
@@ -221,10 +223,10 @@ fn pass_warp(
 
 // A sum that is not zero, behind those that are laid; the place behind it.
 fn lay_sum(work: &mut [f32], at: usize, beat: f32, value: f32) -> usize
-    requires { ⌜ (ne value plusZero ≡ true → at + 2 ≤ length (now work)) ⌝ }
+    requires { ⌜ (ne value plusZero ≡ true → at + 2 ≤ length work.now) ⌝ }
     requires { ⌜ at < 2 ^ 63 ⌝ }
     ensures { λ r. ⌜ r ≡ pick (ne value plusZero) (at + 2) at ⌝ }
-    ensures { λ _. ⌜ now (work .exit) ≡ pick (ne value plusZero) (set (set (now (work .entry)) at beat) (at + 1) value) (now (work .entry)) ⌝ }
+    ensures { λ _. ⌜ work.exit.now ≡ pick (ne value plusZero) (set (set work.entry.now at beat) (at + 1) value) work.entry.now ⌝ }
 {
     if value != 0.0 {
         work[at] = beat;
@@ -236,10 +238,10 @@ fn lay_sum(work: &mut [f32], at: usize, beat: f32, value: f32) -> usize
 
 // The stops from a place on, behind the `count` numbers that are laid; how many numbers are laid then.
 fn lay_rest(stops: &[f32], from: usize, work: &mut [f32], count: usize) -> usize
-    requires { ⌜ AllFinite (now stops) × (length (now stops) % 2 ≡ 0) × (from % 2 ≡ 0) × (from ≤ length (now stops) + 1) ⌝ }
-    requires { ⌜ (count ≤ length (now work)) × (count + length (flat (mergedStops (stopsAlone (now stops)) (atStop from))) ≤ length (now work)) ⌝ }
-    ensures { λ r. ⌜ r ≡ count + length (flat (mergedStops (stopsAlone (now (stops .entry))) (atStop from))) ⌝ }
-    ensures { λ _. ⌜ now (work .exit) ≡ laid (take count (now (work .entry)) ++ flat (mergedStops (stopsAlone (now (stops .entry))) (atStop from))) (now (work .entry)) ⌝ }
+    requires { ⌜ AllFinite stops.now × (length stops.now % 2 ≡ 0) × (from % 2 ≡ 0) × (from ≤ length stops.now + 1) ⌝ }
+    requires { ⌜ (count ≤ length work.now) × (count + length (flat (mergedStops (stopsAlone stops.now) (atStop from))) ≤ length work.now) ⌝ }
+    ensures { λ r. ⌜ r ≡ count + length (flat (mergedStops (stopsAlone stops.entry.now) (atStop from))) ⌝ }
+    ensures { λ _. ⌜ work.exit.now ≡ laid (take count work.entry.now ++ flat (mergedStops (stopsAlone stops.entry.now) (atStop from))) work.entry.now ⌝ }
 {
     let mut stop = from;
     let mut at = count;
@@ -260,10 +262,18 @@ fn lay_stops(
     warp_lengths: &[f32],
     work: &mut [f32],
 ) -> usize
-    requires { ⌜ Plain (sources (now «tempo_beats») (now «tempo_values») (now stops) (now «delay_beats») (now «delay_values») (now «warp_beats») (now «warp_lengths»)) ⌝ }
-    requires { ⌜ length (flat (mergedStops (sources (now «tempo_beats») (now «tempo_values») (now stops) (now «delay_beats») (now «delay_values») (now «warp_beats») (now «warp_lengths»)) atFirst)) ≤ length (now work) ⌝ }
-    ensures { λ r. ⌜ r ≡ length (flat (mergedStops (sources (now («tempo_beats» .entry)) (now («tempo_values» .entry)) (now (stops .entry)) (now («delay_beats» .entry)) (now («delay_values» .entry)) (now («warp_beats» .entry)) (now («warp_lengths» .entry))) atFirst)) ⌝ }
-    ensures { λ _. ⌜ now (work .exit) ≡ laid (flat (mergedStops (sources (now («tempo_beats» .entry)) (now («tempo_values» .entry)) (now (stops .entry)) (now («delay_beats» .entry)) (now («delay_values» .entry)) (now («warp_beats» .entry)) (now («warp_lengths» .entry))) atFirst)) (now (work .entry)) ⌝ }
+    requires { let lists = sources «tempo_beats».now «tempo_values».now stops.now «delay_beats».now «delay_values».now «warp_beats».now «warp_lengths».now in
+        ⌜ Plain lists ⌝ }
+    requires { let lists = sources «tempo_beats».now «tempo_values».now stops.now «delay_beats».now «delay_values».now «warp_beats».now «warp_lengths».now in
+        ⌜ length (flat (mergedStops lists atFirst)) ≤ length work.now ⌝ }
+    ensures { λ r.
+        let lists = sources «tempo_beats».entry.now «tempo_values».entry.now stops.entry.now
+        «delay_beats».entry.now «delay_values».entry.now «warp_beats».entry.now «warp_lengths».entry.now in
+        ⌜ r ≡ length (flat (mergedStops lists atFirst)) ⌝ }
+    ensures { λ _.
+        let lists = sources «tempo_beats».entry.now «tempo_values».entry.now stops.entry.now
+        «delay_beats».entry.now «delay_values».entry.now «warp_beats».entry.now «warp_lengths».entry.now in
+        ⌜ work.exit.now ≡ laid (flat (mergedStops lists atFirst)) work.entry.now ⌝ }
 {
     let mut tempo: usize = 0;
     let mut next = head_at(tempo_beats, 1);
@@ -329,9 +339,13 @@ fn has_room(
     warp_lengths: &[f32],
     room: usize,
 ) -> bool
-    requires { ⌜ Plain (sources (now «tempo_beats») (now «tempo_values») (now stops) (now «delay_beats») (now «delay_values») (now «warp_beats») (now «warp_lengths»)) ⌝ }
-    requires { ⌜ (length (now stops) ≤ 2048) × (length (now «delay_beats») ≤ 1024) × (length (now «warp_beats») ≤ 1024) ⌝ }
-    ensures { λ r. ⌜ r ≡ leb (length (mergedStops (sources (now («tempo_beats» .entry)) (now («tempo_values» .entry)) (now (stops .entry)) (now («delay_beats» .entry)) (now («delay_values» .entry)) (now («warp_beats» .entry)) (now («warp_lengths» .entry))) atFirst)) room ⌝ }
+    requires { let lists = sources «tempo_beats».now «tempo_values».now stops.now «delay_beats».now «delay_values».now «warp_beats».now «warp_lengths».now in
+        ⌜ Plain lists ⌝ }
+    requires { ⌜ (length stops.now ≤ 2048) × (length «delay_beats».now ≤ 1024) × (length «warp_beats».now ≤ 1024) ⌝ }
+    ensures { λ r.
+        let lists = sources «tempo_beats».entry.now «tempo_values».entry.now stops.entry.now
+        «delay_beats».entry.now «delay_values».entry.now «warp_beats».entry.now «warp_lengths».entry.now in
+        ⌜ r ≡ leb (length (mergedStops lists atFirst)) room ⌝ }
 {
     if (stops.len() + 1) / 2 + delay_beats.len() + warp_beats.len() <= room {
         return true;
@@ -353,7 +367,7 @@ fn has_room(
 // ---- refusals
 
 fn flat_beats_taken(list: &[f32]) -> bool
-    ensures { λ r. ⌜ r ≡ beatsIn (rangeOf Kind.Beat) (now (list .entry)) ⌝ }
+    ensures { λ r. ⌜ r ≡ beatsIn (rangeOf Kind.Beat) list.entry.now ⌝ }
 {
     let mut i = 0;
     while i < list.len() {
@@ -366,7 +380,7 @@ fn flat_beats_taken(list: &[f32]) -> bool
 }
 
 fn flat_values_taken(list: &[f32]) -> bool
-    ensures { λ r. ⌜ r ≡ valuesIn (rangeOf Kind.Pause) (now (list .entry)) ⌝ }
+    ensures { λ r. ⌜ r ≡ valuesIn (rangeOf Kind.Pause) list.entry.now ⌝ }
 {
     let mut i = 0;
     while i + 1 < list.len() {
@@ -389,7 +403,7 @@ const MOST_FLAT: usize = 2 * limits::MOST_ENTRIES;
 
 // What a flat list answers by itself. Values are hardly ever beyond what beats are taken up to, so one test of all numbers is usually enough.
 fn flat_number(list: &[f32]) -> u32
-    ensures { λ r. ⌜ r ≡ flatNumber (rangeOf Kind.Beat) (rangeOf Kind.Pause) (now (list .entry)) ⌝ }
+    ensures { λ r. ⌜ r ≡ flatNumber (rangeOf Kind.Beat) (rangeOf Kind.Pause) list.entry.now ⌝ }
 {
     if list.len() > MOST_FLAT {
         return limits::TOO_LONG;
@@ -428,7 +442,10 @@ fn lists_number(
     warp_lengths: &[f32],
     size: usize,
 ) -> u32
-    ensures { λ r. ⌜ r ≡ sourcesNumber (sources (now («tempo_beats» .entry)) (now («tempo_values» .entry)) (now (stops .entry)) (now («delay_beats» .entry)) (now («delay_values» .entry)) (now («warp_beats» .entry)) (now («warp_lengths» .entry))) size ⌝ }
+    ensures { λ r.
+        let lists = sources «tempo_beats».entry.now «tempo_values».entry.now stops.entry.now
+        «delay_beats».entry.now «delay_values».entry.now «warp_beats».entry.now «warp_lengths».entry.now in
+        ⌜ r ≡ sourcesNumber lists size ⌝ }
 {
     let tempos = limits_f32::list_number_f32(Kind::Beat, Kind::Tempo, tempo_beats, tempo_values);
     let own = flat_number(stops);
@@ -485,7 +502,10 @@ pub fn convert_warps_and_delays_to_sm_stops(
     warp_lengths: &[f32],
     work: &mut [f32],
 ) -> Filled
-    ensures { λ r. ⌜ StopsFilled (sources (now («tempo_beats» .entry)) (now («tempo_values» .entry)) (now (stops .entry)) (now («delay_beats» .entry)) (now («delay_values» .entry)) (now («warp_beats» .entry)) (now («warp_lengths» .entry))) r (now (work .entry)) (now (work .exit)) ⌝ }
+    ensures { λ r.
+        let lists = sources «tempo_beats».entry.now «tempo_values».entry.now stops.entry.now
+        «delay_beats».entry.now «delay_values».entry.now «warp_beats».entry.now «warp_lengths».entry.now in
+        ⌜ StopsFilled lists r work.entry.now work.exit.now ⌝ }
 {
     let number = lists_number(
         tempo_beats,
@@ -541,7 +561,7 @@ pub fn convert_warps_and_delays_to_sm_stops(
 
 // The caller's stops, or the filled part of the work list.
 pub fn sm_stops<'a>(stops: &'a [f32], work: &'a [f32], filled: Filled) -> &'a [f32]
-    ensures { λ r. ⌜ now r ≡ chosen filled (now (stops .entry)) (now (work .entry)) ⌝ }
+    ensures { λ r. ⌜ now r ≡ chosen filled stops.entry.now work.entry.now ⌝ }
 {
     let own = filled.own;
     if own {

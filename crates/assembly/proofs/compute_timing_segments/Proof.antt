@@ -16,6 +16,7 @@ use Rattle.chart.specs.ChartColumns.{listColumns, speedColumns}
 use borrow.Author.Needs.{needs}
 use Rattle.assembly.proofs.compute_timing_segments.Statement.{statement}
 use Rattle.assembly.proofs.compute_timing_segments.Tie as tie
+use Rattle.assembly_rows.specs.declared.Meaning.the-variants.{Lengths, Values}
 
 others-number-requires : tie.Need-others-number-requires
 others-number-requires c κs = search needs
@@ -143,10 +144,10 @@ returns-2 c =
     let speeds = speeds-untested speed (taken .speeds) (c .before .before .before .before .before .before .before .before .before .before .before .before .before .before .before .before .before .before .before .before .before .before .assemble-untested2 .ensures) in
     let scrolls = scrolls-untested (given .scroll-beats .now) (given .scroll-values .now) (taken .scrolls) (c .before .before .before .before .before .before .before .before .before .before .before .assemble-untested3 .ensures) in
     assembles (taken-part all none)
-    (rows-laid false (given .delay-beats .now) (given .delay-values .now) (taken .delays) (fit .delaysFit) (c .before .before .before .before .before .before .before .before .before .before .before .before .before .before .before .before .before .before .before .before .before .before .before .before .before .before .before .before .before .before .before .assemble-untested .ensures))
+    (rows-laid Values (given .delay-beats .now) (given .delay-values .now) (taken .delays) (fit .delaysFit) (c .before .before .before .before .before .before .before .before .before .before .before .before .before .before .before .before .before .before .before .before .before .before .before .before .before .before .before .before .before .before .before .assemble-untested .ensures))
     (speeds-laid speeds (speeds .number ∙ fit .speedsFit))
     (list-of-pair scrolls (scrolls .number ∙ fit .scrollsFit))
-    (rows-laid true (given .fake-beats .now) (given .fake-lengths .now) (taken .fakes) (fit .fakesFit) (c .before .before .before .before .assemble-untested4 .ensures))
+    (rows-laid Lengths (given .fake-beats .now) (given .fake-lengths .now) (taken .fakes) (fit .fakesFit) (c .before .before .before .before .assemble-untested4 .ensures))
 
 pub compute-timing-segments-spec : {M : Type 1} → statement M
 compute-timing-segments-spec =

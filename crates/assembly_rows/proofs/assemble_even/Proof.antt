@@ -6,7 +6,7 @@ use lib.Ieee.{lt}
 use Rattle.rows.specs.Rows.{quantized}
 use Rattle.limits.specs.Neighbours.{everyTwo}
 use Rattle.columns.proofs.LaidEach.{laid-all}
-use Rattle.assembly_rows.proofs.Untested.{rising, falling, not-rising}
+use Rattle.assembly_rows.proofs.Untested.{rising, fallen, not-rising}
 use borrow.Author.Needs.{needs}
 use Rattle.assembly_rows.proofs.assemble_even.Statement.{statement}
 use Rattle.assembly_rows.proofs.assemble_even.Tie as tie
@@ -21,8 +21,8 @@ beats-are c = let s = start c in c .quantize-column-f32 .ensures ∙ laid-all qu
 quantize-column-f32-requires : tie.Need-quantize-column-f32-requires
 quantize-column-f32-requires c κs = search needs
 
-rise-requires : tie.Need-rise-requires
-rise-requires c κs = search needs
+rise-f32-requires : tie.Need-rise-f32-requires
+rise-f32-requires c κs = search needs
 
 lay-each-requires : tie.Need-lay-each-requires
 lay-each-requires c κs = search needs
@@ -40,8 +40,8 @@ returns : tie.Need-returns
 returns c =
     let q = c .before .before .before .before .before .before .before .before .before .before .before .before .before in
     let s = start q in
-    rising (s .args .beats .now) (s .args .values .now) (s .args .whole) (sym (s .pre .0)) (s .pre .1) (beats-are q)
-    (sym (c .before .before .before .before .before .before .before .before .before .rise .ensures) ∙ c .before .before .before .before .before .before .before .before .if1 .taken) (c .before .before .before .before .lay-each .ensures)
+    rising (s .args .beats .now) (s .args .values .now) (s .args .meaning) (sym (s .pre .0)) (s .pre .1) (beats-are q)
+    (sym (c .before .before .before .before .before .before .before .before .before .rise-f32 .ensures) ∙ c .before .before .before .before .before .before .before .before .if1 .taken) (c .before .before .before .before .lay-each .ensures)
 
 falls-and-taken-requires : tie.Need-falls-and-taken-requires
 falls-and-taken-requires c κs = search needs
@@ -66,8 +66,8 @@ returns-2 c =
     let falls = c .before .before .before .before .before .before .before .before in
     let q = falls .before .before .before .before .before .before .before .before in
     let s = start q in
-    falling (s .args .beats .now) (s .args .values .now) (s .args .whole) (sym (s .pre .0)) (s .pre .1) (beats-are q)
-    (sym (falls .before .before .before .before .rise .ensures) ∙ falls .before .before .before .if1 .left)
+    fallen (s .args .beats .now) (s .args .values .now) (s .args .meaning) (sym (s .pre .0)) (s .pre .1) (beats-are q)
+    (sym (falls .before .before .before .before .rise-f32 .ensures) ∙ falls .before .before .before .if1 .left)
     (sym (falls .before .falls-and-taken .ensures) ∙ falls .if2 .taken) (c .before .before .before .before .lay-turned .ensures)
 
 assemble-any-requires : tie.Need-assemble-any-requires
@@ -87,15 +87,15 @@ returns-3 c =
     let neither = c .before .before .before .before .before .before .before in
     let q = neither .before .before .before .before .before .before .before .before in
     let s = start q in
-    not-rising (s .args .beats .now) (s .args .values .now) (s .args .whole) (sym (s .pre .0)) (s .pre .1)
-    (ap (everyTwo lt) (sym (beats-are q)) ∙ sym (neither .before .before .before .before .rise .ensures) ∙ neither .before .before .before .if1 .left) (c .before .before .before .before .assemble-any .ensures)
+    not-rising (s .args .beats .now) (s .args .values .now) (s .args .meaning) (sym (s .pre .0)) (s .pre .1)
+    (ap (everyTwo lt) (sym (beats-are q)) ∙ sym (neither .before .before .before .before .rise-f32 .ensures) ∙ neither .before .before .before .if1 .left) (c .before .before .before .before .assemble-any .ensures)
 
 pub assemble-even-spec : {M : Type 1} → statement M
 assemble-even-spec =
     tie.close
     (tie.spec
     quantize-column-f32-requires
-    rise-requires
+    rise-f32-requires
     lay-each-requires
     same-length
     same-length-2

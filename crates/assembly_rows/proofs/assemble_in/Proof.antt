@@ -44,8 +44,8 @@ returns c = let given = c .before .before .before .before .before .before .befor
     let values = given .values .now in
     let pre = c .before .before .before .before .before .before .before .before .before .before .before .before .before .before .before .before .before .before .before .before .before .before .before .before .before .before .before .before .before .before .before .before .before .before .pre in
     let work-beats = c .before .before .before .before .before .before .before .before .before .before .before .before .before .before .before .before .before .before .before .before .before .before .before .before .quantize-column .ensures ∙ laid-all quantized beats (given .work-beats .now) (sym (pre .0 .1)) in
-    let work-values = c .before .before .before .before .before .before .before .before .before .before .before .before .before .before .before .before .before .before .before .before .change-column .ensures ∙ laid-all (changeBy (given .whole)) values (given .work-values .now) (pre .0 .0 ∙ sym (pre .0 .2)) in
-    by-columns (given .whole) beats values (pre .1 .0) (pre .1 .1) (pre .0 .0) (rw (work-beats, work-values) at (c .before .before .before .before .before .before .before .before .before .before .before .before .before .tidy-row-segments .ensures)) (c .before .before .before .before .lay-narrowed .ensures)
+    let work-values = c .before .before .before .before .before .before .before .before .before .before .before .before .before .before .before .before .before .before .before .before .change-column .ensures ∙ laid-all (changeBy (given .meaning)) values (given .work-values .now) (pre .0 .0 ∙ sym (pre .0 .2)) in
+    by-columns (given .meaning) beats values (pre .1 .0) (pre .1 .1) (pre .0 .0) (rw (work-beats, work-values) at (c .before .before .before .before .before .before .before .before .before .before .before .before .before .tidy-row-segments .ensures)) (c .before .before .before .before .lay-narrowed .ensures)
 
 pub assemble-in-spec : {M : Type 1} → statement M
 assemble-in-spec =

@@ -26,7 +26,7 @@ same-length-2 c = search needs
 returns : tie.Need-returns
 returns c =
     let given = c .before .before .before .before .before .before .before .before .before .before .before .before .before .args in
-    untested-taken (given .beats .now) (given .values .now) (given .whole) (sym (c .before .before .before .before .before .before .before .before .list-number .ensures) ∙ c .before .before .before .before .before .before .before .if1 .taken) (c .before .before .before .before .assemble-untested .ensures)
+    untested-taken (given .beats .now) (given .values .now) (given .meaning) (sym (c .before .before .before .before .before .before .before .before .list-number .ensures) ∙ c .before .before .before .before .before .before .before .if1 .taken) (c .before .before .before .before .assemble-untested .ensures)
 
 refused-requires : tie.Need-refused-requires
 refused-requires c κs = search needs
@@ -37,8 +37,8 @@ returns-2 c =
     let beats = given .beats .now in
     let values = given .values .now in
     rw (c .refused .ensures)
-    (refused-as (assembledRows (changeBy (given .whole)) beats values) (given .out-beats .now) (given .out-values .now)
-    (too-long (rangeOf Beat) (rangeOf Value) quantized (changeBy (given .whole)) beats values (sym (c .before .before .before .list-number .ensures) ∙ c .before .if2 .taken)) (λ e. omega arith))
+    (refused-as (assembledRows (changeBy (given .meaning)) beats values) (given .out-beats .now) (given .out-values .now)
+    (too-long (rangeOf Beat) (rangeOf Value) quantized (changeBy (given .meaning)) beats values (sym (c .before .before .before .list-number .ensures) ∙ c .before .if2 .taken)) (λ e. omega arith))
 
 refused-requires-2 : tie.Need-refused-requires-2
 refused-requires-2 c κs = search needs
@@ -49,8 +49,8 @@ returns-3 c =
     let beats = given .beats .now in
     let values = given .values .now in
     rw (c .refused2 .ensures)
-    (refused-as (assembledRows (changeBy (given .whole)) beats values) (given .out-beats .now) (given .out-values .now)
-    (uneven (rangeOf Beat) (rangeOf Value) quantized (changeBy (given .whole)) beats values (sym (c .before .before .before .before .list-number .ensures) ∙ c .before .if3 .taken)) (λ e. omega arith))
+    (refused-as (assembledRows (changeBy (given .meaning)) beats values) (given .out-beats .now) (given .out-values .now)
+    (uneven (rangeOf Beat) (rangeOf Value) quantized (changeBy (given .meaning)) beats values (sym (c .before .before .before .before .list-number .ensures) ∙ c .before .if3 .taken)) (λ e. omega arith))
 
 assemble-any-requires : tie.Need-assemble-any-requires
 assemble-any-requires c κs =

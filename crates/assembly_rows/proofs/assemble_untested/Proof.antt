@@ -14,7 +14,7 @@ refused-requires c κs = search needs
 returns : tie.Need-returns
 returns c =
     let given = c .before .before .before .before .before .before .before .args in
-    rw (c .refused .ensures, c .before .list-number .ensures) (differing-refused (given .beats .now) (given .values .now) (given .whole) (given .out-beats .now) (given .out-values .now) (c .before .before .if1 .taken))
+    rw (c .refused .ensures, c .before .list-number .ensures) (differing-refused (given .beats .now) (given .values .now) (given .meaning) (given .out-beats .now) (given .out-values .now) (c .before .before .if1 .taken))
 
 assemble-even-few-requires : tie.Need-assemble-even-few-requires
 assemble-even-few-requires c κs = (sym (c .before .before .before .if1 .left), c .before .before .if2 .taken)
@@ -46,7 +46,7 @@ refused-requires-2 c κs = search needs
 returns-4 : tie.Need-returns-4
 returns-4 c =
     let given = c .before .before .before .before .before .before .before .before .args in
-    rw (c .refused2 .ensures) (long-refused (given .beats .now) (given .values .now) (given .whole) (given .out-beats .now) (given .out-values .now) (c .before .before .before .if1 .left) (c .before .if3 .left))
+    rw (c .refused2 .ensures) (long-refused (given .beats .now) (given .values .now) (given .meaning) (given .out-beats .now) (given .out-values .now) (c .before .before .before .if1 .left) (c .before .if3 .left))
 
 pub assemble-untested-spec : {M : Type 1} → statement M
 assemble-untested-spec =

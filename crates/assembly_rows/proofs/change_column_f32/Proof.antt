@@ -5,6 +5,9 @@ use borrow.Author.Needs.{needs}
 use Rattle.assembly_rows.proofs.change_column_f32.Statement.{statement}
 use Rattle.assembly_rows.proofs.change_column_f32.Tie as tie
 
+enum-told : tie.Need-enum-told
+enum-told c = search needs
+
 quantize-column-f32-requires : tie.Need-quantize-column-f32-requires
 quantize-column-f32-requires c κs = search needs
 
@@ -12,7 +15,10 @@ same-length : tie.Need-same-length
 same-length c = search needs
 
 returns : tie.Need-returns
-returns c = rw (c .before .before .before .before .if1 .taken) (c .before .before .quantize-column-f32 .ensures ∙ sym (each-quantized (c .before .before .before .before .before .before .before .args .from .now) (c .before .before .before .before .before .before .before .args .to .now)))
+returns c = rw (c .before .before .before .before .enum-told .given .1) (c .before .before .quantize-column-f32 .ensures ∙ sym (each-quantized (c .before .before .before .before .before .before .before .before .args .from .now) (c .before .before .before .before .before .before .before .before .args .to .now)))
+
+enum-told-2 : tie.Need-enum-told-2
+enum-told-2 c = search needs
 
 narrow-column-requires : tie.Need-narrow-column-requires
 narrow-column-requires c κs = search needs
@@ -21,15 +27,17 @@ same-length-2 : tie.Need-same-length-2
 same-length-2 c = search needs
 
 returns-2 : tie.Need-returns-2
-returns-2 c = rw (c .before .before .before .before .if1 .left) (c .before .before .narrow-column .ensures)
+returns-2 c = rw (c .before .before .before .before .enum-told2 .given .1) (c .before .before .narrow-column .ensures)
 
 pub change-column-f32-spec : {M : Type 1} → statement M
 change-column-f32-spec =
     tie.close
     (tie.spec
+    enum-told
     quantize-column-f32-requires
+    enum-told-2
+    narrow-column-requires
     same-length
     returns
-    narrow-column-requires
     same-length-2
     returns-2)

@@ -24,7 +24,7 @@ assemble-rows-requires c κs = search needs
 
 returns : tie.Need-returns
 returns c = let given = c .before .before .before .before .before .before .before .before .args in
-    fits-by-call (given .whole) (given .beats .now) (given .values .now) (given .room) (c .before .before .before .before .before .before .before .before .pre .0) (length-take-le _ _ (omega (arith, c .before .before .before .before .before .before .before .before .pre))) (length-take-le _ _ (omega (arith, c .before .before .before .before .before .before .before .before .pre))) (c .before .before .before .assemble-rows .ensures)
+    fits-by-call (given .meaning) (given .beats .now) (given .values .now) (given .room) (c .before .before .before .before .before .before .before .before .pre .0) (length-take-le _ _ (omega (arith, c .before .before .before .before .before .before .before .before .pre))) (length-take-le _ _ (omega (arith, c .before .before .before .before .before .before .before .before .pre))) (c .before .before .before .assemble-rows .ensures)
 
 pub fits-below-spec : {M : Type 1} → statement M
 fits-below-spec =

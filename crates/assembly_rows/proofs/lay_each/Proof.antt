@@ -25,7 +25,7 @@ returns c =
     let given = c .before .before .before .before .before .before .args in
     let quantised = given .quantised .now in
     let values = given .values .now in
-    rw (c .refused .ensures) (refused-as (eachByItself (given .whole) quantised values) (given .out-beats .now) (given .out-values .now) (rw (ne-eqb (length quantised) (length values) (c .before .if1 .taken))) (λ e. omega arith))
+    rw (c .refused .ensures) (refused-as (eachByItself (given .meaning) quantised values) (given .out-beats .now) (given .out-values .now) (rw (ne-eqb (length quantised) (length values) (c .before .if1 .taken))) (λ e. omega arith))
 
 room-of-requires : tie.Need-room-of-requires
 room-of-requires c κs = search needs
@@ -38,11 +38,11 @@ returns-2 c =
     let given = c .before .before .before .before .before .before .before .before .args in
     let quantised = given .quantised .now in
     let values = given .values .now in
-    let change : Float → Float = λ value. narrow (changeBy (given .whole) value) in
+    let change : Float → Float = λ value. narrow (changeBy (given .meaning) value) in
     let even : length quantised ≡ length values = c .before .before .before .if1 .left in
-    let long : length (eachByItself (given .whole) quantised values) ≡ length quantised = length-entries quantised (map change values) (even ∙ sym (length-map values change)) in
+    let long : length (eachByItself (given .meaning) quantised values) ≡ length quantised = length-entries quantised (map change values) (even ∙ sym (length-map values change)) in
     rw (c .refused2 .ensures)
-    (refused-for-room _ (eachByItself (given .whole) quantised values) (given .out-beats .now) (given .out-values .now) (rw (eq-eqb (length quantised) (length values) even)) (omega (arith, c .before .if2 .taken, c .before .before .room-of .ensures, long)))
+    (refused-for-room _ (eachByItself (given .meaning) quantised values) (given .out-beats .now) (given .out-values .now) (rw (eq-eqb (length quantised) (length values) even)) (omega (arith, c .before .if2 .taken, c .before .before .room-of .ensures, long)))
 
 copy-column-f32-requires : tie.Need-copy-column-f32-requires
 copy-column-f32-requires c κs = search needs
@@ -61,12 +61,12 @@ returns-3 c =
     let given = c .before .before .before .before .before .before .before .before .before .before .before .before .before .before .before .args in
     let quantised = given .quantised .now in
     let values = given .values .now in
-    let change : Float → Float = λ value. narrow (changeBy (given .whole) value) in
+    let change : Float → Float = λ value. narrow (changeBy (given .meaning) value) in
     let even : length quantised ≡ length values = c .before .before .before .before .before .before .before .before .before .before .if1 .left in
     let as-many : length quantised ≡ length (map change values) = even ∙ sym (length-map values change) in
-    let long : length (eachByItself (given .whole) quantised values) ≡ length quantised = length-entries quantised (map change values) as-many in
+    let long : length (eachByItself (given .meaning) quantised values) ≡ length quantised = length-entries quantised (map change values) as-many in
     let room : length quantised ≤ min (length (given .out-beats .now)) (length (given .out-values .now)) = omega (arith, c .before .before .before .before .before .before .before .before .if2 .left, c .before .before .before .before .before .before .before .before .before .room-of .ensures) in
-    taken _ (eachByItself (given .whole) quantised values) (given .out-beats .now) (given .out-values .now) (length quantised) _ _ (rw (eq-eqb (length quantised) (length values) even)) (omega (arith, long, room)) (sym long)
+    taken _ (eachByItself (given .meaning) quantised values) (given .out-beats .now) (given .out-values .now) (length quantised) _ _ (rw (eq-eqb (length quantised) (length values) even)) (omega (arith, long, room)) (sym long)
     (c .before .before .before .before .before .before .copy-column-f32 .ensures ∙ copied-over-front quantised (given .out-beats .now) (omega (arith, room))
     ∙ ap (λ (l : List Float). laid l (given .out-beats .now)) (sym (first-entries quantised (map change values) as-many)))
     (c .before .before .change-column-f32 .ensures ∙ each-over-front change values (given .out-values .now) (omega (arith, room, even))

@@ -17,7 +17,7 @@ abbrev start : tie.After-lay-each → tie.Start
 start c = c .before .before .before .before .before .before .before
 
 laid-pair : (c : tie.After-lay-each)
-    → LaidPair 0 (eachByItself (start c .args .whole) (start c .args .quantised .now) (start c .args .values .now)) (c .lay-each .result) (start c .args .out-beats .now)
+    → LaidPair 0 (eachByItself (start c .args .meaning) (start c .args .quantised .now) (start c .args .values .now)) (c .lay-each .result) (start c .args .out-beats .now)
     (c .lay-each .last .1 .1 .1 .0) (start c .args .out-values .now) (c .lay-each .last .1 .1 .1 .1 .0)
 laid-pair c = rw (eq-eqb (length (start c .args .quantised .now)) (length (start c .args .values .now)) (start c .pre)) at (c .lay-each .ensures)
 

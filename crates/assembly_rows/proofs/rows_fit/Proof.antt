@@ -5,10 +5,10 @@ use Rattle.assembly_rows.proofs.rows_fit.Statement.{statement}
 use Rattle.assembly_rows.proofs.rows_fit.Tie as tie
 
 returns : tie.Need-returns
-returns c = fits-at-once (c .before .before .before .args .whole) (c .before .before .before .args .beats .now) (c .before .before .before .args .values .now) (c .before .before .before .args .room) (c .if1 .taken)
+returns c = fits-at-once (c .before .before .before .args .meaning) (c .before .before .before .args .beats .now) (c .before .before .before .args .values .now) (c .before .before .before .args .room) (c .if1 .taken)
 
 returns-2 : tie.Need-returns-2
-returns-2 c = long-unfit (c .before .before .before .before .args .whole) (c .before .before .before .before .args .beats .now) (c .before .before .before .before .args .values .now) (c .before .before .before .before .args .room) (c .before .if1 .left) (c .if2 .taken)
+returns-2 c = long-unfit (c .before .before .before .before .args .meaning) (c .before .before .before .before .args .beats .now) (c .before .before .before .before .args .values .now) (c .before .before .before .before .args .room) (c .before .if1 .left) (c .if2 .taken)
 
 fits-below-requires : tie.Need-fits-below-requires
 fits-below-requires c κs = search needs

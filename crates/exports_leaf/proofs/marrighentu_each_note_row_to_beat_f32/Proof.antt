@@ -18,44 +18,14 @@ Inv-loop rows beats₀ n i₀ beats i = LayingEach (beatOf binary32) rows beats�
 abbrev μ-loop : tie.MeasureT-loop
 μ-loop rows beats₀ n i₀ beats i = n - i
 
-lesser-requires : tie.Need-lesser-requires Inv-loop μ-loop
-lesser-requires c κs = search needs
-
-loop-holds : tie.Need-loop-holds Inv-loop μ-loop
-loop-holds c = begun (c .lesser .ensures)
-
-mul-note-row-to-beat-f32 : tie.Need-mul-note-row-to-beat-f32 Inv-loop μ-loop
-mul-note-row-to-beat-f32 c = search needs
-
 shared-slice-copy-out-note-row-to-beat-f32 :
     tie.Need-shared-slice-copy-out-note-row-to-beat-f32 Inv-loop μ-loop
 shared-slice-copy-out-note-row-to-beat-f32 c = search needs
-
-note-row-to-beat-f32-requires : tie.Need-note-row-to-beat-f32-requires Inv-loop μ-loop
-note-row-to-beat-f32-requires c κs = search needs
-
-mul-beats : tie.Need-mul-beats Inv-loop μ-loop
-mul-beats c = search needs
-
-slice-write-beats : tie.Need-slice-write-beats Inv-loop μ-loop
-slice-write-beats c = search needs
-
-add-i : tie.Need-add-i Inv-loop μ-loop
-add-i c = search needs
-
-loop-less : tie.Need-loop-less Inv-loop μ-loop
-loop-less c = search needs
 
 loop-again : tie.Need-loop-again Inv-loop μ-loop
 loop-again c =
     turned (c .before .before .before .loop .inv) (pos 0) (omega arith)
     (c .note-row-to-beat-f32 .ensures ∙ ap (beatOf binary32) (toZ-ofZ w32 _ (record { sfits = c .before .note-row-to-beat-f32-arg .given })))
-
-same-length : tie.Need-same-length Inv-loop μ-loop
-same-length c = search needs
-
-returns : tie.Need-returns Inv-loop μ-loop
-returns c = ended (c .before .loop .inv) (omega arith)
 
 pub marrighentu-each-note-row-to-beat-f32-spec : {M : Type 1} → statement M
 marrighentu-each-note-row-to-beat-f32-spec =
@@ -63,15 +33,15 @@ marrighentu-each-note-row-to-beat-f32-spec =
     (tie.spec
     Inv-loop
     μ-loop
-    lesser-requires
-    loop-holds
-    mul-note-row-to-beat-f32
+    (λ c κs. search needs)
+    (λ c. begun (c .lesser .ensures))
+    (λ c. search needs)
     shared-slice-copy-out-note-row-to-beat-f32
-    note-row-to-beat-f32-requires
-    mul-beats
-    slice-write-beats
-    add-i
-    loop-less
+    (λ c κs. search needs)
+    (λ c. search needs)
+    (λ c. search needs)
+    (λ c. search needs)
+    (λ c. search needs)
     loop-again
-    same-length
-    returns)
+    (λ c. search needs)
+    (λ c. ended (c .before .loop .inv) (omega arith)))

@@ -14,57 +14,21 @@ Inv-loop beats quantised₀ n i₀ quantised i = LayingEach quantized32 beats qu
 abbrev μ-loop : tie.MeasureT-loop
 μ-loop beats quantised₀ n i₀ quantised i = n - i
 
-lesser-requires : tie.Need-lesser-requires Inv-loop μ-loop
-lesser-requires c κs = search needs
-
-loop-holds : tie.Need-loop-holds Inv-loop μ-loop
-loop-holds c = begun (c .lesser .ensures)
-
-mul-quantize-beat-f32 : tie.Need-mul-quantize-beat-f32 Inv-loop μ-loop
-mul-quantize-beat-f32 c = search needs
-
-shared-slice-read-quantize-beat-f32 : tie.Need-shared-slice-read-quantize-beat-f32 Inv-loop μ-loop
-shared-slice-read-quantize-beat-f32 c = search needs
-
-quantize-beat-f32-requires : tie.Need-quantize-beat-f32-requires Inv-loop μ-loop
-quantize-beat-f32-requires c κs = search needs
-
-mul-quantised : tie.Need-mul-quantised Inv-loop μ-loop
-mul-quantised c = search needs
-
-slice-write-quantised : tie.Need-slice-write-quantised Inv-loop μ-loop
-slice-write-quantised c = search needs
-
-add-i : tie.Need-add-i Inv-loop μ-loop
-add-i c = search needs
-
-loop-less : tie.Need-loop-less Inv-loop μ-loop
-loop-less c = search needs
-
-loop-again : tie.Need-loop-again Inv-loop μ-loop
-loop-again c = turned (c .before .before .before .loop .inv) nan (omega arith) (search needs)
-
-same-length : tie.Need-same-length Inv-loop μ-loop
-same-length c = search needs
-
-returns : tie.Need-returns Inv-loop μ-loop
-returns c = ended (c .before .loop .inv) (omega arith)
-
 pub marrighentu-each-quantize-beat-f32-spec : {M : Type 1} → statement M
 marrighentu-each-quantize-beat-f32-spec =
     tie.close
     (tie.spec
     Inv-loop
     μ-loop
-    lesser-requires
-    loop-holds
-    mul-quantize-beat-f32
-    shared-slice-read-quantize-beat-f32
-    quantize-beat-f32-requires
-    mul-quantised
-    slice-write-quantised
-    add-i
-    loop-less
-    loop-again
-    same-length
-    returns)
+    (λ c κs. search needs)
+    (λ c. begun (c .lesser .ensures))
+    (λ c. search needs)
+    (λ c. search needs)
+    (λ c κs. search needs)
+    (λ c. search needs)
+    (λ c. search needs)
+    (λ c. search needs)
+    (λ c. search needs)
+    (λ c. turned (c .before .before .before .loop .inv) nan (omega arith) (search needs))
+    (λ c. search needs)
+    (λ c. ended (c .before .loop .inv) (omega arith)))

@@ -1,5 +1,6 @@
 -- `process::process_given` has the tempos and stops processed by the call of their format. Assumes nothing.
 use borrow.Author.Needs.{needs}
+use Rattle.chart.specs.ChartColumns.{listColumns}
 use Rattle.process.proofs.FormatLists.{ssc-laid}
 use Rattle.process.proofs.process_given.Statement.{statement}
 use Rattle.process.proofs.process_given.Tie as tie
@@ -70,7 +71,7 @@ same-length-10 c = search needs
 
 -- src/lib.rt:13:1
 returns-2 : tie.Need-returns-2
-returns-2 c = rw (c .before .before .before .before .before .before .before .before .before .before .before .before .before .enum-told2 .given .1) (ssc-laid (c .before .before .before .before .before .before .before .before .before .before .before .before .before .before .before .before .before .before .before .before .before .before .before .before .before .args .out-warp-beats .now) (c .before .before .before .before .before .before .before .before .before .before .before .before .before .before .before .before .before .before .before .before .before .before .before .before .before .args .out-warp-lengths .now) (c .before .before .before .before .before .before .before .before .process-bpms-and-stops-ssc .ensures))
+returns-2 c = rw (c .before .before .before .before .before .before .before .before .before .before .before .before .before .enum-told2 .given .1) (ssc-laid (listColumns (c .before .before .before .before .before .before .before .before .before .before .before .before .before .before .before .before .before .before .before .before .before .before .before .before .before .args .out-warp-beats .now) (c .before .before .before .before .before .before .before .before .before .before .before .before .before .before .before .before .before .before .before .before .before .before .before .before .before .args .out-warp-lengths .now)) (c .before .before .before .before .before .before .before .before .process-bpms-and-stops-ssc .ensures))
 
 pub process-given-spec : {M : Type 1} → statement M
 process-given-spec =

@@ -1,10 +1,16 @@
 -- `process_sm::process_bpms_and_stops_sm` goes by whether every room holds the most that the lists come to. Assumes nothing.
+use lib.ListN.{length}
+use Rattle.process_raw.specs.LentLists.{threeColumns}
 use Rattle.process_sm.specs.inside.Rooms.{ResultRooms}
 use borrow.Author.Needs.{needs}
 use Rattle.process_sm.proofs.process_bpms_and_stops_sm.Statement.{statement}
 use Rattle.process_sm.proofs.process_bpms_and_stops_sm.Tie as tie
 
-rooms : (c : tie.Then1) → ResultRooms (c .before .before .before .before .before .before .before .before .before .before .before .before .before .before .before .args .tempo-beats .now) (c .before .before .before .before .before .before .before .before .before .before .before .before .before .before .before .args .stop-beats .now) (c .before .before .before .before .before .before .before .before .before .before .before .before .before .before .before .args .out-tempo-beats .now) (c .before .before .before .before .before .before .before .before .before .before .before .before .before .before .before .args .out-tempo-values .now) (c .before .before .before .before .before .before .before .before .before .before .before .before .before .before .before .args .out-stop-beats .now) (c .before .before .before .before .before .before .before .before .before .before .before .before .before .before .before .args .out-stop-values .now) (c .before .before .before .before .before .before .before .before .before .before .before .before .before .before .before .args .out-warp-beats .now) (c .before .before .before .before .before .before .before .before .before .before .before .before .before .before .before .args .out-warp-lengths .now)
+abbrev given : tie.Then1 → tie.Start
+given c = c .before .before .before .before .before .before .before .before .before .before .before .before .before .before .before
+
+rooms : (c : tie.Then1) → ResultRooms (length (given c .args .tempo-beats .now)) (length (given c .args .stop-beats .now))
+    (threeColumns (given c .args .out-tempo-beats .now) (given c .args .out-tempo-values .now) (given c .args .out-stop-beats .now) (given c .args .out-stop-values .now) (given c .args .out-warp-beats .now) (given c .args .out-warp-lengths .now))
 rooms c = rw (c .before .before .before .before .room-of .ensures, c .before .before .before .room-of2 .ensures, c .before .before .room-of3 .ensures) at (c .before .rooms-hold .ensures (c .if1 .taken))
 
 room-of-requires : tie.Need-room-of-requires

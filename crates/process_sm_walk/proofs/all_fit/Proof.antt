@@ -16,27 +16,6 @@ Inv-loop tempos from so-far₀ i₀ so-far i = SoFar fits tempos from i so-far
 abbrev μ-loop : tie.MeasureT-loop
 μ-loop tempos from so-far₀ i₀ so-far i = length tempos - i
 
-loop-holds : tie.Need-loop-holds Inv-loop μ-loop
-loop-holds c = refl
-
-mul-fits : tie.Need-mul-fits Inv-loop μ-loop
-mul-fits c = search needs
-
-shared-slice-read-fits : tie.Need-shared-slice-read-fits Inv-loop μ-loop
-shared-slice-read-fits c = search needs
-
-fits-requires : tie.Need-fits-requires Inv-loop μ-loop
-fits-requires c κs = search needs
-
-both-requires : tie.Need-both-requires Inv-loop μ-loop
-both-requires c κs = search needs
-
-add-i : tie.Need-add-i Inv-loop μ-loop
-add-i c = search needs
-
-loop-less : tie.Need-loop-less Inv-loop μ-loop
-loop-less c = omega arith
-
 loop-again : tie.Need-loop-again Inv-loop μ-loop
 loop-again c =
     let at = c .before .before .before .before in
@@ -54,12 +33,12 @@ all-fit-spec =
     (tie.spec
     Inv-loop
     μ-loop
-    loop-holds
-    mul-fits
-    shared-slice-read-fits
-    fits-requires
-    both-requires
-    add-i
-    loop-less
+    (λ c. refl)
+    (λ c. search needs)
+    (λ c. search needs)
+    (λ c κs. search needs)
+    (λ c κs. search needs)
+    (λ c. search needs)
+    (λ c. omega arith)
     loop-again
     returns)

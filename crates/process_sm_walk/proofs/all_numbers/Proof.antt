@@ -16,27 +16,6 @@ Inv-loop values so-far₀ i₀ so-far i = SoFar isNumber values 0 i so-far
 abbrev μ-loop : tie.MeasureT-loop
 μ-loop values so-far₀ i₀ so-far i = length values - i
 
-loop-holds : tie.Need-loop-holds Inv-loop μ-loop
-loop-holds c = refl
-
-mul-is-number : tie.Need-mul-is-number Inv-loop μ-loop
-mul-is-number c = search needs
-
-shared-slice-read-is-number : tie.Need-shared-slice-read-is-number Inv-loop μ-loop
-shared-slice-read-is-number c = search needs
-
-is-number-requires : tie.Need-is-number-requires Inv-loop μ-loop
-is-number-requires c κs = search needs
-
-both-requires : tie.Need-both-requires Inv-loop μ-loop
-both-requires c κs = search needs
-
-add-i : tie.Need-add-i Inv-loop μ-loop
-add-i c = search needs
-
-loop-less : tie.Need-loop-less Inv-loop μ-loop
-loop-less c = omega arith
-
 loop-again : tie.Need-loop-again Inv-loop μ-loop
 loop-again c =
     let at = c .before .before .before .before in
@@ -54,12 +33,12 @@ all-numbers-spec =
     (tie.spec
     Inv-loop
     μ-loop
-    loop-holds
-    mul-is-number
-    shared-slice-read-is-number
-    is-number-requires
-    both-requires
-    add-i
-    loop-less
+    (λ c. refl)
+    (λ c. search needs)
+    (λ c. search needs)
+    (λ c κs. search needs)
+    (λ c κs. search needs)
+    (λ c. search needs)
+    (λ c. omega arith)
     loop-again
     returns)

@@ -16,27 +16,6 @@ Inv-loop stops from so-far₀ i₀ so-far i = SoFar isPause stops from i so-far
 abbrev μ-loop : tie.MeasureT-loop
 μ-loop stops from so-far₀ i₀ so-far i = length stops - i
 
-loop-holds : tie.Need-loop-holds Inv-loop μ-loop
-loop-holds c = refl
-
-mul-is-pause : tie.Need-mul-is-pause Inv-loop μ-loop
-mul-is-pause c = search needs
-
-shared-slice-read-is-pause : tie.Need-shared-slice-read-is-pause Inv-loop μ-loop
-shared-slice-read-is-pause c = search needs
-
-is-pause-requires : tie.Need-is-pause-requires Inv-loop μ-loop
-is-pause-requires c κs = search needs
-
-both-requires : tie.Need-both-requires Inv-loop μ-loop
-both-requires c κs = search needs
-
-add-i : tie.Need-add-i Inv-loop μ-loop
-add-i c = search needs
-
-loop-less : tie.Need-loop-less Inv-loop μ-loop
-loop-less c = omega arith
-
 loop-again : tie.Need-loop-again Inv-loop μ-loop
 loop-again c =
     let at = c .before .before .before .before in
@@ -54,12 +33,12 @@ all-pause-spec =
     (tie.spec
     Inv-loop
     μ-loop
-    loop-holds
-    mul-is-pause
-    shared-slice-read-is-pause
-    is-pause-requires
-    both-requires
-    add-i
-    loop-less
+    (λ c. refl)
+    (λ c. search needs)
+    (λ c. search needs)
+    (λ c κs. search needs)
+    (λ c κs. search needs)
+    (λ c. search needs)
+    (λ c. omega arith)
     loop-again
     returns)

@@ -75,7 +75,7 @@ is c =
     let stopped = c .before .before .pass-stop in
     let delayed = c .before .pass-delay in
     let warped = c .pass-warp in
-    list-by-list (lists l) (heads l) (c .before .before .before .lesser-of2 .result) (least (c .before .before .before)) (stopped .result .place) (delayed .result .place) (warped .result .tempo) (warped .result .place) (stopped .result .sum) (delayed .result .sum) (warped .result .sum) (stopped .ensures .0) (stopped .ensures .1) (delayed .ensures .0) (delayed .ensures .1) (warped .ensures .0 .0) (warped .ensures .0 .1) (warped .ensures .0 .2)
+    list-by-list (lists l) (heads l) (c .before .before .before .lesser-of2 .result) (least (c .before .before .before)) (stopped .result .place) (delayed .result .place) (warped .result .tempo) (warped .result .place) (stopped .result .sum) (delayed .result .sum) (warped .result .sum) (stopped .ensures .placeIs) (stopped .ensures .sumIs) (delayed .ensures .placeIs) (delayed .ensures .sumIs) (warped .ensures .tempoIs) (warped .ensures .placeIs) (warped .ensures .sumIs)
 
 -- ---- what is asked
 head-at-requires : tie.Need-head-at-requires Inv-loop μ-loop
@@ -178,11 +178,11 @@ loop-again c =
       laid-turn (lists l) (heads l) (plain l) (flat (mergedStops (lists l) atFirst)) (l .before .before .before .before .before .before .before .before .before .before .before .before .before .before .args .work .now) (l .loop .work) (l .loop .at) (l .loop .inv .0) (l .before .before .before .before .before .before .before .before .before .before .before .before .before .before .pre .1) (more (c .before .before .before .before .before .before .before .before .before)) (made (c .before .before .before .before)) (is (c .before .before .before .before)) (laid .result) (laid .last .0) (laid .ensures .0) (laid .ensures .1),
       subst (λ (t : Turned). Fit (lists l) (t .heads)) (sym (is (c .before .before .before .before))) (turned-fit (lists l) (heads l) (plain l) (more (c .before .before .before .before .before .before .before .before .before)) (l .loop .inv .1)),
       record {
-        next = c .before .before .before .before .pass-warp .ensures .1 .0;
-        seconds = c .before .before .before .before .pass-warp .ensures .1 .1;
-        stop = c .before .before .before .before .before .before .pass-stop .ensures .2;
-        delay = c .before .before .before .before .before .pass-delay .ensures .2;
-        warp = c .before .before .before .before .pass-warp .ensures .1 .2;
+        next = c .before .before .before .before .pass-warp .ensures .nextIs;
+        seconds = c .before .before .before .before .pass-warp .ensures .secondsIs;
+        stop = c .before .before .before .before .before .before .pass-stop .ensures .headIs;
+        delay = c .before .before .before .before .before .pass-delay .ensures .headIs;
+        warp = c .before .before .before .before .pass-warp .ensures .headIs;
       },
     )
 

@@ -25,12 +25,16 @@ read-at-requires c κs = search needs
 
 returns : tie.Need-returns
 unfolding ofBits
-returns c = (c .before .before .tempo-up-to .ensures, c .before .head-at .ensures, rw (c .read-at .ensures))
+returns c = record { tempoIs = c .before .before .tempo-up-to .ensures; nextIs = c .before .head-at .ensures; secondsIs = rw (c .read-at .ensures) }
 
 returns-2 : tie.Need-returns-2
 returns-2 c =
     let start = c .before .before .before in
-    (tempo-stays (start .args .tempo-beats .now) (start .args .tempo) (start .args .beat) (omega (arith, start .pre .0, start .good .0 .1)) (sym (ap (λ (x : Float). le x (start .args .beat)) (start .pre .1 .0)) ∙ c .if1 .left), start .pre .1 .0, start .pre .1 .1)
+    record {
+      tempoIs = tempo-stays (start .args .tempo-beats .now) (start .args .tempo) (start .args .beat) (omega (arith, start .pre .0, start .good .0 .1)) (sym (ap (λ (x : Float). le x (start .args .beat)) (start .pre .1 .0)) ∙ c .if1 .left);
+      nextIs = start .pre .1 .0;
+      secondsIs = start .pre .1 .1;
+    }
 
 pub pace-up-to-spec : {M : Type 1} → statement M
 pace-up-to-spec =

@@ -38,12 +38,13 @@ shared-slice-read-t13 : tie.Need-shared-slice-read-t13
 shared-slice-read-t13 c = inside (c .before .before)
 
 returns : tie.Need-returns
-returns c = rw (met (c .before .before)) (refl, refl, c .before .head-at .ensures)
+returns c = let is = met (c .before .before) in record { placeIs = rw is; sumIs = rw is; headIs = c .before .head-at .ensures }
 
 returns-2 : tie.Need-returns-2
 returns-2 c =
     let start = c .before .before .before in
-    rw (met-as (start .args .delay-beats .now) (start .args .place) (start .args .head) (start .args .beat) (start .pre .1 .0) (start .pre .1 .1) (c .if1 .left)) (refl, refl, start .pre .1 .0)
+    let is = met-as (start .args .delay-beats .now) (start .args .place) (start .args .head) (start .args .beat) (start .pre .1 .0) (start .pre .1 .1) (c .if1 .left) in
+    record { placeIs = rw is; sumIs = rw is; headIs = start .pre .1 .0 }
 
 pub pass-delay-spec : {M : Type 1} → statement M
 pass-delay-spec =

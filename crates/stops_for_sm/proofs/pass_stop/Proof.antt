@@ -43,13 +43,14 @@ shared-slice-read-t12 c = inside (c .before .before)
 
 returns : tie.Need-returns
 unfolding ofBits
-returns c = rw (met (c .before .before)) (refl, refl, c .before .head-at .ensures)
+returns c = let is = met (c .before .before) in record { placeIs = rw is; sumIs = rw is; headIs = c .before .head-at .ensures }
 
 returns-2 : tie.Need-returns-2
 unfolding ofBits
 returns-2 c =
     let start = c .before .before in
-    rw (met-as (start .args .stops .now) (start .args .place) (start .args .head) (start .args .beat) (start .pre .1 .0) (start .pre .1 .1) (c .if1 .left)) (refl, refl, start .pre .1 .0)
+    let is = met-as (start .args .stops .now) (start .args .place) (start .args .head) (start .args .beat) (start .pre .1 .0) (start .pre .1 .1) (c .if1 .left) in
+    record { placeIs = rw is; sumIs = rw is; headIs = start .pre .1 .0 }
 
 pub pass-stop-spec : {M : Type 1} → statement M
 pass-stop-spec =

@@ -45,13 +45,15 @@ returns : tie.Need-returns
 returns c =
     let start = c .before .before .before .before .before .before .before .before .before in
     let pace = c .before .before .before .pace-up-to .ensures in
-    let taken = ap (λ (x : Float). sub binary32 (start .args .sum) (mul binary32 x (getD (start .args .warp-lengths .now) (start .args .place) nan))) (pace .2) in
-    rw (met (c .before .before .before .before)) ((pace .0, refl, taken), (pace .1, pace .2, c .before .before .head-at .ensures))
+    let taken = ap (λ (x : Float). sub binary32 (start .args .sum) (mul binary32 x (getD (start .args .warp-lengths .now) (start .args .place) nan))) (pace .secondsIs) in
+    let is = met (c .before .before .before .before) in
+    record { tempoIs = rw is (pace .tempoIs); placeIs = rw is; sumIs = rw is taken; nextIs = pace .nextIs; secondsIs = pace .secondsIs; headIs = c .before .before .head-at .ensures }
 
 returns-2 : tie.Need-returns-2
 returns-2 c =
     let start = c .before .before .before .before .before in
-    rw (met-as (start .args .warp-beats .now) (start .args .place) (start .args .head) (start .args .beat) (start .pre .1 .1 .0) (start .pre .1 .1 .1) (c .if1 .left)) ((refl, refl, refl), (start .pre .1 .0 .0, start .pre .1 .0 .1, start .pre .1 .1 .0))
+    let is = met-as (start .args .warp-beats .now) (start .args .place) (start .args .head) (start .args .beat) (start .pre .1 .1 .0) (start .pre .1 .1 .1) (c .if1 .left) in
+    record { tempoIs = rw is; placeIs = rw is; sumIs = rw is; nextIs = start .pre .1 .0 .0; secondsIs = start .pre .1 .0 .1; headIs = start .pre .1 .1 .0 }
 
 pub pass-warp-spec : {M : Type 1} → statement M
 pass-warp-spec =

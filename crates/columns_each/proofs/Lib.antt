@@ -1,0 +1,2 @@
+pub mod InTwoLoops
+pub mod QuantizedNumbers
