@@ -10,7 +10,7 @@ ghost use Rattle.limits.specs.Numbers.{rangeOf, allIn, miss};
 ghost use Rattle.limits.specs.Neighbours.{everyTwo};
 ghost use Rattle.columns.specs.Each.{laidEach};
 ghost use Rattle.order.specs.Order.{neverFalls};
-ghost use Rattle.rows.specs.RowKey.{rowKeyAt};
+ghost use Rattle.rows.specs.RowKey.{rowKeyAt, onRow};
 ghost use Rattle.tidy_kept.specs.Searching.{placeAfter};
 ghost use Rattle.tidy_by_rows.specs.ByMarks.{rowRises, onMarkedRow};
 
@@ -93,6 +93,18 @@ pub fn lay_on_rows(beats: &[f64], to: &mut [f64])
     let mut i = 0;
     while i < n {
         to[i] = rows::beat_of_mark(rows::row_mark(beats[i]));
+        i += 1;
+    }
+}
+
+// Each beat moved to its row, whatever it is, as far as both columns go.
+pub fn lay_each_on_row(beats: &[f64], to: &mut [f64])
+    ensures { λ _. ⌜ to.exit.now ≡ laidEach onRow beats.entry.now to.entry.now ⌝ }
+{
+    let n = columns::room_of(beats.len(), to.len());
+    let mut i = 0;
+    while i < n {
+        to[i] = rows::on_row(beats[i]);
         i += 1;
     }
 }

@@ -263,7 +263,13 @@ struct Placed {
     falls: bool,
 }
 
-fn add_scroll_segment_slow(beats: &mut [f64], values: &mut [f64], n: usize, beat: f64, value: f64) -> Placed
+fn add_scroll_segment_slow(
+    beats: &mut [f64],
+    values: &mut [f64],
+    n: usize,
+    beat: f64,
+    value: f64,
+) -> Placed
     requires { ⌜ (n < 1024) × (n < length beats.now) × (length beats.now ≡ length values.now) ⌝ }
     requires { ⌜ neverFalls rowKeyAt (take n beats.now) ≡ true ⌝ }
     ensures { λ r. ⌜ PlacedOne rowKeyAt nearTo (beat, value) n beats.entry.now values.entry.now (r .count) (r .falls) beats.exit.now values.exit.now ⌝ }
@@ -338,12 +344,8 @@ fn lay_rows(
         let list = map onItsRow (frontEntries count beats.entry.now values.entry.now) in
         ⌜ Laid list «out_beats».entry.now «out_beats».exit.now «out_values».entry.now «out_values».exit.now ⌝ }
 {
-    let mut i = 0;
-    while i < count {
-        out_beats[i] = rows::on_row(beats[i]);
-        out_values[i] = values[i];
-        i += 1;
-    }
+    tidy_by_rows::lay_each_on_row(&beats[..count], out_beats);
+    columns::copy(&values[..count], out_values);
 }
 
 fn tidy_placed_in(

@@ -14,7 +14,7 @@ use Rattle.columns.specs.declared.Outcome.{Outcome}
 use Rattle.rows.specs.RowKey.{rowKeyAt}
 use Rattle.tidy_kept.specs.Keeping.{keptOf, keepNumber}
 use Rattle.tidy_speeds_entries.specs.Speed.{SpeedEntry, nearSpeed, speedEntries, speedOnRow}
-use Rattle.tidy_speeds_entries.specs.LaidSpeeds.{LaidSpeeds}
+use Rattle.tidy_speeds_entries.specs.LaidSpeeds.{LaidSpeeds, LaysSpeeds}
 
 -- 4 where a ratio, a delay or a unit is out of range
 unfoldable pub valuesNumber : List Float → List Float → List ℕ → ℕ
@@ -52,6 +52,5 @@ SpeedsTidied beats ratios delays units outcome = LaidSpeeds (speedsNumber beats 
 -- the same, with list and rooms as columns
 abbrev pub TidiesSpeeds : (speeds : SpeedColumns) → Outcome → (old new : SpeedColumns) → Type 0
 TidiesSpeeds speeds outcome old new =
-    SpeedsTidied (speeds .beats) (speeds .ratios) (speeds .delays) (speeds .units) outcome
-    (old .beats) (new .beats) (old .ratios) (new .ratios)
-    (old .delays) (new .delays) (old .units) (new .units)
+    LaysSpeeds (speedsNumber (speeds .beats) (speeds .ratios) (speeds .delays) (speeds .units))
+    (tidySpeeds (speeds .beats) (speeds .ratios) (speeds .delays) (speeds .units)) outcome old new

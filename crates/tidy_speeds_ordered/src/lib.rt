@@ -175,8 +175,7 @@ fn lay_kept(
     out_units: &mut [u8],
 ) -> usize
     requires { ⌜ n ≡ leastOf (length beats.now) (length ratios.now) (length delays.now) (length units.now) ⌝ }
-    requires {
-        let kept = keptSpeeds (speedEntries beats.now ratios.now delays.now units.now) in
+    requires { let kept = keptSpeeds (speedEntries beats.now ratios.now delays.now units.now) in
         ⌜ length kept ≤ leastOf (length «out_beats».now) (length «out_ratios».now) (length «out_delays».now) (length «out_units».now) ⌝ }
     ensures { λ r. ⌜ r ≡ length (keptSpeeds (speedEntries beats.entry.now ratios.entry.now delays.entry.now units.entry.now)) ⌝ }
     ensures { λ _.

@@ -7,11 +7,11 @@ ghost use mathlib.Core.Bool.{true, false};
 ghost use mathlib.Core.List.{map};
 ghost use Prim.Native.Nat.{_-_, _≤_, _<_};
 ghost use lib.Dec.{ltb};
-ghost use lib.ListN.{length, take, getD, set};
+ghost use lib.ListN.{length, take, getD};
 ghost use lib.Ieee.{nan};
 ghost use Rattle.picks.specs.Pick.{pick};
 ghost use Rattle.order.specs.Order.{neverFalls};
-ghost use Rattle.rows.specs.RowKey.{rowKeyAt, onRow};
+ghost use Rattle.rows.specs.RowKey.{rowKeyAt};
 ghost use Rattle.chart.specs.ChartColumns.{lentSpeeds, speedsBefore, speedsAfter};
 ghost use Rattle.tidy_kept.specs.inside.Changed.{countBy, Changed};
 ghost use Rattle.tidy_kept.specs.inside.Placing.{PlacedOne, PlacedAll};
@@ -258,28 +258,6 @@ fn place_all(
     }
 }
 
-// An entry at a place of the rooms, on its row.
-fn write_speed(
-    out_beats: &mut [f64],
-    out_ratios: &mut [f64],
-    out_delays: &mut [f64],
-    out_units: &mut [u8],
-    at: usize,
-    beat: f64,
-    value: Speed,
-)
-    requires { ⌜ (at < length «out_beats».now) × (at < length «out_ratios».now) × (at < length «out_delays».now) × (at < length «out_units».now) ⌝ }
-    ensures { λ _. ⌜ «out_beats».exit.now ≡ set «out_beats».entry.now at (onRow beat) ⌝ }
-    ensures { λ _. ⌜ «out_ratios».exit.now ≡ set «out_ratios».entry.now at (value .ratio) ⌝ }
-    ensures { λ _. ⌜ «out_delays».exit.now ≡ set «out_delays».entry.now at (value .delay) ⌝ }
-    ensures { λ _. ⌜ «out_units».exit.now ≡ set «out_units».entry.now at (value .unit) ⌝ }
-{
-    out_beats[at] = rows::on_row(beat);
-    out_ratios[at] = value.ratio;
-    out_delays[at] = value.delay;
-    out_units[at] = value.unit;
-}
-
 fn lay_rows(
     beats: &[f64],
     ratios: &[f64],
@@ -298,20 +276,10 @@ fn lay_rows(
         let rooms = lentSpeeds «out_beats» «out_ratios» «out_delays» «out_units» in
         ⌜ LaidOver (map speedOnRow list) (speedsBefore rooms) (speedsAfter rooms) ⌝ }
 {
-    let mut i = 0;
-    while i < count {
-        let value = speed_at(ratios, delays, units, i);
-        write_speed(
-            out_beats,
-            out_ratios,
-            out_delays,
-            out_units,
-            i,
-            beats[i],
-            value,
-        );
-        i += 1;
-    }
+    tidy_by_rows::lay_each_on_row(&beats[..count], out_beats);
+    columns::copy(&ratios[..count], out_ratios);
+    columns::copy(&delays[..count], out_delays);
+    tidy_speeds_entries::copy_units(&units[..count], out_units);
 }
 
 fn tidy_in(
