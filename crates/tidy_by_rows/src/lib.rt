@@ -10,13 +10,13 @@ ghost use Rattle.limits.specs.Numbers.{rangeOf, allIn, miss};
 ghost use Rattle.limits.specs.Neighbours.{everyTwo};
 ghost use Rattle.columns.specs.Each.{laidEach};
 ghost use Rattle.order.specs.Order.{neverFalls};
-ghost use Rattle.rows.specs.RowKey.{rowKeyAt};
+ghost use Rattle.rows.specs.RowKey.{rowKeyAt, onRow};
 ghost use Rattle.tidy_kept.specs.Searching.{placeAfter};
 ghost use Rattle.tidy_by_rows.specs.ByMarks.{rowRises, onMarkedRow};
 
 // Whether no row is below the one before it.
 pub fn in_order(beats: &[f64]) -> bool
-    ensures { λ r. ⌜ r ≡ neverFalls rowKeyAt (now (beats .entry)) ⌝ }
+    ensures { λ r. ⌜ r ≡ neverFalls rowKeyAt beats.entry.now ⌝ }
 {
     let mut last = 0;
     let mut i = 0;
@@ -33,7 +33,7 @@ pub fn in_order(beats: &[f64]) -> bool
 
 // How many beats, whose rows never fall, are on rows up to one (`found`, a law of `keeping`): a search by halves.
 pub fn place_after(beats: &[f64], row: u32) -> usize
-    ensures { λ r. ⌜ r ≡ placeAfter rowKeyAt nan (now (beats .entry)) row ⌝ }
+    ensures { λ r. ⌜ r ≡ placeAfter rowKeyAt nan beats.entry.now row ⌝ }
 {
     let mut low = 0;
     let mut high = beats.len();
@@ -63,8 +63,8 @@ fn not_later(beat: f64, next: f64) -> usize
 }
 
 fn allowed_rise(beats: &[f64]) -> bool
-    requires { ⌜ allIn (rangeOf Kind.Beat) (now beats) ≡ true ⌝ }
-    ensures { λ r. ⌜ r ≡ everyTwo rowRises (now (beats .entry)) ⌝ }
+    requires { ⌜ allIn (rangeOf Kind.Beat) beats.now ≡ true ⌝ }
+    ensures { λ r. ⌜ r ≡ everyTwo rowRises beats.entry.now ⌝ }
 {
     let mut fail: usize = 0;
     let mut i = 0;
@@ -77,7 +77,7 @@ fn allowed_rise(beats: &[f64]) -> bool
 
 // Whether every beat is allowed and on a later row than the one before it.
 pub fn rise(beats: &[f64]) -> bool
-    ensures { λ r. ⌜ r ≡ pick (allIn (rangeOf Kind.Beat) (now (beats .entry))) (everyTwo rowRises (now (beats .entry))) false ⌝ }
+    ensures { λ r. ⌜ r ≡ pick (allIn (rangeOf Kind.Beat) beats.entry.now) (everyTwo rowRises beats.entry.now) false ⌝ }
 {
     if limits::column_taken(Kind::Beat, beats) {
         return allowed_rise(beats);
@@ -87,12 +87,24 @@ pub fn rise(beats: &[f64]) -> bool
 
 // Each beat moved to its row by the mark, which is right for allowed beats, as far as both columns go.
 pub fn lay_on_rows(beats: &[f64], to: &mut [f64])
-    ensures { λ _. ⌜ now (to .exit) ≡ laidEach onMarkedRow (now (beats .entry)) (now (to .entry)) ⌝ }
+    ensures { λ _. ⌜ to.exit.now ≡ laidEach onMarkedRow beats.entry.now to.entry.now ⌝ }
 {
     let n = columns::room_of(beats.len(), to.len());
     let mut i = 0;
     while i < n {
         to[i] = rows::beat_of_mark(rows::row_mark(beats[i]));
+        i += 1;
+    }
+}
+
+// Each beat moved to its row, whatever it is, as far as both columns go.
+pub fn lay_each_on_row(beats: &[f64], to: &mut [f64])
+    ensures { λ _. ⌜ to.exit.now ≡ laidEach onRow beats.entry.now to.entry.now ⌝ }
+{
+    let n = columns::room_of(beats.len(), to.len());
+    let mut i = 0;
+    while i < n {
+        to[i] = rows::on_row(beats[i]);
         i += 1;
     }
 }

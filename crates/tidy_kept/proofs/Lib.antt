@@ -1,5 +1,6 @@
 pub mod PartReplaced
 pub mod InOnePass
+pub mod ByFlags
 pub mod PlacedByPlace
 pub mod OrderKept
 pub mod Searched

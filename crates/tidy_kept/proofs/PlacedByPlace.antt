@@ -14,7 +14,7 @@ use mathlib.Core.Logic.{inl, inr}
 use Rattle.order.proofs.Compare.{below?}
 use Rattle.tidy_kept.specs.declared.Change.{Change}
 use Rattle.tidy_kept.specs.Keeping.{rowOf, nearby, movedTo, atFront, onRowOf, previous, cleared, settled, amid, placedBetween, placedAfter}
-use Rattle.tidy_kept.specs.Changing.{coming, spliced, change, cut, changeOf}
+use Rattle.tidy_kept.specs.Changing.{coming, spliced, change, cut, branchOf, changeWhere, changeOf}
 
 -- ---- a list whose front is given nearest first
 module _ {A : Type 0} where
@@ -257,11 +257,7 @@ module _ {B W : Type 0} (row : B → ℕ) (near : W → W → Bool) where
           first? (suc last) = let no : eqb (suc last) 0 ≡ false = ne-eqb (suc last) 0 (λ z. omega arith) in rw no (omega arith)
       cuts false = omega arith
 
-      go : (o nearNext nearPrevious nearLast : Bool) → (nearNext ≡ true → at - 1 + 1 < n) → Fitting n
-          (pick nearNext
-          (pick nearPrevious (change (cut (at - 1) o) (at - 1 + 2) false false false) (change (cut (at - 1) o) (at - 1 + 2) true true (eqb at 0)))
-          (pick nearPrevious (change (cut (at - 1) o) (at - 1 + 1) false false false)
-          (pick o (pick nearLast (change at at false false false) (change (at - 1) at true false false)) (change at at true false false))))
+      go : (o nearNext nearPrevious nearLast : Bool) → (nearNext ≡ true → at - 1 + 1 < n) → Fitting n (changeWhere at o (branchOf o nearNext nearPrevious nearLast))
       go o true true nearLast next = let a = cuts o in let b = next refl in record { low = omega arith; high = omega arith }
       go o true false nearLast next = let a = cuts o in let b = next refl in record { low = omega arith; high = omega arith }
       go o false true nearLast next = let a = cuts o in record { low = omega arith; high = omega arith }

@@ -5,10 +5,9 @@ use mathlib.Core.Bool.{Bool, true, false, not}
 use mathlib.Core.List.{List, [], _∷_}
 use mathlib.Core.Logic.{inl, inr}
 use native.Mathlib.Omega.{arith}
-use native.Mathlib.Numerals.{add-one}
 use lib.Dec.{ltb, eqb}
-use lib.ListN.{length, take, drop, getD, set, drop-of-length-le}
-use lib.Seq.{length-take-le, getD-take, drop-cons}
+use lib.ListN.{length, take, drop, getD, set}
+use lib.Seq.{length-take-le, getD-take}
 use borrow.Author.Tests.{lt-ltb, le-ltb}
 use Rattle.picks.specs.Pick.{pick}
 use Rattle.order.specs.Order.{run, neverFalls, mayPrecede}
@@ -42,12 +41,6 @@ module _ {B W : Type 0} (n : ℕ) (beats : List B) (values : List W) (few : n �
 
   pub getD-listed : (i : ℕ) (b : B) (w : W) → i < n → getD (frontEntries n beats values) i (b, w) ≡ (getD beats i b, getD values i w)
   getD-listed i b w h = entries-getD (take n beats) (take n values) i b w even ∙ rw (getD-take n beats i b h, getD-take n values i w h)
-
-  pub listed-here : (i : ℕ) (b : B) (w : W) → i < n → drop i (frontEntries n beats values) ≡ (getD beats i b, getD values i w) ∷ drop (i + 1) (frontEntries n beats values)
-  listed-here i b w h = rw (add-one i, drop-cons (frontEntries n beats values) i (b, w) (omega (arith, length-listed)), getD-listed i b w h)
-
-  pub listed-end : (i : ℕ) → n ≤ i → drop i (frontEntries n beats values) ≡ []
-  listed-end i h = let past : length (frontEntries n beats values) ≤ i = omega (arith, length-listed) in drop-of-length-le (frontEntries n beats values) past
 
 -- ---- one entry
 module _ {B W : Type 0} (row : B → ℕ) (near : W → W → Bool) (noBeat : B) (noValue : W) where

@@ -31,12 +31,40 @@ change low high comes moves falls = record { low = low; high = high; comes = com
 abbrev pub cut : ℕ → Bool → ℕ
 cut last onRow = pick onRow (pick (eqb last 0) 1 last) (last + 1)
 
--- The change that an entry makes which has `at` kept entries on rows up to its own: whether the last of these is on its row, and whether its value is near
--- that of the next one, of the one it is held against, and of the last one. `moves`: what comes has the value of the next one. `falls`: the kept list falls then.
-unfoldable pub changeOf : ℕ → Bool → Bool → Bool → Bool → Change
+-- What becomes of an entry, a name for each branch of the original's function. It is held against the last kept entry on rows up to its own, or where that one
+-- is on its row against the one before.
+pub data Branch : Type 0 where
+  -- near that one and the next one: the next one goes
+  bothNear : Branch
+  -- near the next one alone: that one moves to its beat
+  nextNear : Branch
+  -- near the one it is held against: it does not come
+  previousNear : Branch
+  -- on the row of the last one and near that: nothing changes
+  sameAgain : Branch
+  -- on the row of the last one: it takes that one's place
+  inPlace : Branch
+  -- else it comes behind the last one
+  behindLast : Branch
+
+-- by whether the last one is on its row, and whether its value is near that of the next one, of the one it is held against, and of the last one
+abbrev pub branchOf : (onRow nearNext nearPrevious nearLast : Bool) → Branch
+branchOf onRow nearNext nearPrevious nearLast =
+    pick nearNext
+    (pick nearPrevious bothNear nextNear)
+    (pick nearPrevious previousNear (pick onRow (pick nearLast sameAgain inPlace) behindLast))
+
+-- What a branch comes to where `at` kept entries are on rows up to its own. In the first three, a last one on its row goes too, unless it is the only one.
+-- `moves`: what comes has the value of the next one. `falls`: the kept list falls then.
+abbrev pub changeWhere : (at : ℕ) (onRow : Bool) → Branch → Change
+changeWhere at onRow bothNear = change (cut (at - 1) onRow) (at - 1 + 2) false false false
+changeWhere at onRow nextNear = change (cut (at - 1) onRow) (at - 1 + 2) true true (eqb at 0)
+changeWhere at onRow previousNear = change (cut (at - 1) onRow) (at - 1 + 1) false false false
+changeWhere at onRow sameAgain = change at at false false false
+changeWhere at onRow inPlace = change (at - 1) at true false false
+changeWhere at onRow behindLast = change at at true false false
+
+-- the change that an entry makes
+unfoldable pub changeOf : (at : ℕ) (onRow nearNext nearPrevious nearLast : Bool) → Change
 changeOf at onRow nearNext nearPrevious nearLast =
-    pick (ltb mostEntries at) (change 0 0 false false false)
-    (pick nearNext
-    (pick nearPrevious (change (cut (at - 1) onRow) (at - 1 + 2) false false false) (change (cut (at - 1) onRow) (at - 1 + 2) true true (eqb at 0)))
-    (pick nearPrevious (change (cut (at - 1) onRow) (at - 1 + 1) false false false)
-    (pick onRow (pick nearLast (change at at false false false) (change (at - 1) at true false false)) (change at at true false false))))
+    pick (ltb mostEntries at) (change 0 0 false false false) (changeWhere at onRow (branchOf onRow nearNext nearPrevious nearLast))

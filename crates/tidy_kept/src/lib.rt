@@ -23,7 +23,7 @@ fn one_near(value: f64, next: f64) -> usize
 
 // Whether no value is near the one before it: a loop that counts those has no branch.
 pub fn all_apart(values: &[f64]) -> bool
-    ensures { λ r. ⌜ r ≡ everyTwo farFrom (now (values .entry)) ⌝ }
+    ensures { λ r. ⌜ r ≡ everyTwo farFrom values.entry.now ⌝ }
 {
     let mut fail: usize = 0;
     let mut i = 0;

@@ -101,8 +101,8 @@ fn pass(held: Held, row: u32, beat: f64, value: f64) -> Held
 }
 
 fn count_kept(beats: &[f64], values: &[f64]) -> usize
-    requires { ⌜ length (now beats) ≡ length (now values) ⌝ }
-    ensures { λ r. ⌜ r ≡ length (stillWritten rowKeyAt nearTo noScrollHeld (entries (now (beats .entry)) (now (values .entry)))) ⌝ }
+    requires { ⌜ length beats.now ≡ length values.now ⌝ }
+    ensures { λ r. ⌜ r ≡ length (stillWritten rowKeyAt nearTo noScrollHeld (entries beats.entry.now values.entry.now)) ⌝ }
 {
     let mut held = none_held();
     let mut count = 0;
@@ -126,10 +126,12 @@ fn count_kept(beats: &[f64], values: &[f64]) -> usize
 }
 
 fn lay_kept(beats: &[f64], values: &[f64], out_beats: &mut [f64], out_values: &mut [f64]) -> usize
-    requires { ⌜ length (now beats) ≡ length (now values) ⌝ }
-    requires { ⌜ length (stillWritten rowKeyAt nearTo noScrollHeld (entries (now beats) (now values))) ≤ min (length (now «out_beats»)) (length (now «out_values»)) ⌝ }
-    ensures { λ r. ⌜ r ≡ length (stillWritten rowKeyAt nearTo noScrollHeld (entries (now (beats .entry)) (now (values .entry)))) ⌝ }
-    ensures { λ _. ⌜ Laid (writtenFrom noScrollHeld (entries (now (beats .entry)) (now (values .entry)))) (now («out_beats» .entry)) (now («out_beats» .exit)) (now («out_values» .entry)) (now («out_values» .exit)) ⌝ }
+    requires { ⌜ length beats.now ≡ length values.now ⌝ }
+    requires { ⌜ length (stillWritten rowKeyAt nearTo noScrollHeld (entries beats.now values.now)) ≤ min (length «out_beats».now) (length «out_values».now) ⌝ }
+    ensures { λ r. ⌜ r ≡ length (stillWritten rowKeyAt nearTo noScrollHeld (entries beats.entry.now values.entry.now)) ⌝ }
+    ensures { λ _.
+        let list = writtenFrom noScrollHeld (entries beats.entry.now values.entry.now) in
+        ⌜ Laid list «out_beats».entry.now «out_beats».exit.now «out_values».entry.now «out_values».exit.now ⌝ }
 {
     let mut held = none_held();
     let mut count = 0;
@@ -158,8 +160,8 @@ fn lay_kept(beats: &[f64], values: &[f64], out_beats: &mut [f64], out_values: &m
 
 // Whether the kept entries have room: counted only where there are more entries than room.
 fn fits(beats: &[f64], values: &[f64], room: usize) -> bool
-    requires { ⌜ length (now beats) ≡ length (now values) ⌝ }
-    ensures { λ r. ⌜ r ≡ leb (length (stillWritten rowKeyAt nearTo noScrollHeld (entries (now (beats .entry)) (now (values .entry))))) room ⌝ }
+    requires { ⌜ length beats.now ≡ length values.now ⌝ }
+    ensures { λ r. ⌜ r ≡ leb (length (stillWritten rowKeyAt nearTo noScrollHeld (entries beats.entry.now values.entry.now))) room ⌝ }
 {
     if beats.len() <= room {
         return true;
@@ -173,9 +175,9 @@ fn tidy_ordered(
     out_beats: &mut [f64],
     out_values: &mut [f64],
 ) -> Outcome
-    requires { ⌜ listNumber (rangeOf Kind.Beat) (rangeOf Kind.Value) (now beats) (now values) ≡ 0 ⌝ }
-    requires { ⌜ neverFalls rowKeyAt (now beats) ≡ true ⌝ }
-    ensures { λ r. ⌜ ScrollsTidied (now (beats .entry)) (now (values .entry)) r (now («out_beats» .entry)) (now («out_beats» .exit)) (now («out_values» .entry)) (now («out_values» .exit)) ⌝ }
+    requires { ⌜ listNumber (rangeOf Kind.Beat) (rangeOf Kind.Value) beats.now values.now ≡ 0 ⌝ }
+    requires { ⌜ neverFalls rowKeyAt beats.now ≡ true ⌝ }
+    ensures { λ r. ⌜ ScrollsTidied beats.entry.now values.entry.now r «out_beats».entry.now «out_beats».exit.now «out_values».entry.now «out_values».exit.now ⌝ }
 {
     let room = columns::room_of(out_beats.len(), out_values.len());
     if !fits(beats, values, room) {
@@ -196,9 +198,9 @@ fn tidy_rising(
     out_beats: &mut [f64],
     out_values: &mut [f64],
 ) -> Outcome
-    requires { ⌜ listNumber (rangeOf Kind.Beat) (rangeOf Kind.Value) (now beats) (now values) ≡ 0 ⌝ }
-    requires { ⌜ everyTwo rowRises (now beats) ≡ true ⌝ }
-    ensures { λ r. ⌜ ScrollsTidied (now (beats .entry)) (now (values .entry)) r (now («out_beats» .entry)) (now («out_beats» .exit)) (now («out_values» .entry)) (now («out_values» .exit)) ⌝ }
+    requires { ⌜ listNumber (rangeOf Kind.Beat) (rangeOf Kind.Value) beats.now values.now ≡ 0 ⌝ }
+    requires { ⌜ everyTwo rowRises beats.now ≡ true ⌝ }
+    ensures { λ r. ⌜ ScrollsTidied beats.entry.now values.entry.now r «out_beats».entry.now «out_beats».exit.now «out_values».entry.now «out_values».exit.now ⌝ }
 {
     if beats.len() <= columns::room_of(out_beats.len(), out_values.len()) {
         if tidy_kept::all_apart(values) {
@@ -217,8 +219,8 @@ fn tidy_rising(
 
 // Whether a value is near that at a place of the first n.
 fn near_at(values: &[f64], n: usize, place: usize, value: f64) -> bool
-    requires { ⌜ n ≤ length (now values) ⌝ }
-    ensures { λ r. ⌜ r ≡ pick (ltb place n) (nearTo value (getD (now (values .entry)) place nan)) false ⌝ }
+    requires { ⌜ n ≤ length values.now ⌝ }
+    ensures { λ r. ⌜ r ≡ pick (ltb place n) (nearTo value (getD values.entry.now place nan)) false ⌝ }
 {
     if place < n {
         return tidy_kept::near(value, values[place]);
@@ -227,9 +229,9 @@ fn near_at(values: &[f64], n: usize, place: usize, value: f64) -> bool
 }
 
 fn change_at(beats: &[f64], values: &[f64], n: usize, beat: f64, value: f64) -> Change
-    requires { ⌜ (0 < n) × (n ≤ 1024) × (n ≤ length (now beats)) × (n ≤ length (now values)) ⌝ }
-    requires { ⌜ neverFalls rowKeyAt (take n (now beats)) ≡ true ⌝ }
-    ensures { λ r. ⌜ Changed rowKeyAt nearTo (beat, value) (frontEntries n (now (beats .entry)) (now (values .entry))) r ⌝ }
+    requires { ⌜ (0 < n) × (n ≤ 1024) × (n ≤ length beats.now) × (n ≤ length values.now) ⌝ }
+    requires { ⌜ neverFalls rowKeyAt (take n beats.now) ≡ true ⌝ }
+    ensures { λ r. ⌜ Changed rowKeyAt nearTo (beat, value) (frontEntries n beats.entry.now values.entry.now) r ⌝ }
 {
     let row = rows::row_key(beat);
     let at = tidy_by_rows::place_after(&beats[..n], row);
@@ -246,8 +248,8 @@ fn change_at(beats: &[f64], values: &[f64], n: usize, beat: f64, value: f64) -> 
 
 // The value that comes: the entry's own, or where the next one moves that one's.
 fn value_of(values: &[f64], change: Change, value: f64) -> f64
-    requires { ⌜ (change .moves ≡ true → 0 < change .high) × (change .high ≤ length (now values)) ⌝ }
-    ensures { λ r. ⌜ r ≡ pick (change .moves) (getD (now (values .entry)) (change .high - 1) nan) value ⌝ }
+    requires { ⌜ (change .moves ≡ true → 0 < change .high) × (change .high ≤ length values.now) ⌝ }
+    ensures { λ r. ⌜ r ≡ pick (change .moves) (getD values.entry.now (change .high - 1) nan) value ⌝ }
 {
     if change.moves {
         return values[change.high - 1];
@@ -261,10 +263,16 @@ struct Placed {
     falls: bool,
 }
 
-fn place(beats: &mut [f64], values: &mut [f64], n: usize, beat: f64, value: f64) -> Placed
-    requires { ⌜ (n < 1024) × (n < length (now beats)) × (length (now beats) ≡ length (now values)) ⌝ }
-    requires { ⌜ neverFalls rowKeyAt (take n (now beats)) ≡ true ⌝ }
-    ensures { λ r. ⌜ PlacedOne rowKeyAt nearTo (beat, value) n (now (beats .entry)) (now (values .entry)) (r .count) (r .falls) (now (beats .exit)) (now (values .exit)) ⌝ }
+fn add_scroll_segment_slow(
+    beats: &mut [f64],
+    values: &mut [f64],
+    n: usize,
+    beat: f64,
+    value: f64,
+) -> Placed
+    requires { ⌜ (n < 1024) × (n < length beats.now) × (length beats.now ≡ length values.now) ⌝ }
+    requires { ⌜ neverFalls rowKeyAt (take n beats.now) ≡ true ⌝ }
+    ensures { λ r. ⌜ PlacedOne rowKeyAt nearTo (beat, value) n beats.entry.now values.entry.now (r .count) (r .falls) beats.exit.now values.exit.now ⌝ }
 {
     if n == 0 {
         beats[0] = beat;
@@ -298,9 +306,9 @@ fn place_all(
     kept_beats: &mut [f64],
     kept_values: &mut [f64],
 ) -> Placed
-    requires { ⌜ (length (now beats) ≤ 1024) × (length (now beats) ≡ length (now values)) ⌝ }
-    requires { ⌜ (length (now beats) ≤ length (now «kept_beats»)) × (length (now «kept_beats») ≡ length (now «kept_values»)) ⌝ }
-    ensures { λ r. ⌜ PlacedAll rowKeyAt nearTo (entries (now (beats .entry)) (now (values .entry))) (r .count) (r .falls) (now («kept_beats» .exit)) (now («kept_values» .exit)) ⌝ }
+    requires { ⌜ (length beats.now ≤ 1024) × (length beats.now ≡ length values.now) ⌝ }
+    requires { ⌜ (length beats.now ≤ length «kept_beats».now) × (length «kept_beats».now ≡ length «kept_values».now) ⌝ }
+    ensures { λ r. ⌜ PlacedAll rowKeyAt nearTo (entries beats.entry.now values.entry.now) (r .count) (r .falls) «kept_beats».exit.now «kept_values».exit.now ⌝ }
 {
     let mut kept = Placed {
         count: 0,
@@ -314,7 +322,7 @@ fn place_all(
                 falls: true,
             };
         }
-        kept = place(kept_beats, kept_values, kept.count, beats[i], values[i]);
+        kept = add_scroll_segment_slow(kept_beats, kept_values, kept.count, beats[i], values[i]);
         i += 1;
     }
     Placed {
@@ -330,16 +338,14 @@ fn lay_rows(
     out_beats: &mut [f64],
     out_values: &mut [f64],
 )
-    requires { ⌜ (count ≤ length (now beats)) × (count ≤ length (now values)) ⌝ }
-    requires { ⌜ count ≤ min (length (now «out_beats»)) (length (now «out_values»)) ⌝ }
-    ensures { λ _. ⌜ Laid (map onItsRow (frontEntries count (now (beats .entry)) (now (values .entry)))) (now («out_beats» .entry)) (now («out_beats» .exit)) (now («out_values» .entry)) (now («out_values» .exit)) ⌝ }
+    requires { ⌜ (count ≤ length beats.now) × (count ≤ length values.now) ⌝ }
+    requires { ⌜ count ≤ min (length «out_beats».now) (length «out_values».now) ⌝ }
+    ensures { λ _.
+        let list = map onItsRow (frontEntries count beats.entry.now values.entry.now) in
+        ⌜ Laid list «out_beats».entry.now «out_beats».exit.now «out_values».entry.now «out_values».exit.now ⌝ }
 {
-    let mut i = 0;
-    while i < count {
-        out_beats[i] = rows::on_row(beats[i]);
-        out_values[i] = values[i];
-        i += 1;
-    }
+    tidy_by_rows::lay_each_on_row(&beats[..count], out_beats);
+    columns::copy(&values[..count], out_values);
 }
 
 fn tidy_placed_in(
@@ -350,10 +356,10 @@ fn tidy_placed_in(
     out_beats: &mut [f64],
     out_values: &mut [f64],
 ) -> Outcome
-    requires { ⌜ listNumber (rangeOf Kind.Beat) (rangeOf Kind.Value) (now beats) (now values) ≡ 0 ⌝ }
-    requires { ⌜ neverFalls rowKeyAt (now beats) ≡ false ⌝ }
-    requires { ⌜ (length (now beats) ≤ length (now «kept_beats»)) × (length (now «kept_beats») ≡ length (now «kept_values»)) ⌝ }
-    ensures { λ r. ⌜ ScrollsTidied (now (beats .entry)) (now (values .entry)) r (now («out_beats» .entry)) (now («out_beats» .exit)) (now («out_values» .entry)) (now («out_values» .exit)) ⌝ }
+    requires { ⌜ listNumber (rangeOf Kind.Beat) (rangeOf Kind.Value) beats.now values.now ≡ 0 ⌝ }
+    requires { ⌜ neverFalls rowKeyAt beats.now ≡ false ⌝ }
+    requires { ⌜ (length beats.now ≤ length «kept_beats».now) × (length «kept_beats».now ≡ length «kept_values».now) ⌝ }
+    ensures { λ r. ⌜ ScrollsTidied beats.entry.now values.entry.now r «out_beats».entry.now «out_beats».exit.now «out_values».entry.now «out_values».exit.now ⌝ }
 {
     let kept = place_all(beats, values, kept_beats, kept_values);
     if kept.falls {
@@ -375,9 +381,9 @@ fn tidy_placed(
     out_beats: &mut [f64],
     out_values: &mut [f64],
 ) -> Outcome
-    requires { ⌜ listNumber (rangeOf Kind.Beat) (rangeOf Kind.Value) (now beats) (now values) ≡ 0 ⌝ }
-    requires { ⌜ neverFalls rowKeyAt (now beats) ≡ false ⌝ }
-    ensures { λ r. ⌜ ScrollsTidied (now (beats .entry)) (now (values .entry)) r (now («out_beats» .entry)) (now («out_beats» .exit)) (now («out_values» .entry)) (now («out_values» .exit)) ⌝ }
+    requires { ⌜ listNumber (rangeOf Kind.Beat) (rangeOf Kind.Value) beats.now values.now ≡ 0 ⌝ }
+    requires { ⌜ neverFalls rowKeyAt beats.now ≡ false ⌝ }
+    ensures { λ r. ⌜ ScrollsTidied beats.entry.now values.entry.now r «out_beats».entry.now «out_beats».exit.now «out_values».entry.now «out_values».exit.now ⌝ }
 {
     let mut kept_beats = [0.0; limits::MOST_ENTRIES];
     let mut kept_values = [0.0; limits::MOST_ENTRIES];
@@ -401,7 +407,7 @@ pub fn tidy_scroll_segments(
     out_beats: &mut [f64],
     out_values: &mut [f64],
 ) -> Outcome
-    ensures { λ r. ⌜ ScrollsTidied (now (beats .entry)) (now (values .entry)) r (now («out_beats» .entry)) (now («out_beats» .exit)) (now («out_values» .entry)) (now («out_values» .exit)) ⌝ }
+    ensures { λ r. ⌜ ScrollsTidied beats.entry.now values.entry.now r «out_beats».entry.now «out_beats».exit.now «out_values».entry.now «out_values».exit.now ⌝ }
 {
     let number = limits::list_number(Kind::Beat, Kind::Value, beats, values);
     if number != limits::TAKEN {

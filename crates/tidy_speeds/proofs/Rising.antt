@@ -18,6 +18,7 @@ use Rattle.tidy_speeds_ordered.specs.inside.Apart.{ColumnsApart}
 use Rattle.tidy_speeds_ordered.specs.OrderedSpeeds.{keptSpeeds, OrderedTidied}
 use Rattle.tidy_speeds_ordered.proofs.ColumnsLaid.{apart-kept}
 use Rattle.tidy_speeds_ordered.proofs.KeptInOnePass.{ordered-laid}
+use Rattle.chart.specs.ChartColumns.{speedColumns}
 use Rattle.columns.specs.declared.Outcome.{Outcome}
 use Rattle.tidy_speeds.specs.SpeedTidying.{speedListNumber, SpeedsTidied}
 use Rattle.tidy_speeds.proofs.ListTaken.{speeds-taken}
@@ -26,7 +27,7 @@ use Rattle.tidy_speeds.proofs.Outcomes.{ordered-number, ordered-list}
 module _ (beats ratios delays : List Float) (units : List ℕ) (h : speedListNumber beats ratios delays units ≡ 0) (rising : everyTwo rowRises beats ≡ true) where
   -- as a list in order
   pub as-ordered : {outcome : Outcome} {beatsOld beatsNew ratiosOld ratiosNew delaysOld delaysNew : List Float} {unitsOld unitsNew : List ℕ}
-      → OrderedTidied beats ratios delays units outcome beatsOld beatsNew ratiosOld ratiosNew delaysOld delaysNew unitsOld unitsNew
+      → OrderedTidied (speedColumns beats ratios delays units) outcome (speedColumns beatsOld ratiosOld delaysOld unitsOld) (speedColumns beatsNew ratiosNew delaysNew unitsNew)
       → SpeedsTidied beats ratios delays units outcome beatsOld beatsNew ratiosOld ratiosNew delaysOld delaysNew unitsOld unitsNew
   as-ordered p = let ordered = rising-never-falls beats rising in rw (ordered-number beats ratios delays units h ordered, ordered-list beats ratios delays units h ordered) p
 

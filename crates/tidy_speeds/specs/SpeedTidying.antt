@@ -9,11 +9,12 @@ use Rattle.picks.specs.Pick.{pick}
 use Rattle.limits.specs.declared.Kind.the-variants.{Beat, Value}
 use Rattle.limits.specs.Numbers.{rangeOf, allIn, unitsIn}
 use Rattle.limits.specs.Refusals.{lower}
+use Rattle.chart.specs.ChartColumns.{SpeedColumns}
 use Rattle.columns.specs.declared.Outcome.{Outcome}
 use Rattle.rows.specs.RowKey.{rowKeyAt}
 use Rattle.tidy_kept.specs.Keeping.{keptOf, keepNumber}
 use Rattle.tidy_speeds_entries.specs.Speed.{SpeedEntry, nearSpeed, speedEntries, speedOnRow}
-use Rattle.tidy_speeds_entries.specs.LaidSpeeds.{LaidSpeeds}
+use Rattle.tidy_speeds_entries.specs.LaidSpeeds.{LaidSpeeds, LaysSpeeds}
 
 -- 4 where a ratio, a delay or a unit is out of range
 unfoldable pub valuesNumber : List Float → List Float → List ℕ → ℕ
@@ -40,8 +41,16 @@ tidySpeeds beats ratios delays units = map speedOnRow (keptOf rowKeyAt nearSpeed
 
 -- the tests of the list, then whether an entry is placed in a kept list that falls
 unfoldable pub speedsNumber : List Float → List Float → List Float → List ℕ → ℕ
-speedsNumber beats ratios delays units = lower (speedListNumber beats ratios delays units) (keepNumber rowKeyAt nearSpeed (speedEntries beats ratios delays units))
+speedsNumber beats ratios delays units =
+    lower (speedListNumber beats ratios delays units) (keepNumber rowKeyAt nearSpeed (speedEntries beats ratios delays units))
 
 -- the one outcome of the call, with the four rooms before and after
-abbrev pub SpeedsTidied : (beats ratios delays : List Float) (units : List ℕ) → Outcome → (beatsOld beatsNew ratiosOld ratiosNew delaysOld delaysNew : List Float) (unitsOld unitsNew : List ℕ) → Type 0
+abbrev pub SpeedsTidied : (beats ratios delays : List Float) (units : List ℕ) → Outcome
+    → (beatsOld beatsNew ratiosOld ratiosNew delaysOld delaysNew : List Float) (unitsOld unitsNew : List ℕ) → Type 0
 SpeedsTidied beats ratios delays units outcome = LaidSpeeds (speedsNumber beats ratios delays units) (tidySpeeds beats ratios delays units) outcome
+
+-- the same, with list and rooms as columns
+abbrev pub TidiesSpeeds : (speeds : SpeedColumns) → Outcome → (old new : SpeedColumns) → Type 0
+TidiesSpeeds speeds outcome old new =
+    LaysSpeeds (speedsNumber (speeds .beats) (speeds .ratios) (speeds .delays) (speeds .units))
+    (tidySpeeds (speeds .beats) (speeds .ratios) (speeds .delays) (speeds .units)) outcome old new

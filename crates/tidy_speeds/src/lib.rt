@@ -8,14 +8,15 @@ ghost use Prim.Native.Nat.{_≤_};
 ghost use lib.ListN.{length};
 ghost use Rattle.limits.specs.Neighbours.{everyTwo};
 ghost use Rattle.tidy_by_rows.specs.ByMarks.{rowRises};
-ghost use Rattle.tidy_speeds_entries.specs.Speed.{speedEntries, speedOnRow};
+ghost use Rattle.chart.specs.ChartColumns.{lentSpeeds, speedsBefore, speedsAfter};
+ghost use Rattle.tidy_speeds_entries.specs.Speed.{speedsIn, speedOnRow};
 ghost use Rattle.tidy_speeds_entries.specs.LaidSpeeds.{leastOf};
-ghost use Rattle.tidy_speeds_entries.specs.inside.LaidRooms.{LaidRooms};
+ghost use Rattle.tidy_speeds_entries.specs.inside.LaidRooms.{LaidOver};
 ghost use Rattle.tidy_speeds_ordered.specs.inside.Apart.{ColumnsApart};
-ghost use Rattle.tidy_speeds.specs.SpeedTidying.{valuesNumber, speedListNumber, SpeedsTidied};
+ghost use Rattle.tidy_speeds.specs.SpeedTidying.{valuesNumber, speedListNumber, TidiesSpeeds};
 
 fn values_number(ratios: &[f64], delays: &[f64], units: &[u8]) -> u32
-    ensures { λ r. ⌜ r ≡ valuesNumber (now (ratios .entry)) (now (delays .entry)) (now (units .entry)) ⌝ }
+    ensures { λ r. ⌜ r ≡ valuesNumber ratios.entry.now delays.entry.now units.entry.now ⌝ }
 {
     if !limits::column_taken(Kind::Value, ratios) {
         return limits::BAD_VALUE;
@@ -31,7 +32,7 @@ fn values_number(ratios: &[f64], delays: &[f64], units: &[u8]) -> u32
 
 // What a list of speeds answers by itself: 1, 2, 3 or 4, and 0 where it is taken.
 pub fn speed_list_number(beats: &[f64], ratios: &[f64], delays: &[f64], units: &[u8]) -> u32
-    ensures { λ r. ⌜ r ≡ speedListNumber (now (beats .entry)) (now (ratios .entry)) (now (delays .entry)) (now (units .entry)) ⌝ }
+    ensures { λ r. ⌜ r ≡ speedListNumber beats.entry.now ratios.entry.now delays.entry.now units.entry.now ⌝ }
 {
     if beats.len() > limits::MOST_ENTRIES {
         return limits::TOO_LONG;
@@ -72,9 +73,12 @@ fn lay_columns(
     out_delays: &mut [f64],
     out_units: &mut [u8],
 )
-    requires { ⌜ ColumnsApart (now beats) (now ratios) (now delays) (now units) ⌝ }
-    requires { ⌜ length (now beats) ≤ leastOf (length (now «out_beats»)) (length (now «out_ratios»)) (length (now «out_delays»)) (length (now «out_units»)) ⌝ }
-    ensures { λ _. ⌜ LaidRooms (map speedOnRow (speedEntries (now (beats .entry)) (now (ratios .entry)) (now (delays .entry)) (now (units .entry)))) (now («out_beats» .entry)) (now («out_beats» .exit)) (now («out_ratios» .entry)) (now («out_ratios» .exit)) (now («out_delays» .entry)) (now («out_delays» .exit)) (now («out_units» .entry)) (now («out_units» .exit)) ⌝ }
+    requires { ⌜ ColumnsApart beats.now ratios.now delays.now units.now ⌝ }
+    requires { ⌜ length beats.now ≤ leastOf (length «out_beats».now) (length «out_ratios».now) (length «out_delays».now) (length «out_units».now) ⌝ }
+    ensures { λ _.
+        let speeds = speedsBefore (lentSpeeds beats ratios delays units) in
+        let rooms = lentSpeeds «out_beats» «out_ratios» «out_delays» «out_units» in
+        ⌜ LaidOver (map speedOnRow (speedsIn speeds)) (speedsBefore rooms) (speedsAfter rooms) ⌝ }
 {
     tidy_by_rows::lay_on_rows(beats, out_beats);
     columns::copy(ratios, out_ratios);
@@ -92,8 +96,11 @@ fn tidy_rising(
     out_delays: &mut [f64],
     out_units: &mut [u8],
 ) -> Outcome
-    requires { ⌜ (speedListNumber (now beats) (now ratios) (now delays) (now units) ≡ 0) × (everyTwo rowRises (now beats) ≡ true) ⌝ }
-    ensures { λ r. ⌜ SpeedsTidied (now (beats .entry)) (now (ratios .entry)) (now (delays .entry)) (now (units .entry)) r (now («out_beats» .entry)) (now («out_beats» .exit)) (now («out_ratios» .entry)) (now («out_ratios» .exit)) (now («out_delays» .entry)) (now («out_delays» .exit)) (now («out_units» .entry)) (now («out_units» .exit)) ⌝ }
+    requires { ⌜ (speedListNumber beats.now ratios.now delays.now units.now ≡ 0) × (everyTwo rowRises beats.now ≡ true) ⌝ }
+    ensures { λ r.
+        let speeds = speedsBefore (lentSpeeds beats ratios delays units) in
+        let rooms = lentSpeeds «out_beats» «out_ratios» «out_delays» «out_units» in
+        ⌜ TidiesSpeeds speeds r (speedsBefore rooms) (speedsAfter rooms) ⌝ }
 {
     let room = tidy_speeds_entries::least_of(
         out_beats.len(),
@@ -145,7 +152,10 @@ pub fn tidy_speed_segments(
     out_delays: &mut [f64],
     out_units: &mut [u8],
 ) -> Outcome
-    ensures { λ r. ⌜ SpeedsTidied (now (beats .entry)) (now (ratios .entry)) (now (delays .entry)) (now (units .entry)) r (now («out_beats» .entry)) (now («out_beats» .exit)) (now («out_ratios» .entry)) (now («out_ratios» .exit)) (now («out_delays» .entry)) (now («out_delays» .exit)) (now («out_units» .entry)) (now («out_units» .exit)) ⌝ }
+    ensures { λ r.
+        let speeds = speedsBefore (lentSpeeds beats ratios delays units) in
+        let rooms = lentSpeeds «out_beats» «out_ratios» «out_delays» «out_units» in
+        ⌜ TidiesSpeeds speeds r (speedsBefore rooms) (speedsAfter rooms) ⌝ }
 {
     let number = speed_list_number(beats, ratios, delays, units);
     if number != limits::TAKEN {

@@ -3,3 +3,4 @@ pub mod Rooms
 pub mod NearNoSpeed
 pub mod SpeedsLaid
 pub mod SpeedColumns
+pub mod FieldsOfSpeeds

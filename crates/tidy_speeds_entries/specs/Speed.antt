@@ -6,6 +6,7 @@ use lib.Dec.{eqb}
 use lib.Ieee.{Float, nan}
 use Rattle.picks.specs.Pick.{pick}
 use Rattle.order.specs.Entries.{entries}
+use Rattle.chart.specs.ChartColumns.{SpeedColumns}
 use Rattle.rows.specs.RowKey.{onRow}
 use Rattle.tidy_kept.specs.Near.{nearTo}
 use Rattle.tidy_speeds_entries.specs.declared.Speed.{Speed}
@@ -35,6 +36,9 @@ speedValues ratios delays units = entries ratios (entries delays units)
 
 abbrev pub speedEntries : List Float → List Float → List Float → List ℕ → List SpeedEntry
 speedEntries beats ratios delays units = entries beats (speedValues ratios delays units)
+
+abbrev pub speedsIn : SpeedColumns → List SpeedEntry
+speedsIn speeds = speedEntries (speeds .beats) (speeds .ratios) (speeds .delays) (speeds .units)
 
 -- an entry moved to its row
 abbrev pub speedOnRow : SpeedEntry → SpeedEntry

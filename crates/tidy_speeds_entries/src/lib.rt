@@ -37,7 +37,7 @@ pub fn least_of(first: usize, second: usize, third: usize, fourth: usize) -> usi
 
 // `columns::copy` of units.
 pub fn copy_units(from: &[u8], to: &mut [u8])
-    ensures { λ _. ⌜ now (to .exit) ≡ laidEach (λ (x : ℕ). x) (now (from .entry)) (now (to .entry)) ⌝ }
+    ensures { λ _. ⌜ to.exit.now ≡ laidEach (λ (x : ℕ). x) from.entry.now to.entry.now ⌝ }
 {
     let n = columns::room_of(from.len(), to.len());
     let mut i = 0;

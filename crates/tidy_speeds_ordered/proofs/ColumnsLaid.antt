@@ -2,7 +2,7 @@
 use Prim.Native.Nat.{ℕ, _<_}
 use mathlib.Core.Path.{_≡_, refl, sym, ap, _∙_}
 use mathlib.Core.Bool.{Bool, true, false}
-use mathlib.Core.List.{List, [], _∷_, map}
+use mathlib.Core.List.{List, [], _∷_}
 use native.Mathlib.Omega.{arith}
 use lib.ListN.{length}
 use lib.Ieee.{Float}
@@ -10,21 +10,16 @@ use borrow.Author.Tests.{ltb-true, not-true}
 use Rattle.limits.specs.Neighbours.{neighbours, everyTwo}
 use Rattle.limits.proofs.Every.{every-rest}
 use Rattle.limits.proofs.EachTwo.{passes}
-use Rattle.order.specs.Entries.{entries, first}
-use Rattle.rows.specs.RowKey.{rowKeyAt, onRow}
+use Rattle.order.specs.Entries.{entries}
+use Rattle.rows.specs.RowKey.{rowKeyAt}
 use Rattle.tidy_kept.specs.Near.{nearTo, farFrom}
 use Rattle.tidy_kept.proofs.AllApart.{Apart}
 use Rattle.tidy_by_rows.specs.ByMarks.{rowRises}
-use Rattle.tidy_speeds_entries.specs.Speed.{nearSpeed, noSpeed, speedEntries, speedOnRow}
-use Rattle.tidy_speeds_entries.specs.LaidSpeeds.{ratioOf, delayOf, unitOf}
+use Rattle.tidy_speeds_entries.specs.Speed.{nearSpeed, noSpeed, speedEntries}
+use Rattle.tidy_speeds_entries.proofs.FieldsOfSpeeds.{Even, Fields, speed-fields}
 use Rattle.tidy_speeds_ordered.specs.inside.Apart.{ColumnsApart}
 use Rattle.tidy_speeds_ordered.specs.OrderedSpeeds.{keptSpeeds}
 use Rattle.tidy_speeds_ordered.proofs.AllKept.{first-kept, none-kept}
-
-record Even (beats ratios delays : List Float) (units : List ℕ) : Type 0 where
-  ratiosEven : length ratios ≡ length beats
-  delaysEven : length delays ≡ length beats
-  unitsEven : length units ≡ length beats
 
 far-speed : (r d : Float) (u : ℕ) (r′ d′ : Float) (u′ : ℕ) → farFrom r r′ ≡ true → nearSpeed (r′, (d′, u′)) (r, (d, u)) ≡ false
 unfolding nearSpeed
@@ -54,25 +49,6 @@ all (b ∷ beats) (r ∷ ratios) (d ∷ delays) (u ∷ units) e rise far =
     first-kept (b, (r, (d, u))) (speedEntries beats ratios delays units)
     (speeds-apart b r d u beats ratios delays units (record { ratiosEven = omega (arith, e .ratiosEven); delaysEven = omega (arith, e .delaysEven); unitsEven = omega (arith, e .unitsEven) }) rise far)
 
-pub record Fields (beats ratios delays : List Float) (units : List ℕ) : Type 0 where
-  pub beatsAre : map first (map speedOnRow (speedEntries beats ratios delays units)) ≡ map onRow beats
-  pub ratiosAre : map ratioOf (map speedOnRow (speedEntries beats ratios delays units)) ≡ ratios
-  pub delaysAre : map delayOf (map speedOnRow (speedEntries beats ratios delays units)) ≡ delays
-  pub unitsAre : map unitOf (map speedOnRow (speedEntries beats ratios delays units)) ≡ units
-
-columns : (beats ratios delays : List Float) (units : List ℕ) → Even beats ratios delays units → Fields beats ratios delays units
-unfolding entries
-columns [] [] [] [] e = record { beatsAre = refl; ratiosAre = refl; delaysAre = refl; unitsAre = refl }
-columns [] (r ∷ ratios) delays units e = absurd (omega (arith, e .ratiosEven))
-columns [] [] (d ∷ delays) units e = absurd (omega (arith, e .delaysEven))
-columns [] [] [] (u ∷ units) e = absurd (omega (arith, e .unitsEven))
-columns (b ∷ beats) [] delays units e = absurd (omega (arith, e .ratiosEven))
-columns (b ∷ beats) (r ∷ ratios) [] units e = absurd (omega (arith, e .delaysEven))
-columns (b ∷ beats) (r ∷ ratios) (d ∷ delays) [] e = absurd (omega (arith, e .unitsEven))
-columns (b ∷ beats) (r ∷ ratios) (d ∷ delays) (u ∷ units) e =
-    let rest = columns beats ratios delays units (record { ratiosEven = omega (arith, e .ratiosEven); delaysEven = omega (arith, e .delaysEven); unitsEven = omega (arith, e .unitsEven) }) in
-    record { beatsAre = ap (_∷_ (onRow b)) (rest .beatsAre); ratiosAre = ap (_∷_ r) (rest .ratiosAre); delaysAre = ap (_∷_ d) (rest .delaysAre); unitsAre = ap (_∷_ u) (rest .unitsAre) }
-
 module _ (beats ratios delays : List Float) (units : List ℕ) (a : ColumnsApart beats ratios delays units) where
   even : Even beats ratios delays units
   even = record { ratiosEven = a .ratiosEven; delaysEven = a .delaysEven; unitsEven = a .unitsEven }
@@ -81,4 +57,4 @@ module _ (beats ratios delays : List Float) (units : List ℕ) (a : ColumnsApart
   apart-kept = all beats ratios delays units even (a .rising) (a .far)
 
   pub apart-columns : Fields beats ratios delays units
-  apart-columns = columns beats ratios delays units even
+  apart-columns = speed-fields beats ratios delays units even

@@ -7,8 +7,9 @@ use Rattle.ieee.specs.Constants.{plusZero}
 use Rattle.rows.specs.RowKey.{rowKeyAt}
 use Rattle.tidy_kept.specs.Passing.{Waiting, stillWritten}
 use Rattle.columns.specs.declared.Outcome.{Outcome}
-use Rattle.tidy_speeds_entries.specs.Speed.{SpeedValue, SpeedEntry, nearSpeed, noSpeed, speedEntries, speedOnRow}
-use Rattle.tidy_speeds_entries.specs.LaidSpeeds.{LaidSpeeds}
+use Rattle.chart.specs.ChartColumns.{SpeedColumns}
+use Rattle.tidy_speeds_entries.specs.Speed.{SpeedValue, SpeedEntry, nearSpeed, noSpeed, speedsIn, speedOnRow}
+use Rattle.tidy_speeds_entries.specs.LaidSpeeds.{LaysSpeeds}
 
 -- before the first entry
 abbrev pub noSpeedHeld : Waiting Float SpeedValue
@@ -19,5 +20,5 @@ abbrev pub keptSpeeds : List SpeedEntry → List SpeedEntry
 keptSpeeds list = stillWritten rowKeyAt nearSpeed noSpeedHeld list
 
 -- the one outcome: what is written, each on its row. Columns that differ in length are read as far as the shortest goes
-abbrev pub OrderedTidied : (beats ratios delays : List Float) (units : List ℕ) → Outcome → (beatsOld beatsNew ratiosOld ratiosNew delaysOld delaysNew : List Float) (unitsOld unitsNew : List ℕ) → Type 0
-OrderedTidied beats ratios delays units outcome = LaidSpeeds 0 (map speedOnRow (keptSpeeds (speedEntries beats ratios delays units))) outcome
+abbrev pub OrderedTidied : (speeds : SpeedColumns) → Outcome → (old new : SpeedColumns) → Type 0
+OrderedTidied speeds outcome old new = LaysSpeeds 0 (map speedOnRow (keptSpeeds (speedsIn speeds))) outcome old new

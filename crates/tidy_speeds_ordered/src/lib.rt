@@ -2,7 +2,7 @@
 use columns::Outcome;
 use tidy_speeds_entries::Speed;
 ghost use mathlib.Core.Path.{_≡_};
-ghost use mathlib.Core.Bool.{true, false};
+ghost use mathlib.Core.Bool.{false};
 ghost use mathlib.Core.List.{map};
 ghost use Prim.Native.Nat.{_≤_, _<_};
 ghost use lib.Dec.{ltb, leb};
@@ -10,10 +10,11 @@ ghost use lib.ListN.{length, getD, set};
 ghost use lib.Ieee.{nan};
 ghost use Rattle.picks.specs.Pick.{pick};
 ghost use Rattle.rows.specs.RowKey.{rowKeyAt, onRow};
+ghost use Rattle.chart.specs.ChartColumns.{lentSpeeds, speedsBefore, speedsAfter};
 ghost use Rattle.tidy_kept.specs.Passing.{comes, entryPassed};
-ghost use Rattle.tidy_speeds_entries.specs.Speed.{speedValueOf, nearSpeed, noSpeed, speedEntries, speedOnRow};
+ghost use Rattle.tidy_speeds_entries.specs.Speed.{speedValueOf, nearSpeed, noSpeed, speedEntries, speedsIn, speedOnRow};
 ghost use Rattle.tidy_speeds_entries.specs.LaidSpeeds.{leastOf};
-ghost use Rattle.tidy_speeds_entries.specs.inside.LaidRooms.{LaidRooms};
+ghost use Rattle.tidy_speeds_entries.specs.inside.LaidRooms.{LaidOver};
 ghost use Rattle.tidy_speeds_ordered.specs.inside.Waiting.{speedWaiting};
 ghost use Rattle.tidy_speeds_ordered.specs.OrderedSpeeds.{noSpeedHeld, keptSpeeds, OrderedTidied};
 
@@ -105,8 +106,8 @@ fn pass(held: Held, row: u32, beat: f64, value: Speed) -> Held
 }
 
 fn speed_at(ratios: &[f64], delays: &[f64], units: &[u8], i: usize) -> Speed
-    requires { ⌜ (i < length (now ratios)) × (i < length (now delays)) × (i < length (now units)) ⌝ }
-    ensures { λ r. ⌜ speedValueOf r ≡ (getD (now (ratios .entry)) i nan, (getD (now (delays .entry)) i nan, getD (now (units .entry)) i 0)) ⌝ }
+    requires { ⌜ (i < length ratios.now) × (i < length delays.now) × (i < length units.now) ⌝ }
+    ensures { λ r. ⌜ speedValueOf r ≡ (getD ratios.entry.now i nan, (getD delays.entry.now i nan, getD units.entry.now i 0)) ⌝ }
 {
     Speed {
         ratio: ratios[i],
@@ -116,8 +117,8 @@ fn speed_at(ratios: &[f64], delays: &[f64], units: &[u8], i: usize) -> Speed
 }
 
 fn count_kept(beats: &[f64], ratios: &[f64], delays: &[f64], units: &[u8], n: usize) -> usize
-    requires { ⌜ n ≡ leastOf (length (now beats)) (length (now ratios)) (length (now delays)) (length (now units)) ⌝ }
-    ensures { λ r. ⌜ r ≡ length (keptSpeeds (speedEntries (now (beats .entry)) (now (ratios .entry)) (now (delays .entry)) (now (units .entry)))) ⌝ }
+    requires { ⌜ n ≡ leastOf (length beats.now) (length ratios.now) (length delays.now) (length units.now) ⌝ }
+    ensures { λ r. ⌜ r ≡ length (keptSpeeds (speedEntries beats.entry.now ratios.entry.now delays.entry.now units.entry.now)) ⌝ }
 {
     let mut held = none_held();
     let mut count = 0;
@@ -150,11 +151,11 @@ fn write_speed(
     beat: f64,
     value: Speed,
 )
-    requires { ⌜ (at < length (now «out_beats»)) × (at < length (now «out_ratios»)) × (at < length (now «out_delays»)) × (at < length (now «out_units»)) ⌝ }
-    ensures { λ _. ⌜ now («out_beats» .exit) ≡ set (now («out_beats» .entry)) at (onRow beat) ⌝ }
-    ensures { λ _. ⌜ now («out_ratios» .exit) ≡ set (now («out_ratios» .entry)) at (value .ratio) ⌝ }
-    ensures { λ _. ⌜ now («out_delays» .exit) ≡ set (now («out_delays» .entry)) at (value .delay) ⌝ }
-    ensures { λ _. ⌜ now («out_units» .exit) ≡ set (now («out_units» .entry)) at (value .unit) ⌝ }
+    requires { ⌜ (at < length «out_beats».now) × (at < length «out_ratios».now) × (at < length «out_delays».now) × (at < length «out_units».now) ⌝ }
+    ensures { λ _. ⌜ «out_beats».exit.now ≡ set «out_beats».entry.now at (onRow beat) ⌝ }
+    ensures { λ _. ⌜ «out_ratios».exit.now ≡ set «out_ratios».entry.now at (value .ratio) ⌝ }
+    ensures { λ _. ⌜ «out_delays».exit.now ≡ set «out_delays».entry.now at (value .delay) ⌝ }
+    ensures { λ _. ⌜ «out_units».exit.now ≡ set «out_units».entry.now at (value .unit) ⌝ }
 {
     out_beats[at] = rows::on_row(beat);
     out_ratios[at] = value.ratio;
@@ -173,10 +174,14 @@ fn lay_kept(
     out_delays: &mut [f64],
     out_units: &mut [u8],
 ) -> usize
-    requires { ⌜ n ≡ leastOf (length (now beats)) (length (now ratios)) (length (now delays)) (length (now units)) ⌝ }
-    requires { ⌜ length (keptSpeeds (speedEntries (now beats) (now ratios) (now delays) (now units))) ≤ leastOf (length (now «out_beats»)) (length (now «out_ratios»)) (length (now «out_delays»)) (length (now «out_units»)) ⌝ }
-    ensures { λ r. ⌜ r ≡ length (keptSpeeds (speedEntries (now (beats .entry)) (now (ratios .entry)) (now (delays .entry)) (now (units .entry)))) ⌝ }
-    ensures { λ _. ⌜ LaidRooms (map speedOnRow (keptSpeeds (speedEntries (now (beats .entry)) (now (ratios .entry)) (now (delays .entry)) (now (units .entry))))) (now («out_beats» .entry)) (now («out_beats» .exit)) (now («out_ratios» .entry)) (now («out_ratios» .exit)) (now («out_delays» .entry)) (now («out_delays» .exit)) (now («out_units» .entry)) (now («out_units» .exit)) ⌝ }
+    requires { ⌜ n ≡ leastOf (length beats.now) (length ratios.now) (length delays.now) (length units.now) ⌝ }
+    requires { let kept = keptSpeeds (speedEntries beats.now ratios.now delays.now units.now) in
+        ⌜ length kept ≤ leastOf (length «out_beats».now) (length «out_ratios».now) (length «out_delays».now) (length «out_units».now) ⌝ }
+    ensures { λ r. ⌜ r ≡ length (keptSpeeds (speedEntries beats.entry.now ratios.entry.now delays.entry.now units.entry.now)) ⌝ }
+    ensures { λ _.
+        let speeds = speedsBefore (lentSpeeds beats ratios delays units) in
+        let rooms = lentSpeeds «out_beats» «out_ratios» «out_delays» «out_units» in
+        ⌜ LaidOver (map speedOnRow (keptSpeeds (speedsIn speeds))) (speedsBefore rooms) (speedsAfter rooms) ⌝ }
 {
     let mut held = none_held();
     let mut count = 0;
@@ -219,69 +224,10 @@ fn lay_kept(
     count
 }
 
-// ---- the common case: rows that rise, and no speed near the one before it
-
-// Whether every entry is kept for certain.
-fn all_kept(beats: &[f64], ratios: &[f64], delays: &[f64], units: &[u8], n: usize) -> bool
-    requires { ⌜ n ≡ leastOf (length (now beats)) (length (now ratios)) (length (now delays)) (length (now units)) ⌝ }
-    ensures { λ r. ⌜ (r ≡ true → keptSpeeds (speedEntries (now (beats .entry)) (now (ratios .entry)) (now (delays .entry)) (now (units .entry))) ≡ speedEntries (now (beats .entry)) (now (ratios .entry)) (now (delays .entry)) (now (units .entry))) ⌝ }
-{
-    if n == 0 {
-        return true;
-    }
-    let mut last = rows::row_key(beats[0]);
-    let mut i = 1;
-    while i < n {
-        let row = rows::row_key(beats[i]);
-        if row <= last {
-            return false;
-        }
-        if tidy_speeds_entries::near(
-            speed_at(ratios, delays, units, i),
-            speed_at(ratios, delays, units, i - 1),
-        ) {
-            return false;
-        }
-        last = row;
-        i += 1;
-    }
-    true
-}
-
-fn lay_all(
-    beats: &[f64],
-    ratios: &[f64],
-    delays: &[f64],
-    units: &[u8],
-    n: usize,
-    out_beats: &mut [f64],
-    out_ratios: &mut [f64],
-    out_delays: &mut [f64],
-    out_units: &mut [u8],
-)
-    requires { ⌜ n ≡ leastOf (length (now beats)) (length (now ratios)) (length (now delays)) (length (now units)) ⌝ }
-    requires { ⌜ n ≤ leastOf (length (now «out_beats»)) (length (now «out_ratios»)) (length (now «out_delays»)) (length (now «out_units»)) ⌝ }
-    ensures { λ _. ⌜ LaidRooms (map speedOnRow (speedEntries (now (beats .entry)) (now (ratios .entry)) (now (delays .entry)) (now (units .entry)))) (now («out_beats» .entry)) (now («out_beats» .exit)) (now («out_ratios» .entry)) (now («out_ratios» .exit)) (now («out_delays» .entry)) (now («out_delays» .exit)) (now («out_units» .entry)) (now («out_units» .exit)) ⌝ }
-{
-    let mut i = 0;
-    while i < n {
-        write_speed(
-            out_beats,
-            out_ratios,
-            out_delays,
-            out_units,
-            i,
-            beats[i],
-            speed_at(ratios, delays, units, i),
-        );
-        i += 1;
-    }
-}
-
 // Whether the kept entries have room: counted only where there are more entries than room.
 fn fits(beats: &[f64], ratios: &[f64], delays: &[f64], units: &[u8], n: usize, room: usize) -> bool
-    requires { ⌜ n ≡ leastOf (length (now beats)) (length (now ratios)) (length (now delays)) (length (now units)) ⌝ }
-    ensures { λ r. ⌜ r ≡ leb (length (keptSpeeds (speedEntries (now (beats .entry)) (now (ratios .entry)) (now (delays .entry)) (now (units .entry))))) room ⌝ }
+    requires { ⌜ n ≡ leastOf (length beats.now) (length ratios.now) (length delays.now) (length units.now) ⌝ }
+    ensures { λ r. ⌜ r ≡ leb (length (keptSpeeds (speedEntries beats.entry.now ratios.entry.now delays.entry.now units.entry.now))) room ⌝ }
 {
     if n <= room {
         return true;
@@ -300,7 +246,10 @@ pub fn tidy_ordered_untested(
     out_delays: &mut [f64],
     out_units: &mut [u8],
 ) -> Outcome
-    ensures { λ r. ⌜ OrderedTidied (now (beats .entry)) (now (ratios .entry)) (now (delays .entry)) (now (units .entry)) r (now («out_beats» .entry)) (now («out_beats» .exit)) (now («out_ratios» .entry)) (now («out_ratios» .exit)) (now («out_delays» .entry)) (now («out_delays» .exit)) (now («out_units» .entry)) (now («out_units» .exit)) ⌝ }
+    ensures { λ r.
+        let speeds = speedsBefore (lentSpeeds beats ratios delays units) in
+        let rooms = lentSpeeds «out_beats» «out_ratios» «out_delays» «out_units» in
+        ⌜ OrderedTidied speeds r (speedsBefore rooms) (speedsAfter rooms) ⌝ }
 {
     let n = tidy_speeds_entries::least_of(beats.len(), ratios.len(), delays.len(), units.len());
     let room = tidy_speeds_entries::least_of(
@@ -309,25 +258,6 @@ pub fn tidy_ordered_untested(
         out_delays.len(),
         out_units.len(),
     );
-    if n <= room {
-        if all_kept(beats, ratios, delays, units, n) {
-            lay_all(
-                beats,
-                ratios,
-                delays,
-                units,
-                n,
-                out_beats,
-                out_ratios,
-                out_delays,
-                out_units,
-            );
-            return Outcome {
-                number: limits::TAKEN,
-                count: n,
-            };
-        }
-    }
     if !fits(beats, ratios, delays, units, n, room) {
         return columns::refused(limits::NO_ROOM);
     }

@@ -7,22 +7,23 @@ ghost use mathlib.Core.Bool.{true, false};
 ghost use mathlib.Core.List.{map};
 ghost use Prim.Native.Nat.{_-_, _≤_, _<_};
 ghost use lib.Dec.{ltb};
-ghost use lib.ListN.{length, take, getD, set};
+ghost use lib.ListN.{length, take, getD};
 ghost use lib.Ieee.{nan};
 ghost use Rattle.picks.specs.Pick.{pick};
 ghost use Rattle.order.specs.Order.{neverFalls};
-ghost use Rattle.rows.specs.RowKey.{rowKeyAt, onRow};
+ghost use Rattle.rows.specs.RowKey.{rowKeyAt};
+ghost use Rattle.chart.specs.ChartColumns.{lentSpeeds, speedsBefore, speedsAfter};
 ghost use Rattle.tidy_kept.specs.inside.Changed.{countBy, Changed};
 ghost use Rattle.tidy_kept.specs.inside.Placing.{PlacedOne, PlacedAll};
 ghost use Rattle.tidy_speeds_entries.specs.Speed.{speedValueOf, nearSpeed, noSpeed, speedValues, speedEntries, speedOnRow};
 ghost use Rattle.tidy_speeds_entries.specs.LaidSpeeds.{leastOf};
-ghost use Rattle.tidy_speeds_entries.specs.inside.LaidRooms.{LaidRooms};
+ghost use Rattle.tidy_speeds_entries.specs.inside.LaidRooms.{LaidOver};
 ghost use Rattle.tidy_speeds_placed.specs.inside.ListedSpeeds.{listedSpeeds};
 ghost use Rattle.tidy_speeds_placed.specs.PlacedSpeeds.{PlacedTidied};
 
 fn speed_at(ratios: &[f64], delays: &[f64], units: &[u8], i: usize) -> Speed
-    requires { ⌜ (i < length (now ratios)) × (i < length (now delays)) × (i < length (now units)) ⌝ }
-    ensures { λ r. ⌜ speedValueOf r ≡ getD (speedValues (now (ratios .entry)) (now (delays .entry)) (now (units .entry))) i noSpeed ⌝ }
+    requires { ⌜ (i < length ratios.now) × (i < length delays.now) × (i < length units.now) ⌝ }
+    ensures { λ r. ⌜ speedValueOf r ≡ getD (speedValues ratios.entry.now delays.entry.now units.entry.now) i noSpeed ⌝ }
 {
     Speed {
         ratio: ratios[i],
@@ -40,8 +41,10 @@ fn near_at(
     place: usize,
     value: Speed,
 ) -> bool
-    requires { ⌜ (n ≤ length (now ratios)) × (n ≤ length (now delays)) × (n ≤ length (now units)) ⌝ }
-    ensures { λ r. ⌜ r ≡ pick (ltb place n) (nearSpeed (speedValueOf value) (getD (speedValues (now (ratios .entry)) (now (delays .entry)) (now (units .entry))) place noSpeed)) false ⌝ }
+    requires { ⌜ (n ≤ length ratios.now) × (n ≤ length delays.now) × (n ≤ length units.now) ⌝ }
+    ensures { λ r.
+        let there = getD (speedValues ratios.entry.now delays.entry.now units.entry.now) place noSpeed in
+        ⌜ r ≡ pick (ltb place n) (nearSpeed (speedValueOf value) there) false ⌝ }
 {
     if place < n {
         return tidy_speeds_entries::near(value, speed_at(ratios, delays, units, place));
@@ -58,10 +61,12 @@ fn change_at(
     beat: f64,
     value: Speed,
 ) -> Change
-    requires { ⌜ (0 < n) × (n ≤ 1024) × (n ≤ length (now beats)) ⌝ }
-    requires { ⌜ (n ≤ length (now ratios)) × (n ≤ length (now delays)) × (n ≤ length (now units)) ⌝ }
-    requires { ⌜ neverFalls rowKeyAt (take n (now beats)) ≡ true ⌝ }
-    ensures { λ r. ⌜ Changed rowKeyAt nearSpeed (beat, speedValueOf value) (listedSpeeds n (now (beats .entry)) (now (ratios .entry)) (now (delays .entry)) (now (units .entry))) r ⌝ }
+    requires { ⌜ (0 < n) × (n ≤ 1024) × (n ≤ length beats.now) ⌝ }
+    requires { ⌜ (n ≤ length ratios.now) × (n ≤ length delays.now) × (n ≤ length units.now) ⌝ }
+    requires { ⌜ neverFalls rowKeyAt (take n beats.now) ≡ true ⌝ }
+    ensures { λ r.
+        let list = listedSpeeds n beats.entry.now ratios.entry.now delays.entry.now units.entry.now in
+        ⌜ Changed rowKeyAt nearSpeed (beat, speedValueOf value) list r ⌝ }
 {
     let row = rows::row_key(beat);
     let at = tidy_by_rows::place_after(&beats[..n], row);
@@ -86,8 +91,10 @@ fn change_at(
 // The speed that comes: the entry's own, or where the next one moves that one's.
 fn speed_of(ratios: &[f64], delays: &[f64], units: &[u8], change: Change, value: Speed) -> Speed
     requires { ⌜ (change .moves ≡ true → 0 < change .high) ⌝ }
-    requires { ⌜ (change .high ≤ length (now ratios)) × (change .high ≤ length (now delays)) × (change .high ≤ length (now units)) ⌝ }
-    ensures { λ r. ⌜ speedValueOf r ≡ pick (change .moves) (getD (speedValues (now (ratios .entry)) (now (delays .entry)) (now (units .entry))) (change .high - 1) noSpeed) (speedValueOf value) ⌝ }
+    requires { ⌜ (change .high ≤ length ratios.now) × (change .high ≤ length delays.now) × (change .high ≤ length units.now) ⌝ }
+    ensures { λ r.
+        let next = getD (speedValues ratios.entry.now delays.entry.now units.entry.now) (change .high - 1) noSpeed in
+        ⌜ speedValueOf r ≡ pick (change .moves) next (speedValueOf value) ⌝ }
 {
     if change.moves {
         return speed_at(ratios, delays, units, change.high - 1);
@@ -120,8 +127,11 @@ fn place_first(
     beat: f64,
     value: Speed,
 ) -> Placed
-    requires { ⌜ (0 < length (now beats)) × (0 < length (now ratios)) × (0 < length (now delays)) × (0 < length (now units)) ⌝ }
-    ensures { λ r. ⌜ PlacedOne rowKeyAt nearSpeed (beat, speedValueOf value) 0 (now (beats .entry)) (speedValues (now (ratios .entry)) (now (delays .entry)) (now (units .entry))) (r .count) (r .falls) (now (beats .exit)) (speedValues (now (ratios .exit)) (now (delays .exit)) (now (units .exit))) ⌝ }
+    requires { ⌜ (0 < length beats.now) × (0 < length ratios.now) × (0 < length delays.now) × (0 < length units.now) ⌝ }
+    ensures { λ r.
+        let old = speedValues ratios.entry.now delays.entry.now units.entry.now in
+        let new = speedValues ratios.exit.now delays.exit.now units.exit.now in
+        ⌜ PlacedOne rowKeyAt nearSpeed (beat, speedValueOf value) 0 beats.entry.now old (r .count) (r .falls) beats.exit.now new ⌝ }
 {
     beats[0] = beat;
     ratios[0] = value.ratio;
@@ -142,10 +152,13 @@ fn place_later(
     beat: f64,
     value: Speed,
 ) -> Placed
-    requires { ⌜ (0 < n) × (n < 1024) × (n < length (now beats)) ⌝ }
-    requires { ⌜ (length (now beats) ≡ length (now ratios)) × (length (now beats) ≡ length (now delays)) × (length (now beats) ≡ length (now units)) ⌝ }
-    requires { ⌜ neverFalls rowKeyAt (take n (now beats)) ≡ true ⌝ }
-    ensures { λ r. ⌜ PlacedOne rowKeyAt nearSpeed (beat, speedValueOf value) n (now (beats .entry)) (speedValues (now (ratios .entry)) (now (delays .entry)) (now (units .entry))) (r .count) (r .falls) (now (beats .exit)) (speedValues (now (ratios .exit)) (now (delays .exit)) (now (units .exit))) ⌝ }
+    requires { ⌜ (0 < n) × (n < 1024) × (n < length beats.now) ⌝ }
+    requires { ⌜ (length beats.now ≡ length ratios.now) × (length beats.now ≡ length delays.now) × (length beats.now ≡ length units.now) ⌝ }
+    requires { ⌜ neverFalls rowKeyAt (take n beats.now) ≡ true ⌝ }
+    ensures { λ r.
+        let old = speedValues ratios.entry.now delays.entry.now units.entry.now in
+        let new = speedValues ratios.exit.now delays.exit.now units.exit.now in
+        ⌜ PlacedOne rowKeyAt nearSpeed (beat, speedValueOf value) n beats.entry.now old (r .count) (r .falls) beats.exit.now new ⌝ }
 {
     let change = change_at(beats, ratios, delays, units, n, beat, value);
     let comes = speed_of(ratios, delays, units, change, value);
@@ -173,7 +186,7 @@ fn place_later(
     }
 }
 
-fn place(
+fn add_speed_segment_slow(
     beats: &mut [f64],
     ratios: &mut [f64],
     delays: &mut [f64],
@@ -182,10 +195,13 @@ fn place(
     beat: f64,
     value: Speed,
 ) -> Placed
-    requires { ⌜ (n < 1024) × (n < length (now beats)) ⌝ }
-    requires { ⌜ (length (now beats) ≡ length (now ratios)) × (length (now beats) ≡ length (now delays)) × (length (now beats) ≡ length (now units)) ⌝ }
-    requires { ⌜ neverFalls rowKeyAt (take n (now beats)) ≡ true ⌝ }
-    ensures { λ r. ⌜ PlacedOne rowKeyAt nearSpeed (beat, speedValueOf value) n (now (beats .entry)) (speedValues (now (ratios .entry)) (now (delays .entry)) (now (units .entry))) (r .count) (r .falls) (now (beats .exit)) (speedValues (now (ratios .exit)) (now (delays .exit)) (now (units .exit))) ⌝ }
+    requires { ⌜ (n < 1024) × (n < length beats.now) ⌝ }
+    requires { ⌜ (length beats.now ≡ length ratios.now) × (length beats.now ≡ length delays.now) × (length beats.now ≡ length units.now) ⌝ }
+    requires { ⌜ neverFalls rowKeyAt (take n beats.now) ≡ true ⌝ }
+    ensures { λ r.
+        let old = speedValues ratios.entry.now delays.entry.now units.entry.now in
+        let new = speedValues ratios.exit.now delays.exit.now units.exit.now in
+        ⌜ PlacedOne rowKeyAt nearSpeed (beat, speedValueOf value) n beats.entry.now old (r .count) (r .falls) beats.exit.now new ⌝ }
 {
     if n == 0 {
         return place_first(beats, ratios, delays, units, beat, value);
@@ -205,9 +221,12 @@ fn place_all(
     kept_delays: &mut [f64],
     kept_units: &mut [u8],
 ) -> Placed
-    requires { ⌜ (n ≤ 1024) × (n ≡ leastOf (length (now beats)) (length (now ratios)) (length (now delays)) (length (now units))) ⌝ }
-    requires { ⌜ (length (now «kept_beats») ≡ 1024) × (length (now «kept_ratios») ≡ 1024) × (length (now «kept_delays») ≡ 1024) × (length (now «kept_units») ≡ 1024) ⌝ }
-    ensures { λ r. ⌜ PlacedAll rowKeyAt nearSpeed (speedEntries (now (beats .entry)) (now (ratios .entry)) (now (delays .entry)) (now (units .entry))) (r .count) (r .falls) (now («kept_beats» .exit)) (speedValues (now («kept_ratios» .exit)) (now («kept_delays» .exit)) (now («kept_units» .exit))) ⌝ }
+    requires { ⌜ (n ≤ 1024) × (n ≡ leastOf (length beats.now) (length ratios.now) (length delays.now) (length units.now)) ⌝ }
+    requires { ⌜ (length «kept_beats».now ≡ 1024) × (length «kept_ratios».now ≡ 1024) × (length «kept_delays».now ≡ 1024) × (length «kept_units».now ≡ 1024) ⌝ }
+    ensures { λ r.
+        let list = speedEntries beats.entry.now ratios.entry.now delays.entry.now units.entry.now in
+        let kept = speedValues «kept_ratios».exit.now «kept_delays».exit.now «kept_units».exit.now in
+        ⌜ PlacedAll rowKeyAt nearSpeed list (r .count) (r .falls) «kept_beats».exit.now kept ⌝ }
 {
     let mut kept = Placed {
         count: 0,
@@ -222,7 +241,7 @@ fn place_all(
             };
         }
         let value = speed_at(ratios, delays, units, i);
-        kept = place(
+        kept = add_speed_segment_slow(
             kept_beats,
             kept_ratios,
             kept_delays,
@@ -239,28 +258,6 @@ fn place_all(
     }
 }
 
-// An entry at a place of the rooms, on its row.
-fn write_speed(
-    out_beats: &mut [f64],
-    out_ratios: &mut [f64],
-    out_delays: &mut [f64],
-    out_units: &mut [u8],
-    at: usize,
-    beat: f64,
-    value: Speed,
-)
-    requires { ⌜ (at < length (now «out_beats»)) × (at < length (now «out_ratios»)) × (at < length (now «out_delays»)) × (at < length (now «out_units»)) ⌝ }
-    ensures { λ _. ⌜ now («out_beats» .exit) ≡ set (now («out_beats» .entry)) at (onRow beat) ⌝ }
-    ensures { λ _. ⌜ now («out_ratios» .exit) ≡ set (now («out_ratios» .entry)) at (value .ratio) ⌝ }
-    ensures { λ _. ⌜ now («out_delays» .exit) ≡ set (now («out_delays» .entry)) at (value .delay) ⌝ }
-    ensures { λ _. ⌜ now («out_units» .exit) ≡ set (now («out_units» .entry)) at (value .unit) ⌝ }
-{
-    out_beats[at] = rows::on_row(beat);
-    out_ratios[at] = value.ratio;
-    out_delays[at] = value.delay;
-    out_units[at] = value.unit;
-}
-
 fn lay_rows(
     beats: &[f64],
     ratios: &[f64],
@@ -272,24 +269,17 @@ fn lay_rows(
     out_delays: &mut [f64],
     out_units: &mut [u8],
 )
-    requires { ⌜ (count ≤ length (now beats)) × (count ≤ length (now ratios)) × (count ≤ length (now delays)) × (count ≤ length (now units)) ⌝ }
-    requires { ⌜ count ≤ leastOf (length (now «out_beats»)) (length (now «out_ratios»)) (length (now «out_delays»)) (length (now «out_units»)) ⌝ }
-    ensures { λ _. ⌜ LaidRooms (map speedOnRow (listedSpeeds count (now (beats .entry)) (now (ratios .entry)) (now (delays .entry)) (now (units .entry)))) (now («out_beats» .entry)) (now («out_beats» .exit)) (now («out_ratios» .entry)) (now («out_ratios» .exit)) (now («out_delays» .entry)) (now («out_delays» .exit)) (now («out_units» .entry)) (now («out_units» .exit)) ⌝ }
+    requires { ⌜ (count ≤ length beats.now) × (count ≤ length ratios.now) × (count ≤ length delays.now) × (count ≤ length units.now) ⌝ }
+    requires { ⌜ count ≤ leastOf (length «out_beats».now) (length «out_ratios».now) (length «out_delays».now) (length «out_units».now) ⌝ }
+    ensures { λ _.
+        let list = listedSpeeds count beats.entry.now ratios.entry.now delays.entry.now units.entry.now in
+        let rooms = lentSpeeds «out_beats» «out_ratios» «out_delays» «out_units» in
+        ⌜ LaidOver (map speedOnRow list) (speedsBefore rooms) (speedsAfter rooms) ⌝ }
 {
-    let mut i = 0;
-    while i < count {
-        let value = speed_at(ratios, delays, units, i);
-        write_speed(
-            out_beats,
-            out_ratios,
-            out_delays,
-            out_units,
-            i,
-            beats[i],
-            value,
-        );
-        i += 1;
-    }
+    tidy_by_rows::lay_each_on_row(&beats[..count], out_beats);
+    columns::copy(&ratios[..count], out_ratios);
+    columns::copy(&delays[..count], out_delays);
+    tidy_speeds_entries::copy_units(&units[..count], out_units);
 }
 
 fn tidy_in(
@@ -307,9 +297,12 @@ fn tidy_in(
     out_delays: &mut [f64],
     out_units: &mut [u8],
 ) -> Outcome
-    requires { ⌜ (n ≤ 1024) × (n ≡ leastOf (length (now beats)) (length (now ratios)) (length (now delays)) (length (now units))) ⌝ }
-    requires { ⌜ (length (now «kept_beats») ≡ 1024) × (length (now «kept_ratios») ≡ 1024) × (length (now «kept_delays») ≡ 1024) × (length (now «kept_units») ≡ 1024) ⌝ }
-    ensures { λ r. ⌜ PlacedTidied (now (beats .entry)) (now (ratios .entry)) (now (delays .entry)) (now (units .entry)) r (now («out_beats» .entry)) (now («out_beats» .exit)) (now («out_ratios» .entry)) (now («out_ratios» .exit)) (now («out_delays» .entry)) (now («out_delays» .exit)) (now («out_units» .entry)) (now («out_units» .exit)) ⌝ }
+    requires { ⌜ (n ≤ 1024) × (n ≡ leastOf (length beats.now) (length ratios.now) (length delays.now) (length units.now)) ⌝ }
+    requires { ⌜ (length «kept_beats».now ≡ 1024) × (length «kept_ratios».now ≡ 1024) × (length «kept_delays».now ≡ 1024) × (length «kept_units».now ≡ 1024) ⌝ }
+    ensures { λ r.
+        let speeds = speedsBefore (lentSpeeds beats ratios delays units) in
+        let rooms = lentSpeeds «out_beats» «out_ratios» «out_delays» «out_units» in
+        ⌜ PlacedTidied speeds r (speedsBefore rooms) (speedsAfter rooms) ⌝ }
 {
     let kept = place_all(
         beats,
@@ -364,7 +357,10 @@ pub fn tidy_placed_untested(
     out_delays: &mut [f64],
     out_units: &mut [u8],
 ) -> Outcome
-    ensures { λ r. ⌜ PlacedTidied (now (beats .entry)) (now (ratios .entry)) (now (delays .entry)) (now (units .entry)) r (now («out_beats» .entry)) (now («out_beats» .exit)) (now («out_ratios» .entry)) (now («out_ratios» .exit)) (now («out_delays» .entry)) (now («out_delays» .exit)) (now («out_units» .entry)) (now («out_units» .exit)) ⌝ }
+    ensures { λ r.
+        let speeds = speedsBefore (lentSpeeds beats ratios delays units) in
+        let rooms = lentSpeeds «out_beats» «out_ratios» «out_delays» «out_units» in
+        ⌜ PlacedTidied speeds r (speedsBefore rooms) (speedsAfter rooms) ⌝ }
 {
     let n = tidy_speeds_entries::least_of(beats.len(), ratios.len(), delays.len(), units.len());
     if n > limits::MOST_ENTRIES {

@@ -8,8 +8,8 @@ ghost use Rattle.tidy_kept.specs.Changing.{splicedIn};
 
 // x at a place of the first n, those behind it one place on.
 fn open_place(column: &mut [f64], n: usize, at: usize, x: f64)
-    requires { ⌜ (at ≤ n) × (n < length (now column)) ⌝ }
-    ensures { λ _. ⌜ now (column .exit) ≡ laid (take at (take n (now (column .entry))) ++ (x ∷ drop at (take n (now (column .entry))))) (now (column .entry)) ⌝ }
+    requires { ⌜ (at ≤ n) × (n < length column.now) ⌝ }
+    ensures { λ _. ⌜ column.exit.now ≡ laid (take at (take n column.entry.now) ++ (x ∷ drop at (take n column.entry.now))) column.entry.now ⌝ }
 {
     let mut i = n;
     while at < i {
@@ -21,8 +21,8 @@ fn open_place(column: &mut [f64], n: usize, at: usize, x: f64)
 
 // The first n without the places from low up to high.
 fn close_gap(column: &mut [f64], n: usize, low: usize, high: usize)
-    requires { ⌜ (low ≤ high) × (high ≤ n) × (n < length (now column)) ⌝ }
-    ensures { λ _. ⌜ now (column .exit) ≡ laid (take low (take n (now (column .entry))) ++ drop high (take n (now (column .entry)))) (now (column .entry)) ⌝ }
+    requires { ⌜ (low ≤ high) × (high ≤ n) × (n < length column.now) ⌝ }
+    ensures { λ _. ⌜ column.exit.now ≡ laid (take low (take n column.entry.now) ++ drop high (take n column.entry.now)) column.entry.now ⌝ }
 {
     if low < high {
         let mut to = low;
@@ -37,7 +37,7 @@ fn close_gap(column: &mut [f64], n: usize, low: usize, high: usize)
 
 // The first n of a column without the places from low up to high, and where one comes with x there. Nothing is done where these do not fit, or nothing is behind the first n.
 pub fn splice(column: &mut [f64], n: usize, low: usize, high: usize, comes: bool, x: f64)
-    ensures { λ _. ⌜ now (column .exit) ≡ splicedIn n low high comes x (now (column .entry)) ⌝ }
+    ensures { λ _. ⌜ column.exit.now ≡ splicedIn n low high comes x column.entry.now ⌝ }
 {
     if n < column.len() {
         if high <= n {
@@ -61,8 +61,8 @@ pub fn splice(column: &mut [f64], n: usize, low: usize, high: usize, comes: bool
 
 // A unit at a place of the first n, those behind it one place on.
 fn open_unit(column: &mut [u8], n: usize, at: usize, x: u8)
-    requires { ⌜ (at ≤ n) × (n < length (now column)) ⌝ }
-    ensures { λ _. ⌜ now (column .exit) ≡ laid (take at (take n (now (column .entry))) ++ (x ∷ drop at (take n (now (column .entry))))) (now (column .entry)) ⌝ }
+    requires { ⌜ (at ≤ n) × (n < length column.now) ⌝ }
+    ensures { λ _. ⌜ column.exit.now ≡ laid (take at (take n column.entry.now) ++ (x ∷ drop at (take n column.entry.now))) column.entry.now ⌝ }
 {
     let mut i = n;
     while at < i {
@@ -74,8 +74,8 @@ fn open_unit(column: &mut [u8], n: usize, at: usize, x: u8)
 
 // The first n without the places from low up to high.
 fn close_units(column: &mut [u8], n: usize, low: usize, high: usize)
-    requires { ⌜ (low ≤ high) × (high ≤ n) × (n < length (now column)) ⌝ }
-    ensures { λ _. ⌜ now (column .exit) ≡ laid (take low (take n (now (column .entry))) ++ drop high (take n (now (column .entry)))) (now (column .entry)) ⌝ }
+    requires { ⌜ (low ≤ high) × (high ≤ n) × (n < length column.now) ⌝ }
+    ensures { λ _. ⌜ column.exit.now ≡ laid (take low (take n column.entry.now) ++ drop high (take n column.entry.now)) column.entry.now ⌝ }
 {
     if low < high {
         let mut to = low;
@@ -90,7 +90,7 @@ fn close_units(column: &mut [u8], n: usize, low: usize, high: usize)
 
 // `splice` of a column of units.
 pub fn splice_units(column: &mut [u8], n: usize, low: usize, high: usize, comes: bool, x: u8)
-    ensures { λ _. ⌜ now (column .exit) ≡ splicedIn n low high comes x (now (column .entry)) ⌝ }
+    ensures { λ _. ⌜ column.exit.now ≡ splicedIn n low high comes x column.entry.now ⌝ }
 {
     if n < column.len() {
         if high <= n {

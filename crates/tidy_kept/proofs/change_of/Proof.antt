@@ -1,13 +1,12 @@
 -- `tidy_kept::change_of` meets its contract. Assumes nothing.
 use Rattle.picks.proofs.Rules.{flags}
-use Rattle.tidy_kept.specs.Changing.{changeOf}
+use Rattle.tidy_kept.proofs.ByFlags.{by-flags}
 use borrow.Author.Needs.{needs}
 use Rattle.tidy_kept.proofs.change_of.Statement.{statement}
 use Rattle.tidy_kept.proofs.change_of.Tie as tie
 
 returns : tie.Need-returns
-unfolding changeOf
-returns c = search flags depth 9
+returns c = rw by-flags (search flags depth 9)
 
 place-before-requires : tie.Need-place-before-requires
 place-before-requires c κs = search needs
@@ -19,34 +18,28 @@ add-t10 : tie.Need-add-t10
 add-t10 c = search needs
 
 returns-2 : tie.Need-returns-2
-unfolding changeOf
-returns-2 c = rw (c .before .before .cut-of .ensures, c .before .before .before .place-before .ensures) (search flags depth 9)
+returns-2 c = rw (by-flags, c .before .before .cut-of .ensures, c .before .before .before .place-before .ensures) (search flags depth 9)
 
 add-t11 : tie.Need-add-t11
 add-t11 c = search needs
 
 returns-3 : tie.Need-returns-3
-unfolding changeOf
-returns-3 c = rw (c .before .before .cut-of .ensures, c .before .before .before .place-before .ensures) (search flags depth 9)
+returns-3 c = rw (by-flags, c .before .before .cut-of .ensures, c .before .before .before .place-before .ensures) (search flags depth 9)
 
 add-t12 : tie.Need-add-t12
 add-t12 c = search needs
 
 returns-4 : tie.Need-returns-4
-unfolding changeOf
-returns-4 c = rw (c .before .before .cut-of .ensures, c .before .before .before .place-before .ensures) (search flags depth 9)
+returns-4 c = rw (by-flags, c .before .before .cut-of .ensures, c .before .before .before .place-before .ensures) (search flags depth 9)
 
 returns-5 : tie.Need-returns-5
-unfolding changeOf
-returns-5 c = search flags depth 9
+returns-5 c = rw by-flags (search flags depth 9)
 
 returns-6 : tie.Need-returns-6
-unfolding changeOf
-returns-6 c = rw (c .before .before .before .before .before .place-before .ensures) (search flags depth 9)
+returns-6 c = rw (by-flags, c .before .before .before .before .before .place-before .ensures) (search flags depth 9)
 
 returns-7 : tie.Need-returns-7
-unfolding changeOf
-returns-7 c = search flags depth 9
+returns-7 c = rw by-flags (search flags depth 9)
 
 pub change-of-spec : {M : Type 1} → statement M
 change-of-spec =

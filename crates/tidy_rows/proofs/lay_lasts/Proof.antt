@@ -36,53 +36,17 @@ single c =
 loop-holds : tie.Need-loop-holds Inv-loop μ-loop
 loop-holds c = (c .before .before .before .before .pre .1 .0 .0, lasts-none rowKeyOf onItsRow)
 
-add-loop : tie.Need-add-loop Inv-loop μ-loop
-add-loop c = search needs
-
-mul-allowed-on-row : tie.Need-mul-allowed-on-row Inv-loop μ-loop
-mul-allowed-on-row c = search needs
-
-shared-slice-read-allowed-on-row : tie.Need-shared-slice-read-allowed-on-row Inv-loop μ-loop
-shared-slice-read-allowed-on-row c = search needs
-
 allowed-on-row-requires : tie.Need-allowed-on-row-requires Inv-loop μ-loop
 allowed-on-row-requires c κs =
     let at = c .before .before in
     let start = at .before .before .before .before .before in
     allowed-at (start .args .beats .now) (at .loop .i) (start .pre .0) (omega arith)
 
-mul-out-beats : tie.Need-mul-out-beats Inv-loop μ-loop
-mul-out-beats c = search needs
-
 slice-write-out-beats : tie.Need-slice-write-out-beats Inv-loop μ-loop
 slice-write-out-beats c = room (c .before .before .before) .0
 
-mul-out-values : tie.Need-mul-out-values Inv-loop μ-loop
-mul-out-values c = search needs
-
-shared-slice-read-out-values : tie.Need-shared-slice-read-out-values Inv-loop μ-loop
-shared-slice-read-out-values c = search needs
-
-mul-out-values-2 : tie.Need-mul-out-values-2 Inv-loop μ-loop
-mul-out-values-2 c = search needs
-
 slice-write-out-values : tie.Need-slice-write-out-values Inv-loop μ-loop
 slice-write-out-values c = room (c .before .before .before .before) .1
-
-mul-repeats : tie.Need-mul-repeats Inv-loop μ-loop
-mul-repeats c = search needs
-
-shared-slice-read-repeats : tie.Need-shared-slice-read-repeats Inv-loop μ-loop
-shared-slice-read-repeats c = search needs
-
-add-repeats : tie.Need-add-repeats Inv-loop μ-loop
-add-repeats c = search needs
-
-mul-repeats-2 : tie.Need-mul-repeats-2 Inv-loop μ-loop
-mul-repeats-2 c = search needs
-
-shared-slice-read-repeats-2 : tie.Need-shared-slice-read-repeats-2 Inv-loop μ-loop
-shared-slice-read-repeats-2 c = search needs
 
 repeats-requires : tie.Need-repeats-requires Inv-loop μ-loop
 repeats-requires c κs =
@@ -98,12 +62,6 @@ sub-count c = omega (arith, single c)
 add-count : tie.Need-add-count Inv-loop μ-loop
 add-count c = record { fits = omega (arith, c .before .before .before .before .before .before .before .loop .inv .1 .few) }
 
-add-i : tie.Need-add-i Inv-loop μ-loop
-add-i c = search needs
-
-loop-less : tie.Need-loop-less Inv-loop μ-loop
-loop-less c = search needs
-
 loop-again : tie.Need-loop-again Inv-loop μ-loop
 loop-again c =
     let at = c .before .before .before .before .before .before .before in
@@ -118,32 +76,14 @@ loop-again c =
           (omega (arith, length-entries beats values same)) (c .repeats .result) (rw (entries-getD beats values i nan nan same, entries-getD beats values (i + 1) nan nan same) (c .repeats .ensures)),
     )
 
-mul-allowed-on-row-2 : tie.Need-mul-allowed-on-row-2 Inv-loop μ-loop
-mul-allowed-on-row-2 c = search needs
-
-shared-slice-read-allowed-on-row-2 : tie.Need-shared-slice-read-allowed-on-row-2 Inv-loop μ-loop
-shared-slice-read-allowed-on-row-2 c = search needs
-
 allowed-on-row-requires-2 : tie.Need-allowed-on-row-requires-2 Inv-loop μ-loop
 allowed-on-row-requires-2 c κs =
     let at = c .before .before in
     let start = at .before .before .before .before .before in
     allowed-at (start .args .beats .now) (at .loop .i) (start .pre .0) (omega arith)
 
-mul-out-beats-2 : tie.Need-mul-out-beats-2 Inv-loop μ-loop
-mul-out-beats-2 c = search needs
-
 slice-write-out-beats-2 : tie.Need-slice-write-out-beats-2 Inv-loop μ-loop
 slice-write-out-beats-2 c = room (c .before .before .before) .0
-
-mul-out-values-3 : tie.Need-mul-out-values-3 Inv-loop μ-loop
-mul-out-values-3 c = search needs
-
-shared-slice-read-out-values-2 : tie.Need-shared-slice-read-out-values-2 Inv-loop μ-loop
-shared-slice-read-out-values-2 c = search needs
-
-mul-out-values-4 : tie.Need-mul-out-values-4 Inv-loop μ-loop
-mul-out-values-4 c = search needs
 
 slice-write-out-values-2 : tie.Need-slice-write-out-values-2 Inv-loop μ-loop
 slice-write-out-values-2 c = room (c .before .before .before .before) .1
@@ -172,39 +112,8 @@ pub lay-lasts-spec : {M : Type 1} → statement M
 lay-lasts-spec =
     tie.close
     (tie.spec
-    Inv-loop
-    μ-loop
-    loop-holds
-    add-loop
-    mul-allowed-on-row
-    shared-slice-read-allowed-on-row
-    allowed-on-row-requires
-    mul-out-beats
-    slice-write-out-beats
-    mul-out-values
-    shared-slice-read-out-values
-    mul-out-values-2
-    slice-write-out-values
-    mul-repeats
-    shared-slice-read-repeats
-    add-repeats
-    mul-repeats-2
-    shared-slice-read-repeats-2
-    repeats-requires
-    sub-count
-    add-count
-    add-i
-    loop-less
-    loop-again
-    mul-allowed-on-row-2
-    shared-slice-read-allowed-on-row-2
-    allowed-on-row-requires-2
-    mul-out-beats-2
-    slice-write-out-beats-2
-    mul-out-values-3
-    shared-slice-read-out-values-2
-    mul-out-values-4
-    slice-write-out-values-2
-    same-length
-    same-length-2
-    returns)
+    Inv-loop μ-loop loop-holds (λ c. search needs) (λ c. search needs) (λ c. search needs) allowed-on-row-requires (λ c. search needs)
+    slice-write-out-beats (λ c. search needs) (λ c. search needs) (λ c. search needs) slice-write-out-values (λ c. search needs) (λ c. search needs)
+    (λ c. search needs) (λ c. search needs) (λ c. search needs) repeats-requires sub-count add-count (λ c. search needs) (λ c. search needs) loop-again
+    (λ c. search needs) (λ c. search needs) allowed-on-row-requires-2 (λ c. search needs) slice-write-out-beats-2 (λ c. search needs) (λ c. search needs)
+    (λ c. search needs) slice-write-out-values-2 same-length same-length-2 returns)

@@ -25,9 +25,6 @@ abbrev μ-loop : tie.MeasureT-loop
 room : (c : tie.At-loop Inv-loop μ-loop) → (c .loop .place < length (c .loop .out-beats)) × (c .loop .place < length (c .loop .out-values))
 room c = lasts-turned-room rowKeyOf onItsRow (c .loop .inv .1)
 
-sub-place : tie.Need-sub-place Inv-loop μ-loop
-sub-place c = search needs
-
 single : (c : tie.After-repeats Inv-loop μ-loop) → c .repeats .result ≤ 1
 single c =
     let at = c .before .before .before .before .before .before .before in
@@ -40,53 +37,17 @@ loop-holds c =
     let start = c .before .before .before .before in
     (start .pre .1 .0 .0, lasts-turned-none rowKeyOf onItsRow (start .args .count - 1) (omega (arith, start .pre .1 .1)) (omega (arith, start .pre .1 .1)))
 
-add-loop : tie.Need-add-loop Inv-loop μ-loop
-add-loop c = search needs
-
-mul-allowed-on-row : tie.Need-mul-allowed-on-row Inv-loop μ-loop
-mul-allowed-on-row c = search needs
-
-shared-slice-read-allowed-on-row : tie.Need-shared-slice-read-allowed-on-row Inv-loop μ-loop
-shared-slice-read-allowed-on-row c = search needs
-
 allowed-on-row-requires : tie.Need-allowed-on-row-requires Inv-loop μ-loop
 allowed-on-row-requires c κs =
     let at = c .before .before in
     let start = at .before .before .before .before .before in
     allowed-at (start .args .beats .now) (at .loop .i) (start .pre .0) (omega arith)
 
-mul-out-beats : tie.Need-mul-out-beats Inv-loop μ-loop
-mul-out-beats c = search needs
-
 slice-write-out-beats : tie.Need-slice-write-out-beats Inv-loop μ-loop
 slice-write-out-beats c = room (c .before .before .before) .0
 
-mul-out-values : tie.Need-mul-out-values Inv-loop μ-loop
-mul-out-values c = search needs
-
-shared-slice-read-out-values : tie.Need-shared-slice-read-out-values Inv-loop μ-loop
-shared-slice-read-out-values c = search needs
-
-mul-out-values-2 : tie.Need-mul-out-values-2 Inv-loop μ-loop
-mul-out-values-2 c = search needs
-
 slice-write-out-values : tie.Need-slice-write-out-values Inv-loop μ-loop
 slice-write-out-values c = room (c .before .before .before .before) .1
-
-mul-repeats : tie.Need-mul-repeats Inv-loop μ-loop
-mul-repeats c = search needs
-
-shared-slice-read-repeats : tie.Need-shared-slice-read-repeats Inv-loop μ-loop
-shared-slice-read-repeats c = search needs
-
-add-repeats : tie.Need-add-repeats Inv-loop μ-loop
-add-repeats c = search needs
-
-mul-repeats-2 : tie.Need-mul-repeats-2 Inv-loop μ-loop
-mul-repeats-2 c = search needs
-
-shared-slice-read-repeats-2 : tie.Need-shared-slice-read-repeats-2 Inv-loop μ-loop
-shared-slice-read-repeats-2 c = search needs
 
 repeats-requires : tie.Need-repeats-requires Inv-loop μ-loop
 repeats-requires c κs =
@@ -111,12 +72,6 @@ sub-place-3 c =
     (ap (λ (beat : Float). (beat, getD values i nan)) (c .before .before .before .before .allowed-on-row .ensures) ∙ ap onItsRow (sym (entries-getD beats values i nan nan same)))
     (omega (arith, length-entries beats values same)) (c .repeats .result) (rw (entries-getD beats values i nan nan same, entries-getD beats values (i + 1) nan nan same) (c .repeats .ensures))
 
-add-i : tie.Need-add-i Inv-loop μ-loop
-add-i c = search needs
-
-loop-less : tie.Need-loop-less Inv-loop μ-loop
-loop-less c = search needs
-
 loop-again : tie.Need-loop-again Inv-loop μ-loop
 loop-again c =
     let at = c .before .before .before .before .before .before .before in
@@ -131,29 +86,14 @@ loop-again c =
           (omega (arith, length-entries beats values same)) (c .repeats .result) (rw (entries-getD beats values i nan nan same, entries-getD beats values (i + 1) nan nan same) (c .repeats .ensures)),
     )
 
-mul-allowed-on-row-2 : tie.Need-mul-allowed-on-row-2 Inv-loop μ-loop
-mul-allowed-on-row-2 c = search needs
-
-shared-slice-read-allowed-on-row-2 : tie.Need-shared-slice-read-allowed-on-row-2 Inv-loop μ-loop
-shared-slice-read-allowed-on-row-2 c = search needs
-
 allowed-on-row-requires-2 : tie.Need-allowed-on-row-requires-2 Inv-loop μ-loop
 allowed-on-row-requires-2 c κs =
     let at = c .before .before in
     let start = at .before .before .before .before .before in
     allowed-at (start .args .beats .now) (at .loop .i) (start .pre .0) (omega arith)
 
-mul-out-beats-2 : tie.Need-mul-out-beats-2 Inv-loop μ-loop
-mul-out-beats-2 c = search needs
-
 slice-write-out-beats-2 : tie.Need-slice-write-out-beats-2 Inv-loop μ-loop
 slice-write-out-beats-2 c = room (c .before .before .before) .0
-
-mul-out-values-3 : tie.Need-mul-out-values-3 Inv-loop μ-loop
-mul-out-values-3 c = search needs
-
-shared-slice-read-out-values-2 : tie.Need-shared-slice-read-out-values-2 Inv-loop μ-loop
-shared-slice-read-out-values-2 c = search needs
 
 mul-out-values-4 : tie.Need-mul-out-values-4 Inv-loop μ-loop
 mul-out-values-4 c = search needs
@@ -186,40 +126,8 @@ pub lay-lasts-turned-spec : {M : Type 1} → statement M
 lay-lasts-turned-spec =
     tie.close
     (tie.spec
-    Inv-loop
-    μ-loop
-    sub-place
-    loop-holds
-    add-loop
-    mul-allowed-on-row
-    shared-slice-read-allowed-on-row
-    allowed-on-row-requires
-    mul-out-beats
-    slice-write-out-beats
-    mul-out-values
-    shared-slice-read-out-values
-    mul-out-values-2
-    slice-write-out-values
-    mul-repeats
-    shared-slice-read-repeats
-    add-repeats
-    mul-repeats-2
-    shared-slice-read-repeats-2
-    repeats-requires
-    sub-place-2
-    sub-place-3
-    add-i
-    loop-less
-    loop-again
-    mul-allowed-on-row-2
-    shared-slice-read-allowed-on-row-2
-    allowed-on-row-requires-2
-    mul-out-beats-2
-    slice-write-out-beats-2
-    mul-out-values-3
-    shared-slice-read-out-values-2
-    mul-out-values-4
-    slice-write-out-values-2
-    same-length
-    same-length-2
-    returns)
+    Inv-loop μ-loop (λ c. search needs) loop-holds (λ c. search needs) (λ c. search needs) (λ c. search needs) allowed-on-row-requires (λ c. search needs)
+    slice-write-out-beats (λ c. search needs) (λ c. search needs) (λ c. search needs) slice-write-out-values (λ c. search needs) (λ c. search needs)
+    (λ c. search needs) (λ c. search needs) (λ c. search needs) repeats-requires sub-place-2 sub-place-3 (λ c. search needs) (λ c. search needs)
+    loop-again (λ c. search needs) (λ c. search needs) allowed-on-row-requires-2 (λ c. search needs) slice-write-out-beats-2 (λ c. search needs)
+    (λ c. search needs) mul-out-values-4 slice-write-out-values-2 same-length same-length-2 returns)

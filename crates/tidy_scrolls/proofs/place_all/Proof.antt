@@ -39,20 +39,20 @@ returns c =
     let same = g .pre .0 .1 in
     placing-falls rowKeyAt nearTo (entries beats values) (at .loop .kept-beats) (at .loop .kept-values) (at .loop .kept .count) (at .loop .kept .falls) (at .loop .i) (at .loop .inv .3) (entry-at beats values same (at .loop .i)) (nan, nan) (omega (arith, c .before .loop-test .taken, many beats values same)) (here beats values same (at .loop .i)) (c .if1 .taken)
 
-mul-place : tie.Need-mul-place Inv-loop μ-loop
-mul-place c = search needs
+mul-add-scroll-segment-slow : tie.Need-mul-add-scroll-segment-slow Inv-loop μ-loop
+mul-add-scroll-segment-slow c = search needs
 
-shared-slice-read-place : tie.Need-shared-slice-read-place Inv-loop μ-loop
-shared-slice-read-place c = search needs
+shared-slice-read-add-scroll-segment-slow : tie.Need-shared-slice-read-add-scroll-segment-slow Inv-loop μ-loop
+shared-slice-read-add-scroll-segment-slow c = search needs
 
-mul-place-2 : tie.Need-mul-place-2 Inv-loop μ-loop
-mul-place-2 c = search needs
+mul-add-scroll-segment-slow-2 : tie.Need-mul-add-scroll-segment-slow-2 Inv-loop μ-loop
+mul-add-scroll-segment-slow-2 c = search needs
 
-shared-slice-read-place-2 : tie.Need-shared-slice-read-place-2 Inv-loop μ-loop
-shared-slice-read-place-2 c = search needs
+shared-slice-read-add-scroll-segment-slow-2 : tie.Need-shared-slice-read-add-scroll-segment-slow-2 Inv-loop μ-loop
+shared-slice-read-add-scroll-segment-slow-2 c = search needs
 
-place-requires : tie.Need-place-requires Inv-loop μ-loop
-place-requires c κs =
+add-scroll-segment-slow-requires : tie.Need-add-scroll-segment-slow-requires Inv-loop μ-loop
+add-scroll-segment-slow-requires c κs =
     let at = c .before .before .before .before .before .before in
     let g = at .before .before .before .before .before in
     let p = at .loop .inv .3 in
@@ -68,7 +68,7 @@ loop-again : tie.Need-loop-again Inv-loop μ-loop
 loop-again c =
     let at = c .before .before .before .before .before .before .before .before .before .before .before in
     let g = at .before .before .before .before .before in
-    let p = c .before .before .before .before .place in
+    let p = c .before .before .before .before .add-scroll-segment-slow in
     let more = c .before .before .before .before .before .before .before .before .before .before .loop-test .taken in
     let beats = g .args .beats .now in
     let values = g .args .values .now in
@@ -99,11 +99,11 @@ place-all-spec =
     same-length
     same-length-2
     returns
-    mul-place
-    shared-slice-read-place
-    mul-place-2
-    shared-slice-read-place-2
-    place-requires
+    mul-add-scroll-segment-slow
+    shared-slice-read-add-scroll-segment-slow
+    mul-add-scroll-segment-slow-2
+    shared-slice-read-add-scroll-segment-slow-2
+    add-scroll-segment-slow-requires
     add-i
     loop-less
     loop-again

@@ -1,102 +1,96 @@
 -- `tidy_speeds_placed::lay_rows` lays the kept entries, each on its row. Assumes nothing.
-use Prim.Native.Nat.{_+_, _-_, _≤_, _<_}
-use mathlib.Core.Path.{_≡_, refl, sym, ap, _∙_}
-use mathlib.Core.List.{_∷_}
+use Prim.Native.Nat.{ℕ, _≤_}
+use mathlib.Core.Path.{_≡_, sym, ap, _∙_}
+use mathlib.Core.List.{List, map}
 use native.Mathlib.Omega.{arith}
-use lib.ListN.{length, drop, getD}
-use lib.Ieee.{nan}
-use Rattle.tidy_speeds_entries.specs.Speed.{SpeedValue, speedValueOf, noSpeed, speedValues}
-use Rattle.tidy_speeds_entries.proofs.SpeedColumns.{many-values}
-use Rattle.tidy_kept.proofs.PlacedInColumns.{length-listed, listed-here, listed-end}
-use Rattle.tidy_speeds_entries.proofs.SpeedsLaid.{LayingSpeeds, speeds-none, speeds-room, speeds-more, speeds-all}
-use Rattle.tidy_speeds_placed.specs.inside.ListedSpeeds.{listedSpeeds}
+use lib.ListN.{length, take}
+use lib.Seq.{length-take-le}
+use lib.Ieee.{Float}
+use Rattle.order.specs.Order.{laid}
+use Rattle.order.specs.Entries.{first}
+use Rattle.rows.specs.RowKey.{onRow}
+use Rattle.columns.proofs.EachOverFront.{each-over-front, copied-over-front}
+use Rattle.tidy_speeds_entries.specs.Speed.{SpeedEntry, speedOnRow}
+use Rattle.tidy_speeds_entries.specs.LaidSpeeds.{ratioOf, delayOf, unitOf}
+use Rattle.tidy_speeds_entries.proofs.FieldsOfSpeeds.{front-speeds, front-fields}
 use borrow.Author.Needs.{needs}
 use Rattle.tidy_speeds_placed.proofs.lay_rows.Statement.{statement}
 use Rattle.tidy_speeds_placed.proofs.lay_rows.Tie as tie
 
-abbrev Inv-loop : tie.InvT-loop
-Inv-loop beats ratios delays units count out-beats₀ out-ratios₀ out-delays₀ out-units₀ i₀ out-beats out-ratios out-delays out-units i =
-    (i ≤ count) × (count < 9223372036854775808) × LayingSpeeds (listedSpeeds count beats ratios delays units) (drop i (listedSpeeds count beats ratios delays units)) out-beats₀ out-beats out-ratios₀ out-ratios out-delays₀ out-delays out-units₀ out-units i
+slice-aggregate-lay-each-on-row : tie.Need-slice-aggregate-lay-each-on-row
+slice-aggregate-lay-each-on-row c = sym (length-take-le _ _ (c .before .before .before .before .before .before .before .before .before .pre .0 .0))
 
-abbrev μ-loop : tie.MeasureT-loop
-μ-loop beats ratios delays units count out-beats₀ out-ratios₀ out-delays₀ out-units₀ i₀ out-beats out-ratios out-delays out-units i = count - i
+lay-each-on-row-requires : tie.Need-lay-each-on-row-requires
+lay-each-on-row-requires c κs = search needs
 
-loop-holds : tie.Need-loop-holds Inv-loop μ-loop
-loop-holds c = let g = c .before .before .before .before .before .before .before .before in let whole = (listedSpeeds (g .args .count) (g .args .beats .now) (g .args .ratios .now) (g .args .delays .now) (g .args .units .now)) in (omega arith, omega (arith, g .pre .0 .0), speeds-none whole whole (g .args .out-beats .now) (g .args .out-ratios .now) (g .args .out-delays .now) (g .args .out-units .now) refl)
+slice-aggregate-copy : tie.Need-slice-aggregate-copy
+slice-aggregate-copy c = sym (length-take-le _ _ (c .before .before .before .before .before .before .before .before .before .before .before .before .before .before .pre .0 .1))
 
-speed-at-requires : tie.Need-speed-at-requires Inv-loop μ-loop
-speed-at-requires c κs = let g = c .before .before .before .before .before .before .before .before .before .before in let more = c .loop-test .taken in (omega (arith, more, g .pre .0 .1), omega (arith, more, g .pre .0 .2), omega (arith, more, g .pre .0 .3))
+copy-requires : tie.Need-copy-requires
+copy-requires c κs = search needs
 
-mul-write-speed : tie.Need-mul-write-speed Inv-loop μ-loop
-mul-write-speed c = search needs
+slice-aggregate-copy-2 : tie.Need-slice-aggregate-copy-2
+slice-aggregate-copy-2 c = sym (length-take-le _ _ (c .before .before .before .before .before .before .before .before .before .before .before .before .before .before .before .before .before .before .before .pre .0 .2))
 
-shared-slice-read-write-speed : tie.Need-shared-slice-read-write-speed Inv-loop μ-loop
-shared-slice-read-write-speed c = omega (arith, c .before .before .before .before .before .before .loop-test .taken, c .before .before .before .before .before .before .before .before .before .before .before .before .before .before .before .before .pre .0 .0)
+copy-requires-2 : tie.Need-copy-requires-2
+copy-requires-2 c κs = search needs
 
-write-speed-requires : tie.Need-write-speed-requires Inv-loop μ-loop
-write-speed-requires c κs =
-    let at = c .before .before .before .before .before .before .before in
-    let g = c .before .before .before .before .before .before .before .before .before .before .before .before .before .before .before .before in
-    let i = at .loop .i in
-    let whole = (listedSpeeds (g .args .count) (g .args .beats .now) (g .args .ratios .now) (g .args .delays .now) (g .args .units .now)) in
-    let more = c .before .before .before .before .before .before .loop-test .taken in
-    let v = speedValueOf (c .before .before .before .before .before .speed-at .result) in
-    let turn = listed-here (g .args .count) (g .args .beats .now) (speedValues (g .args .ratios .now) (g .args .delays .now) (g .args .units .now)) (g .pre .0 .0) (omega (arith, many-values (g .args .ratios .now) (g .args .delays .now) (g .args .units .now), g .pre .0 .1, g .pre .0 .2, g .pre .0 .3)) i nan noSpeed more ∙ ap (λ (w : SpeedValue). (getD (g .args .beats .now) i nan, w) ∷ drop (i + 1) whole) (sym (c .before .before .before .before .before .speed-at .ensures)) in
-    let room = speeds-room whole (drop i whole) (g .args .out-beats .now) (at .loop .out-beats) (g .args .out-ratios .now) (at .loop .out-ratios) (g .args .out-delays .now) (at .loop .out-delays) (g .args .out-units .now) (at .loop .out-units) i (at .loop .inv .2) (getD (g .args .beats .now) i nan, v) (drop (i + 1) whole) turn (omega (arith, length-listed (g .args .count) (g .args .beats .now) (speedValues (g .args .ratios .now) (g .args .delays .now) (g .args .units .now)) (g .pre .0 .0) (omega (arith, many-values (g .args .ratios .now) (g .args .delays .now) (g .args .units .now), g .pre .0 .1, g .pre .0 .2, g .pre .0 .3)), g .pre .1)) in
-    room
+slice-aggregate-copy-units : tie.Need-slice-aggregate-copy-units
+slice-aggregate-copy-units c = sym (length-take-le _ _ (c .before .before .before .before .before .before .before .before .before .before .before .before .before .before .before .before .before .before .before .before .before .before .before .before .pre .0 .3))
 
-add-i : tie.Need-add-i Inv-loop μ-loop
-add-i c = record { fits = omega (arith, c .before .before .before .before .before .before .before .before .before .before .before .before .before .before .before .loop-test .taken, c .before .before .before .before .before .before .before .before .before .before .before .before .before .before .before .before .loop .inv .1) }
+copy-units-requires : tie.Need-copy-units-requires
+copy-units-requires c κs = search needs
 
-loop-less : tie.Need-loop-less Inv-loop μ-loop
-loop-less c = omega (arith, c .before .before .before .before .before .before .before .before .before .before .before .before .before .before .before .loop-test .taken)
+same-length : tie.Need-same-length
+same-length c = search needs
 
-loop-again : tie.Need-loop-again Inv-loop μ-loop
-loop-again c =
-    let at = c .before .before .before .before .before .before .before .before .before .before .before .before .before .before .before .before in
-    let g = c .before .before .before .before .before .before .before .before .before .before .before .before .before .before .before .before .before .before .before .before .before .before .before .before .before in
-    let i = at .loop .i in
-    let whole = (listedSpeeds (g .args .count) (g .args .beats .now) (g .args .ratios .now) (g .args .delays .now) (g .args .units .now)) in
-    let more = c .before .before .before .before .before .before .before .before .before .before .before .before .before .before .before .loop-test .taken in
-    let v = speedValueOf (c .before .before .before .before .before .before .before .before .before .before .before .before .before .before .speed-at .result) in
-    let turn = listed-here (g .args .count) (g .args .beats .now) (speedValues (g .args .ratios .now) (g .args .delays .now) (g .args .units .now)) (g .pre .0 .0) (omega (arith, many-values (g .args .ratios .now) (g .args .delays .now) (g .args .units .now), g .pre .0 .1, g .pre .0 .2, g .pre .0 .3)) i nan noSpeed more ∙ ap (λ (w : SpeedValue). (getD (g .args .beats .now) i nan, w) ∷ drop (i + 1) whole) (sym (c .before .before .before .before .before .before .before .before .before .before .before .before .before .before .speed-at .ensures)) in
-    let room = speeds-room whole (drop i whole) (g .args .out-beats .now) (at .loop .out-beats) (g .args .out-ratios .now) (at .loop .out-ratios) (g .args .out-delays .now) (at .loop .out-delays) (g .args .out-units .now) (at .loop .out-units) i (at .loop .inv .2) (getD (g .args .beats .now) i nan, v) (drop (i + 1) whole) turn (omega (arith, length-listed (g .args .count) (g .args .beats .now) (speedValues (g .args .ratios .now) (g .args .delays .now) (g .args .units .now)) (g .pre .0 .0) (omega (arith, many-values (g .args .ratios .now) (g .args .delays .now) (g .args .units .now), g .pre .0 .1, g .pre .0 .2, g .pre .0 .3)), g .pre .1)) in
-    (omega (arith, more), at .loop .inv .1, speeds-more whole (drop i whole) (g .args .out-beats .now) (at .loop .out-beats) (g .args .out-ratios .now) (at .loop .out-ratios) (g .args .out-delays .now) (at .loop .out-delays) (g .args .out-units .now) (at .loop .out-units) i (at .loop .inv .2) (getD (g .args .beats .now) i nan, v) (drop (i + 1) whole) turn _ _ _ _ room (c .before .before .before .before .before .before .before .before .write-speed .ensures .0) (c .before .before .before .before .before .before .before .before .write-speed .ensures .1 .0) (c .before .before .before .before .before .before .before .before .write-speed .ensures .1 .1 .0) (c .before .before .before .before .before .before .before .before .write-speed .ensures .1 .1 .1))
+same-length-2 : tie.Need-same-length-2
+same-length-2 c = search needs
 
-same-length : tie.Need-same-length Inv-loop μ-loop
-same-length c = c .before .loop .inv .2 .beatsSo .size
+same-length-3 : tie.Need-same-length-3
+same-length-3 c = search needs
 
-same-length-2 : tie.Need-same-length-2 Inv-loop μ-loop
-same-length-2 c = c .before .loop .inv .2 .ratiosSo .size
+same-length-4 : tie.Need-same-length-4
+same-length-4 c = search needs
 
-same-length-3 : tie.Need-same-length-3 Inv-loop μ-loop
-same-length-3 c = c .before .loop .inv .2 .delaysSo .size
-
-same-length-4 : tie.Need-same-length-4 Inv-loop μ-loop
-same-length-4 c = c .before .loop .inv .2 .unitsSo .size
-
-returns : tie.Need-returns Inv-loop μ-loop
+returns : tie.Need-returns
 returns c =
-    let at = c .before in
-    let g = c .before .before .before .before .before .before .before .before .before .before in
-    let i = at .loop .i in
-    let whole = (listedSpeeds (g .args .count) (g .args .beats .now) (g .args .ratios .now) (g .args .delays .now) (g .args .units .now)) in
-    speeds-all whole (drop i whole) (g .args .out-beats .now) (at .loop .out-beats) (g .args .out-ratios .now) (at .loop .out-ratios) (g .args .out-delays .now) (at .loop .out-delays) (g .args .out-units .now) (at .loop .out-units) i (at .loop .inv .2) (listed-end (g .args .count) (g .args .beats .now) (speedValues (g .args .ratios .now) (g .args .delays .now) (g .args .units .now)) (g .pre .0 .0) (omega (arith, many-values (g .args .ratios .now) (g .args .delays .now) (g .args .units .now), g .pre .0 .1, g .pre .0 .2, g .pre .0 .3)) i (c .loop-test .left))
+    let s = c .before .before .before .before .before .before .before .before .before .before .before .before .before .before .before .before .before .before .before .before .before .before .before .before .before .before .before .before in
+    let n = s .args .count in
+    let room = s .pre .1 in
+    let front = front-speeds n (s .args .beats .now) (s .args .ratios .now) (s .args .delays .now) (s .args .units .now) (s .pre .0 .0) (s .pre .0 .1) (s .pre .0 .2) (s .pre .0 .3) in
+    let fields = front-fields n (s .args .beats .now) (s .args .ratios .now) (s .args .delays .now) (s .args .units .now) (s .pre .0 .0) (s .pre .0 .1) (s .pre .0 .2) (s .pre .0 .3) in
+    record {
+      beatsAre =
+          c .before .before .before .before .before .before .before .before .before .before .before .before .before .before .before .before .before .lay-each-on-row .ensures
+          ∙ each-over-front onRow (take n (s .args .beats .now)) (s .args .out-beats .now) (omega (arith, length-take-le n (s .args .beats .now) (s .pre .0 .0), room))
+          ∙ ap (λ (l : List Float). laid l (s .args .out-beats .now)) (sym (ap (λ (l : List SpeedEntry). map first (map speedOnRow l)) front ∙ fields .beatsAre));
+      ratiosAre =
+          c .before .before .before .before .before .before .before .before .before .before .before .before .copy .ensures
+          ∙ copied-over-front (take n (s .args .ratios .now)) (s .args .out-ratios .now) (omega (arith, length-take-le n (s .args .ratios .now) (s .pre .0 .1), room))
+          ∙ ap (λ (l : List Float). laid l (s .args .out-ratios .now)) (sym (ap (λ (l : List SpeedEntry). map ratioOf (map speedOnRow l)) front ∙ fields .ratiosAre));
+      delaysAre =
+          c .before .before .before .before .before .before .before .copy2 .ensures
+          ∙ copied-over-front (take n (s .args .delays .now)) (s .args .out-delays .now) (omega (arith, length-take-le n (s .args .delays .now) (s .pre .0 .2), room))
+          ∙ ap (λ (l : List Float). laid l (s .args .out-delays .now)) (sym (ap (λ (l : List SpeedEntry). map delayOf (map speedOnRow l)) front ∙ fields .delaysAre));
+      unitsAre =
+          c .before .before .copy-units .ensures
+          ∙ copied-over-front (take n (s .args .units .now)) (s .args .out-units .now) (omega (arith, length-take-le n (s .args .units .now) (s .pre .0 .3), room))
+          ∙ ap (λ (l : List ℕ). laid l (s .args .out-units .now)) (sym (ap (λ (l : List SpeedEntry). map unitOf (map speedOnRow l)) front ∙ fields .unitsAre));
+    }
 
 pub lay-rows-spec : {M : Type 1} → statement M
 lay-rows-spec =
     tie.close
     (tie.spec
-    Inv-loop
-    μ-loop
-    loop-holds
-    speed-at-requires
-    mul-write-speed
-    shared-slice-read-write-speed
-    write-speed-requires
-    add-i
-    loop-less
-    loop-again
+    slice-aggregate-lay-each-on-row
+    lay-each-on-row-requires
+    slice-aggregate-copy
+    copy-requires
+    slice-aggregate-copy-2
+    copy-requires-2
+    slice-aggregate-copy-units
+    copy-units-requires
     same-length
     same-length-2
     same-length-3

@@ -48,14 +48,14 @@ speed-at-requires c κs =
     let more = c .before .loop-test .taken in
     (omega (arith, more, g .pre .0 .1), omega (arith, more, g .pre .0 .1), omega (arith, more, g .pre .0 .1))
 
-mul-place : tie.Need-mul-place Inv-loop μ-loop
-mul-place c = record { fits = omega (arith, c .before .before .before .before .before .before .loop-test .taken, c .before .before .before .before .before .before .before .before .before .before .before .before .before .before .before .before .pre .0 .0) }
+mul-add-speed-segment-slow : tie.Need-mul-add-speed-segment-slow Inv-loop μ-loop
+mul-add-speed-segment-slow c = record { fits = omega (arith, c .before .before .before .before .before .before .loop-test .taken, c .before .before .before .before .before .before .before .before .before .before .before .before .before .before .before .before .pre .0 .0) }
 
-shared-slice-read-place : tie.Need-shared-slice-read-place Inv-loop μ-loop
-shared-slice-read-place c = omega (arith, c .before .before .before .before .before .before .before .loop-test .taken, c .before .before .before .before .before .before .before .before .before .before .before .before .before .before .before .before .before .pre .0 .1)
+shared-slice-read-add-speed-segment-slow : tie.Need-shared-slice-read-add-speed-segment-slow Inv-loop μ-loop
+shared-slice-read-add-speed-segment-slow c = omega (arith, c .before .before .before .before .before .before .before .loop-test .taken, c .before .before .before .before .before .before .before .before .before .before .before .before .before .before .before .before .before .pre .0 .1)
 
-place-requires : tie.Need-place-requires Inv-loop μ-loop
-place-requires c κs =
+add-speed-segment-slow-requires : tie.Need-add-speed-segment-slow-requires Inv-loop μ-loop
+add-speed-segment-slow-requires c κs =
     let at = c .before .before .before .before .before .before .before .before in
     let g = c .before .before .before .before .before .before .before .before .before .before .before .before .before .before .before .before .before in
     let more = c .before .before .before .before .before .before .before .loop-test .taken in
@@ -80,11 +80,11 @@ loop-again c =
     let more = c .before .before .before .before .before .before .before .before .before .before .before .before .before .before .before .before .loop-test .taken in
     let v = speedValueOf (c .before .before .before .before .before .before .before .before .before .before .before .before .before .before .speed-at .result) in (
       omega (arith, more),
-      c .before .before .before .before .before .before .before .before .place .kept .0 ∙ at .loop .inv .1,
-      c .before .before .before .before .before .before .before .before .place .kept .1 .0 ∙ at .loop .inv .2,
-      c .before .before .before .before .before .before .before .before .place .kept .1 .1 .0 ∙ at .loop .inv .3,
-      c .before .before .before .before .before .before .before .before .place .kept .1 .1 .1 .0 ∙ at .loop .inv .4,
-      placing-more rowKeyAt nearSpeed (speedEntries (g .args .beats .now) (g .args .ratios .now) (g .args .delays .now) (g .args .units .now)) (at .loop .kept-beats) (speedValues (at .loop .kept-ratios) (at .loop .kept-delays) (at .loop .kept-units)) (at .loop .kept .count) (at .loop .kept .falls) (at .loop .i) (at .loop .inv .5) (getD (g .args .beats .now) (at .loop .i) nan, v) (nan, noSpeed) (omega (arith, more, g .pre .0 .1, many-speeds (g .args .ratios .now) (g .args .delays .now) (g .args .units .now) (g .args .beats .now))) (speed-entry (g .args .ratios .now) (g .args .delays .now) (g .args .units .now) (g .args .beats .now) (at .loop .i) v (omega (arith, more, g .pre .0 .1)) (c .before .before .before .before .before .before .before .before .before .before .before .before .before .before .speed-at .ensures)) _ _ _ _ (c .before .before .before .before .before .before .before .before .before .before .before .before .before .before .before .if1 .left) (c .before .before .before .before .before .before .before .before .place .ensures),
+      c .before .before .before .before .before .before .before .before .add-speed-segment-slow .kept .0 ∙ at .loop .inv .1,
+      c .before .before .before .before .before .before .before .before .add-speed-segment-slow .kept .1 .0 ∙ at .loop .inv .2,
+      c .before .before .before .before .before .before .before .before .add-speed-segment-slow .kept .1 .1 .0 ∙ at .loop .inv .3,
+      c .before .before .before .before .before .before .before .before .add-speed-segment-slow .kept .1 .1 .1 .0 ∙ at .loop .inv .4,
+      placing-more rowKeyAt nearSpeed (speedEntries (g .args .beats .now) (g .args .ratios .now) (g .args .delays .now) (g .args .units .now)) (at .loop .kept-beats) (speedValues (at .loop .kept-ratios) (at .loop .kept-delays) (at .loop .kept-units)) (at .loop .kept .count) (at .loop .kept .falls) (at .loop .i) (at .loop .inv .5) (getD (g .args .beats .now) (at .loop .i) nan, v) (nan, noSpeed) (omega (arith, more, g .pre .0 .1, many-speeds (g .args .ratios .now) (g .args .delays .now) (g .args .units .now) (g .args .beats .now))) (speed-entry (g .args .ratios .now) (g .args .delays .now) (g .args .units .now) (g .args .beats .now) (at .loop .i) v (omega (arith, more, g .pre .0 .1)) (c .before .before .before .before .before .before .before .before .before .before .before .before .before .before .speed-at .ensures)) _ _ _ _ (c .before .before .before .before .before .before .before .before .before .before .before .before .before .before .before .if1 .left) (c .before .before .before .before .before .before .before .before .add-speed-segment-slow .ensures),
     )
 
 same-length-5 : tie.Need-same-length-5 Inv-loop μ-loop
@@ -118,9 +118,9 @@ place-all-spec =
     same-length-4
     returns
     speed-at-requires
-    mul-place
-    shared-slice-read-place
-    place-requires
+    mul-add-speed-segment-slow
+    shared-slice-read-add-speed-segment-slow
+    add-speed-segment-slow-requires
     add-i
     loop-less
     loop-again

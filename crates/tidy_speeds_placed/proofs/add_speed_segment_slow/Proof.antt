@@ -1,8 +1,8 @@
--- `tidy_speeds_placed::place` writes the first entry, or makes the change. Assumes nothing.
+-- `tidy_speeds_placed::add_speed_segment_slow` writes the first entry, or makes the change. Assumes nothing.
 use native.Mathlib.Omega.{arith}
 use borrow.Author.Needs.{needs}
-use Rattle.tidy_speeds_placed.proofs.place.Statement.{statement}
-use Rattle.tidy_speeds_placed.proofs.place.Tie as tie
+use Rattle.tidy_speeds_placed.proofs.add_speed_segment_slow.Statement.{statement}
+use Rattle.tidy_speeds_placed.proofs.add_speed_segment_slow.Tie as tie
 
 place-first-requires : tie.Need-place-first-requires
 place-first-requires c κs = let g = c .before .before .before .before .before .before .before .before .before in (omega (arith, g .pre .0 .1), omega (arith, g .pre .0 .1, g .pre .1 .0 .0), omega (arith, g .pre .0 .1, g .pre .1 .0 .1), omega (arith, g .pre .0 .1, g .pre .1 .0 .2))
@@ -40,8 +40,8 @@ same-length-8 c = c .before .before .before .before .before .before .before .bef
 returns-2 : tie.Need-returns-2
 returns-2 c = c .before .before .before .before .before .before .before .before .place-later .ensures
 
-pub place-spec : {M : Type 1} → statement M
-place-spec =
+pub add-speed-segment-slow-spec : {M : Type 1} → statement M
+add-speed-segment-slow-spec =
     tie.close
     (tie.spec
     place-first-requires

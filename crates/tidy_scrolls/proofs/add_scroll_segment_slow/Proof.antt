@@ -1,4 +1,4 @@
--- `tidy_scrolls::place` writes the first entry, or makes the change. Assumes nothing.
+-- `tidy_scrolls::add_scroll_segment_slow` writes the first entry, or makes the change. Assumes nothing.
 use Rattle.rows.specs.RowKey.{rowKeyAt}
 use Rattle.tidy_kept.specs.Near.{nearTo}
 use Rattle.tidy_kept.proofs.PlacedInColumns.{placed-first, high-fits, placed-later}
@@ -8,8 +8,8 @@ use native.Mathlib.Omega.{arith}
 use mathlib.Core.Path.{_≡_, refl, sym, _∙_}
 use Prim.Native.Nat.{_+_, _-_}
 use borrow.Author.Needs.{needs}
-use Rattle.tidy_scrolls.proofs.place.Statement.{statement}
-use Rattle.tidy_scrolls.proofs.place.Tie as tie
+use Rattle.tidy_scrolls.proofs.add_scroll_segment_slow.Statement.{statement}
+use Rattle.tidy_scrolls.proofs.add_scroll_segment_slow.Tie as tie
 
 slice-write-beats : tie.Need-slice-write-beats
 slice-write-beats c = search needs
@@ -75,8 +75,8 @@ returns-3 c =
     let g = c .before .before .before .before .before .before .before .before .before .before .before .before .before .before .before .before .before .before in
     rw (c .before .before .before .before .before .before .before .before .splice .ensures, c .before .before .before .before .splice2 .ensures) (placed-later rowKeyAt nearTo nan nan (g .args .beat, g .args .value) (g .args .n) (g .args .beats .now) (g .args .values .now) (omega arith) (g .pre .0 .2) (c .before .before .before .before .before .before .before .before .before .before .before .before .change-at .result) (c .before .before .before .before .before .before .before .before .before .before .before .before .change-at .ensures) (c .before .before .before .before .before .before .before .before .before .before .value-of .result) (c .before .before .before .before .before .before .before .before .before .before .value-of .ensures) _ _ (rw (c .if2 .left) (omega arith)) refl)
 
-pub place-spec : {M : Type 1} → statement M
-place-spec =
+pub add-scroll-segment-slow-spec : {M : Type 1} → statement M
+add-scroll-segment-slow-spec =
     tie.close
     (tie.spec
     slice-write-beats
