@@ -27,7 +27,7 @@ use Rattle.assembly_scrolls.proofs.Untested as scrolls
 use Rattle.assembly_speeds.specs.AssembledSpeeds.{assembledSpeeds, speedsRoomNumber, speedsLater, SpeedsOver}
 use Rattle.assembly_speeds.proofs.Untested as speeds
 use Rattle.assembly_tempos.specs.declared.AssembledTempos.{AssembledTempos}
-use Rattle.assembly_warps.specs.LentLists.{ThreeColumns}
+use Rattle.process_raw.specs.LentLists.{ThreeColumns}
 use Rattle.assembly_tempos.specs.AssembledTempos.{verdict, fitNumber, roomsNumber, ListWritten, ThreeLaid}
 use Rattle.assembly_tempos.proofs.RowsFit.{fit-number}
 use Rattle.chart.specs.declared.TimingFormat.{TimingFormat}

@@ -23,9 +23,10 @@ use Rattle.process.specs.ByFormat.{ThreeLists}
 use Rattle.assembly_rows.specs.AssembledRows.{changeBy, assembledRows}
 use Rattle.assembly_scrolls.specs.AssembledScrolls.{assembledScrolls, scrollsRoomNumber}
 use Rattle.assembly_speeds.specs.AssembledSpeeds.{assembledSpeeds, speedsRoomNumber}
-use Rattle.assembly_warps.specs.LentLists.{ThreeColumns}
+use Rattle.process_raw.specs.LentLists.{ThreeColumns}
 use Rattle.assembly_warps.specs.MergedWarps.{threeNumber, mergedLists}
-use Rattle.assembly_tempos.specs.AssembledTempos.{assembledTempos, assembledStops, assembledWarps, fitNumber, verdict, threeRooms, listRoom, ListWritten}
+use Rattle.process_raw.specs.RawLists.{listRoom}
+use Rattle.assembly_tempos.specs.AssembledTempos.{assembledTempos, assembledStops, assembledWarps, fitNumber, verdict, threeRooms, ListWritten}
 use Rattle.assembly.specs.declared.Assembled.{Assembled}
 use Rattle.assembly_rows.specs.declared.Meaning.the-variants.{Lengths, Values}
 

@@ -24,7 +24,7 @@ use Rattle.stops_for_sm.specs.Filling.{flat}
 use Rattle.chart.specs.declared.TimingFormat.{TimingFormat}
 use Rattle.process.specs.ByFormat.{ThreeLists}
 use Rattle.chart.specs.ChartColumns.{listColumns}
-use Rattle.assembly_warps.specs.LentLists.{threeColumns}
+use Rattle.process_raw.specs.LentLists.{threeColumns}
 use Rattle.assembly_warps.specs.MergedWarps.{warpsNumber, threeNumber, mergedLists}
 use Rattle.assembly_rows.specs.AssembledRows.{changeBy, assembledRows}
 use Rattle.assembly_rows.proofs.QuantizedTaken.{quantized-taken}

@@ -9,7 +9,7 @@ use Rattle.ieee.specs.Narrowing.{narrow}
 use Rattle.limits.specs.Refusals.{lower}
 use Rattle.columns.proofs.Rooms.{list-refused}
 use Rattle.process.specs.ByFormat.{ThreeLists}
-use Rattle.assembly_warps.specs.LentLists.{ThreeColumns}
+use Rattle.process_raw.specs.LentLists.{ThreeColumns}
 use Rattle.assembly_tempos.specs.AssembledTempos.{assembledTempos, assembledStops, assembledWarps, verdict, roomsNumber, ListWritten, ThreeLaid}
 use Rattle.assembly_tempos.specs.inside.Refusal.{nothingAssembled}
 

@@ -3,7 +3,7 @@ use Prim.Native.Nat.{ℕ}
 use mathlib.Core.Path.{_≡_, sym}
 use Rattle.columns.proofs.OneOutcome.{one-list}
 use Rattle.process.specs.ByFormat.{ThreeLists}
-use Rattle.assembly_warps.specs.LentLists.{ThreeColumns}
+use Rattle.process_raw.specs.LentLists.{ThreeColumns}
 use Rattle.assembly_warps.proofs.OneOutcome.{eachColumn}
 use Rattle.assembly_tempos.specs.declared.AssembledTempos.{AssembledTempos}
 use Rattle.assembly_tempos.specs.AssembledTempos.{ThreeLaid}

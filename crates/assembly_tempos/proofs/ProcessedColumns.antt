@@ -22,7 +22,7 @@ use Rattle.columns.specs.Each.{laidEach}
 use Rattle.columns.proofs.Rooms.{list-laid, list-of-pair}
 use Rattle.columns.proofs.EachOverFront.{each-over-front}
 use Rattle.process_raw.specs.RawLists.{roomFor}
-use Rattle.assembly_warps.specs.LentLists.{ThreeColumns}
+use Rattle.process_raw.specs.LentLists.{ThreeColumns}
 use Rattle.assembly_rows.specs.AssembledRows.{narrowedEntry, changeBy, assembledRows, RowsUntested, rowsFit}
 use Rattle.assembly_rows.proofs.QuantizedTaken.{quantized-taken}
 use Rattle.assembly_rows.proofs.Untested.{untested-taken}

@@ -18,7 +18,7 @@ use Rattle.order.proofs.Columns.{length-entries, first-entries, second-entries,
 use Rattle.columns.specs.Laying.{roomNumber, given, LaidList}
 use Rattle.tidy_rows.specs.RowTidying.{rowsNumber}
 use Rattle.process_raw.specs.declared.Processed as processed
-use Rattle.process_raw.specs.RawLists.{rawNumbers}
+use Rattle.process_raw.specs.RawLists.{rawNumbers, listRoom}
 use Rattle.process_raw.proofs.BothTaken.{both-taken}
 use Rattle.process_sm_laws.proofs.ChangesTaken.{same-columns}
 use Rattle.chart.specs.declared.TimingFormat.{TimingFormat}
@@ -27,12 +27,12 @@ use Rattle.process.specs.ListsTaken.{ListsTaken}
 use Rattle.process.proofs.ListsTaken.{lists-taken}
 use Rattle.process.proofs.TidiedOnGrid.{tempos-on-rows}
 use Rattle.process.proofs.ValuesF32.{values-f32}
-use Rattle.assembly_warps.specs.LentLists.{ThreeColumns, threeColumns}
+use Rattle.process_raw.specs.LentLists.{ThreeColumns, threeColumns}
 use Rattle.assembly_warps.specs.MergedWarps.{warpsNumber, threeNumber, mergedLists, ListsOver}
 use Rattle.assembly_rows.proofs.Outcomes.{number-with-room}
 use Rattle.assembly_rows.proofs.NarrowedFront.{front-laid}
 use Rattle.assembly_tempos.specs.declared.AssembledTempos.{AssembledTempos}
-use Rattle.assembly_tempos.specs.AssembledTempos.{listRoom, ListWritten, ThreeLaid}
+use Rattle.assembly_tempos.specs.AssembledTempos.{ListWritten, ThreeLaid}
 use Rattle.assembly_tempos.specs.inside.ProcessedColumns.{Held, Processed, listsOf, WorkRooms}
 
 -- ---- read back

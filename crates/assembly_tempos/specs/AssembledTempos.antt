@@ -15,10 +15,10 @@ use Rattle.order.specs.Entries.{first, second}
 use Rattle.columns.specs.Laying.{roomNumber, LaidList}
 use Rattle.tidy_rows.specs.RowTidying.{tidyRows}
 use Rattle.chart.specs.ChartColumns.{ListColumns}
-use Rattle.process_raw.specs.RawLists.{roomFor}
+use Rattle.process_raw.specs.RawLists.{listRoom}
 use Rattle.process.specs.ByFormat.{ThreeLists}
 use Rattle.assembly_rows.specs.AssembledRows.{narrowedEntry, changeBy, assembledRows}
-use Rattle.assembly_warps.specs.LentLists.{ThreeColumns}
+use Rattle.process_raw.specs.LentLists.{ThreeColumns}
 use Rattle.assembly_tempos.specs.declared.AssembledTempos.{AssembledTempos}
 use Rattle.assembly_rows.specs.declared.Meaning.the-variants.{Lengths}
 
@@ -50,10 +50,6 @@ verdict raw warps most later = pick (eqb raw 0) (pick (leb warps (min most mostE
 abbrev pub threeRooms : ThreeLists → (tempoRoom stopRoom warpRoom : ℕ) → ℕ
 threeRooms lists tempoRoom stopRoom warpRoom =
     lower (lower (fitNumber (assembledTempos lists) tempoRoom) (fitNumber (assembledStops lists) stopRoom)) (fitNumber (assembledWarps lists) warpRoom)
-
--- how many entries a list of two columns has room for
-abbrev pub listRoom : ListColumns → ℕ
-listRoom list = roomFor (list .beats) (list .values)
 
 abbrev pub roomsNumber : ThreeLists → (rooms : ThreeColumns) → ℕ
 roomsNumber lists rooms = threeRooms lists (listRoom (rooms .tempos)) (listRoom (rooms .stops)) (listRoom (rooms .warps))

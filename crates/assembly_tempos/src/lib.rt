@@ -15,7 +15,7 @@ ghost use Rattle.columns.specs.Each.{laidEach};
 ghost use Rattle.tidy_rows.specs.RowTidying.{rowsNumber};
 ghost use Rattle.assembly_rows.specs.AssembledRows.{RowsUntested};
 ghost use Rattle.limits.specs.Refusals.{lower};
-ghost use Rattle.assembly_warps.specs.LentLists.{threeColumns, lentThree, threeBefore, threeAfter};
+ghost use Rattle.process_raw.specs.LentLists.{threeColumns, lentThree, threeBefore, threeAfter};
 ghost use Rattle.assembly_warps.specs.MergedWarps.{threeNumber, mergedLists};
 ghost use Rattle.assembly_tempos.specs.AssembledTempos.{threeRooms, ThreeLaid};
 ghost use Rattle.assembly_tempos.specs.inside.Refusal.{nothingAssembled};

@@ -27,7 +27,7 @@ use Rattle.process.specs.ByFormat.{ThreeLists, ListsLaid}
 use Rattle.process_sm_lent.proofs.Ends.{by-tests, for-stops, for-warps}
 use Rattle.assembly_warps.specs.inside.OrNoRoom.{orNoRoom}
 use Rattle.chart.specs.ChartColumns.{ListColumns, listColumns}
-use Rattle.assembly_warps.specs.LentLists.{ThreeColumns}
+use Rattle.process_raw.specs.LentLists.{ThreeColumns}
 use Rattle.assembly_warps.specs.MergedWarps.{behindGiven, ListsOver}
 
 -- ---- the number

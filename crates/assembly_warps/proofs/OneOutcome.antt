@@ -4,7 +4,7 @@ use mathlib.Core.Path.{_≡_, sym}
 use Rattle.columns.proofs.OneOutcome.{one-list}
 use Rattle.process_raw.specs.declared.Processed.{Processed}
 use Rattle.process.specs.ByFormat.{ThreeLists}
-use Rattle.assembly_warps.specs.LentLists.{ThreeColumns, threeColumns}
+use Rattle.process_raw.specs.LentLists.{ThreeColumns, threeColumns}
 use Rattle.assembly_warps.specs.MergedWarps.{ListsOver}
 
 -- a record of columns, column by column

@@ -1,3 +1,2 @@
-pub mod LentLists
 pub mod MergedWarps
 pub mod inside

@@ -10,7 +10,7 @@ use Rattle.process_raw.specs.RawLists.{rawNumbers}
 use Rattle.chart.specs.declared.TimingFormat.{TimingFormat}
 use Rattle.chart.specs.ChartColumns.{ListColumns}
 use Rattle.process.specs.ByFormat.{ThreeLists, processedLists, ListsLaid}
-use Rattle.assembly_warps.specs.LentLists.{ThreeColumns}
+use Rattle.process_raw.specs.LentLists.{ThreeColumns}
 
 -- given warps by themselves: too many, columns that differ in length, a beat, a length
 abbrev pub warpsNumber : ListColumns → ℕ

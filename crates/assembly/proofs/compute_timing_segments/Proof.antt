@@ -6,7 +6,7 @@ use Rattle.limits.proofs.NoRefusal.{lower-none}
 use Rattle.columns.proofs.Rooms.{list-refused, list-of-pair}
 use Rattle.process_raw.specs.RawLists.{roomFor}
 use Rattle.tidy_speeds_entries.specs.LaidSpeeds.{leastOf}
-use Rattle.assembly_warps.specs.LentLists.{threeColumns}
+use Rattle.process_raw.specs.LentLists.{threeColumns}
 use Rattle.assembly_warps.specs.MergedWarps.{threeNumber}
 use Rattle.assembly.specs.Assembly.{othersNumber, othersLater}
 use Rattle.assembly.proofs.Ends.{speeds-refused, speeds-laid, others-taken, others-fit, rows-laid, as-asked, taken-part, all-passed, assembles}

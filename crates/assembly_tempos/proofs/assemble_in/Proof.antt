@@ -4,7 +4,7 @@ use mathlib.Core.Path.{_≡_, sym, ap, _∙_}
 use lib.Seq.{length-take-le}
 use Rattle.limits.specs.Refusals.{lower}
 use Rattle.limits.proofs.NoRefusal.{lower-none}
-use Rattle.assembly_warps.specs.LentLists.{threeColumns}
+use Rattle.process_raw.specs.LentLists.{threeColumns}
 use Rattle.assembly_warps.specs.MergedWarps.{threeNumber, mergedLists}
 use Rattle.assembly_tempos.specs.inside.Refusal.{nothingAssembled}
 use Rattle.assembly_tempos.proofs.Ends.{raw-refused}

@@ -5,8 +5,9 @@ use native.Mathlib.Omega.{arith}
 use lib.ListN.{length}
 use Rattle.limits.specs.Refusals.{lower}
 use Rattle.chart.specs.ChartColumns.{listColumns}
-use Rattle.assembly_warps.specs.LentLists.{threeColumns}
-use Rattle.assembly_tempos.specs.AssembledTempos.{assembledTempos, assembledStops, assembledWarps, fitNumber, threeRooms, listRoom}
+use Rattle.process_raw.specs.LentLists.{threeColumns}
+use Rattle.process_raw.specs.RawLists.{listRoom}
+use Rattle.assembly_tempos.specs.AssembledTempos.{assembledTempos, assembledStops, assembledWarps, fitNumber, threeRooms}
 use Rattle.assembly_tempos.specs.inside.ProcessedColumns.{listsOf}
 use Rattle.assembly_tempos.proofs.Ends.{too-many, later-refused, all-laid}
 use Rattle.assembly_tempos.proofs.OnRows.{on-row-held}

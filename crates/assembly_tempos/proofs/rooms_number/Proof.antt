@@ -1,6 +1,6 @@
 -- `assembly_tempos::rooms_number` asks each list for its room. Assumes nothing.
 use mathlib.Core.Path.{_∙_}
-use Rattle.assembly_warps.specs.LentLists.{threeColumns}
+use Rattle.process_raw.specs.LentLists.{threeColumns}
 use Rattle.assembly_tempos.proofs.ProcessedColumns.{rooms-are}
 use borrow.Author.Needs.{needs}
 use Rattle.assembly_tempos.proofs.rooms_number.Statement.{statement}

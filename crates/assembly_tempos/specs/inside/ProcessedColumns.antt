@@ -13,8 +13,8 @@ use Rattle.tidy_rows.specs.RowTidying.{rowsNumber}
 use Rattle.chart.specs.declared.TimingFormat.{TimingFormat}
 use Rattle.chart.specs.declared.TimingFormat.the-variants.{Sm}
 use Rattle.process.specs.ByFormat.{ThreeLists}
-use Rattle.assembly_warps.specs.LentLists.{ThreeColumns}
-use Rattle.assembly_tempos.specs.AssembledTempos.{listRoom}
+use Rattle.process_raw.specs.LentLists.{ThreeColumns}
+use Rattle.process_raw.specs.RawLists.{listRoom}
 
 -- an f32, and no NaN
 abbrev pub heldF32 : Float → Bool
