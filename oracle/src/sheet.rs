@@ -73,7 +73,10 @@ pub type Call = fn(&Song, &[i32], &mut Columns, Rooms) -> Sheet;
 
 /// The first of nine parts of a beat that a row falls on.
 pub fn snap(row: i32) -> u8 {
-    [48, 24, 16, 12, 8, 6, 4, 3, 1].iter().position(|many| row.rem_euclid(*many) == 0).expect("every row is a whole one") as u8
+    [48, 24, 16, 12, 8, 6, 4, 3, 1]
+        .iter()
+        .position(|many| row.rem_euclid(*many) == 0)
+        .expect("every row is a whole one") as u8
 }
 
 /// The same by a table of the remainders, as a player would write it for speed.
@@ -169,8 +172,7 @@ impl Timed {
         let mut wanted = Columns::by_chance(rooms, random);
         let mut got = wanted.clone();
         let number = self.refusal(rows, rooms);
-        let sheet =
-            if number == 0 { self.write(rows, &mut wanted) } else { Sheet { number, count: 0, steps: 0 } };
+        let sheet = if number == 0 { self.write(rows, &mut wanted) } else { Sheet { number, count: 0, steps: 0 } };
         let answer = call(&self.song, rows, &mut got, rooms);
         found.check(answer == sheet && got.same(&wanted), || {
             format!("{:?}, rows {rows:?}, rooms {rooms:?}: {sheet:?} {wanted:?}, port {answer:?} {got:?}", self.song)
@@ -181,7 +183,8 @@ impl Timed {
     fn rows(&self, random: &mut Random) -> Vec<i32> {
         let count = [0, 1, 2, 10, 64, 65, 200][random.below(7) as usize];
         let beats = self.song.chart.asked(count, random);
-        let near = |beat: f64| if beat.is_finite() { probe::beat_to_note_row(beat.clamp(-65_536.0, 65_536.0)) } else { 0 };
+        let near =
+            |beat: f64| if beat.is_finite() { probe::beat_to_note_row(beat.clamp(-65_536.0, 65_536.0)) } else { 0 };
         let mut rows: Vec<i32> = beats.into_iter().map(near).collect();
         rows.sort_unstable();
         rows.dedup();

@@ -172,7 +172,9 @@ fn notes_have_their_times() {
     let notes: Vec<&str> = told.lines().filter(|line| line.starts_with("note")).collect();
     assert_eq!(notes.len(), 7);
     assert_eq!(notes[0], "note    beat 0 row 0 -0.012 s, 4th, judged, 1000");
-    assert!(notes[1].starts_with("note    beat 1 row 48 0.4165714285714") && notes[1].ends_with(" s, 4th, judged, 0100"));
+    assert!(
+        notes[1].starts_with("note    beat 1 row 48 0.4165714285714") && notes[1].ends_with(" s, 4th, judged, 0100")
+    );
     assert!(notes[6].starts_with("note    beat 7 row 336 ") && notes[6].ends_with(", 000M"));
     let warped = written("warped.ssc", "#VERSION:0.83;#BPMS:0=60;#WARPS:1=2;#NOTEDATA:;#NOTES:\n1\n1\n1\n1;");
     let told = said(&[&warped, "--notes"]);

@@ -26,7 +26,7 @@ const ROOM: usize = 300;
 // The bytes that are read at once, and the most words that are stored.
 const PIECE: usize = 4096 * LINE;
 
-const WORDS: usize = 98304;
+const WORDS: usize = 81920;
 
 // Whether a case's call answered as stored, and where the next case begins.
 struct Replayed {
