@@ -1,4 +1,4 @@
-/* A chart through the C functions: assembly, the clock, with an end mark too, beat from time, and the second clock, the lookups, and stops for SM. Prints what it found, and ends with 1 where an answer is not the expected one. */
+/* A chart through the C functions: assembly, the clock, with an end mark too, beat from time, the note sheet, and the second clock, the lookups, and stops for SM. Prints what it found, and ends with 1 where an answer is not the expected one. */
 #include <stdio.h>
 #include <string.h>
 
@@ -185,6 +185,23 @@ int main(void) {
     expect(outcome.number == MARRIGHENTU_TAKEN && outcome.count == 4, "a sheet is taken");
     for (size_t i = 0; i < 4; i++) printf("row %d is %s\n", (int)rows[i], judged[i] ? "judged" : "not judged");
     expect(judged[0] == 1 && judged[1] == 0 && judged[2] == 1 && judged[3] == 0, "the judged rows");
+
+    /* the note sheet has that, and of each row its second and its colour, by one cursor that goes along once */
+    double sheet_times[4];
+    uint8_t sheet_judged[4], snaps[4];
+    marrighentu_sheet sheet = marrighentu_note_sheet(
+        CLOCK_COLUMNS(t), t->fake_beats, t->made.fakes, t->fake_lengths, t->made.fakes, rows, 4, sheet_times, 4, sheet_judged, 4, snaps, 4);
+    expect(sheet.number == MARRIGHENTU_TAKEN && sheet.count == 4 && sheet.steps == 4 + 4, "a note sheet: four events, and one step for each row");
+    for (size_t i = 0; i < 4; i++) {
+        marrighentu_answer alone = marrighentu_get_time_for_beat(CLOCK_COLUMNS(t), rows[i] / 48.0);
+        expect(sheet_times[i] == alone.time && sheet_judged[i] == judged[i] && snaps[i] == (i == 3 ? 1 : 0), "a row of the sheet");
+        printf("row %d at %g s, colour %u\n", (int)rows[i], sheet_times[i], (unsigned)snaps[i]);
+    }
+    const int32_t twice[] = {48, 48};
+    sheet = marrighentu_note_sheet(
+        CLOCK_COLUMNS(t), t->fake_beats, t->made.fakes, t->fake_lengths, t->made.fakes, twice, 2, sheet_times, 4, sheet_judged, 4, snaps, 4);
+    expect(sheet.number == MARRIGHENTU_NOT_RISING && sheet.count == 0 && sheet.steps == 0, "a row twice");
+
     marrighentu_looked looked = marrighentu_is_judgable_at_beat(LOOKUP_COLUMNS(t), 6.0);
     expect(looked.number == MARRIGHENTU_TAKEN && !looked.yes, "a beat in the warp is not judged");
 

@@ -137,6 +137,13 @@ typedef struct {
     size_t count;
 } marrighentu_beat_info;
 
+/* A sheet's number, how many rows were written, and the events passed and one for each row, added up; after a refusal 0. */
+typedef struct {
+    uint32_t number;
+    size_t count;
+    size_t steps;
+} marrighentu_sheet;
+
 /* A question's number to the second clock, its second, the events it passed and one, and how many events were laid out. */
 typedef struct {
     uint32_t number;
@@ -655,6 +662,31 @@ uint32_t marrighentu_get_beat_infos_from_times(
     uint8_t *freezes, size_t freezes_length,
     uint8_t *delays, size_t delays_length,
     size_t *counts, size_t counts_length);
+
+/* ---- the note sheet */
+
+/* For each of a rising list of rows, however long, its second, 1 where a note there is judged and else 0, and its colour by number: the first that holds of 0 on a
+ * beat, 1 for eighths, 2 for 12ths, 3 for 16ths, 4 for 24ths, 5 for 32nds, 6 for 48ths, 7 for 64ths, and 8 for the rest, which are 192nds. A sheet is one run of
+ * a fresh cursor, without an end mark, and takes at most as many steps as there are tempos, stops, delays and, twice, warps, and one for each row.
+ * Refused with 1 to 5 as marrighentu_check_timing and marrighentu_judgable_rows refuse the lists, with 3 for a row beyond 3,145,728, with 5 where a row is not above
+ * the one before it, and last with 7 where the shortest of the three columns has fewer places than there are rows. No rows are a sheet of none.
+ */
+marrighentu_sheet marrighentu_note_sheet(
+    const float *tempo_beats, size_t tempo_beats_length,
+    const float *tempo_values, size_t tempo_values_length,
+    const float *stop_beats, size_t stop_beats_length,
+    const float *stop_values, size_t stop_values_length,
+    const float *delay_beats, size_t delay_beats_length,
+    const float *delay_values, size_t delay_values_length,
+    const float *warp_beats, size_t warp_beats_length,
+    const float *warp_lengths, size_t warp_lengths_length,
+    double offset, double global_offset,
+    const float *fake_beats, size_t fake_beats_length,
+    const float *fake_lengths, size_t fake_lengths_length,
+    const int32_t *rows, size_t rows_length,
+    double *times, size_t times_length,
+    uint8_t *judged, size_t judged_length,
+    uint8_t *snaps, size_t snaps_length);
 
 /* ---- the second clock, for tests and for people who want to see what happens when
  *

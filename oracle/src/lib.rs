@@ -41,6 +41,8 @@ pub mod processing;
 pub mod random;
 pub mod report;
 #[cfg(feature = "port")]
+pub mod sheet;
+#[cfg(feature = "port")]
 pub mod sm_stops;
 #[cfg(feature = "port")]
 pub mod speeds;

@@ -121,7 +121,8 @@ fn list_number(list: usize, (beats, values): &(Vec<f32>, Vec<f32>), rising: bool
 }
 
 impl Lists {
-    fn number(&self, which: &[usize], rising: bool, asked: bool) -> u32 {
+    /// The lowest number of some of the lists and of what is asked; else 0.
+    pub fn number(&self, which: &[usize], rising: bool, asked: bool) -> u32 {
         let lists = which.iter().map(|list| list_number(*list, &self.columns[*list], rising));
         lists.chain([if asked { 0 } else { 3 }]).filter(|number| *number != 0).min().unwrap_or(0)
     }

@@ -1,6 +1,6 @@
 //! What a machine sees of one chart: worked out once, and told as words, JSON or a picture.
 
-use marrighentu::{BeatInfo, Event, Refusal, Timing, beat_to_note_row, note_row_to_beat};
+use marrighentu::{BeatInfo, Event, Refusal, Snap, Timing, beat_to_note_row, note_row_to_beat};
 use marrighentu_charts::{ChartFile, ChartText, Fault, Note};
 
 /// A beat that was asked.
@@ -28,6 +28,7 @@ pub struct NoteRow {
     /// Where it is drawn; none where the scrolls can't be drawn by.
     pub displayed: Option<f64>,
     pub judged: bool,
+    pub snap: Snap,
     pub notes: Vec<Note>,
 }
 
@@ -80,15 +81,20 @@ fn note_rows(timing: &Timing, notes: &[Note]) -> Result<Vec<NoteRow>, String> {
     }
     let chunks: Vec<&[Note]> = notes.chunk_by(|one, other| one.row == other.row).collect();
     let rows: Vec<i32> = chunks.iter().map(|chunk| chunk[0].row).collect();
-    let beats: Vec<f64> = rows.iter().map(|row| note_row_to_beat(*row)).collect();
-    let judged = timing.judgable_rows(&rows).map_err(|refusal| refusal.to_string())?;
-    let found = chunks.iter().zip(timing.times(&beats)).zip(judged).map(|((chunk, time), judged)| {
-        let row = chunk[0].row;
-        let time = time.map_err(|refusal| format!("row {row}: {refusal}"))?;
-        let beat = note_row_to_beat(row);
-        Ok(NoteRow { row, beat, time, displayed: timing.displayed_beat(beat).ok(), judged, notes: chunk.to_vec() })
+    let sheet = timing.note_sheet(&rows).map_err(|refusal| refusal.to_string())?;
+    let found = chunks.iter().zip(sheet).map(|(chunk, of)| {
+        let beat = note_row_to_beat(of.row);
+        NoteRow {
+            row: of.row,
+            beat,
+            time: of.time,
+            displayed: timing.displayed_beat(beat).ok(),
+            judged: of.judgable,
+            snap: of.snap,
+            notes: chunk.to_vec(),
+        }
     });
-    found.collect()
+    Ok(found.collect())
 }
 
 /// What is asked of a chart, or of the whole file where there is none.

@@ -14,7 +14,7 @@ What a machine sees of an .sm or .ssc file: the timing lists of a chart as they 
   --beats B,.. for each beat its row and time, and whether a note there is judged
   --at S,..    for each second which beat it is then, whether a stop or a delay runs, and the steps to it
   --events     all events of the timing in the order in which they fall, the ends of warps among them; rows may fall too
-  --notes      as --beats for each row with notes, and the notes themselves, lane by lane
+  --notes      as --beats for each row with notes, its colour (4th to 192nd), and the notes themselves, lane by lane
   --json       all of it as JSON. Numbers of lists are f32 in few digits, times are f64
   --svg OUT    a picture: time against beat, tempos, pauses, warps and fakes, scrolls and speeds
   --from B     the picture's first beat

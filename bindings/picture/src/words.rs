@@ -91,7 +91,11 @@ pub fn seen(seen: &Seen) -> String {
         let judged = if row.judged { "judged" } else { "not judged" };
         let drawn = drawn(&seen.timing, row.displayed);
         let lanes = lanes(row, count);
-        let _ = writeln!(out, "note    beat {} row {} {} s, {judged}, {lanes}{drawn}", row.beat, row.row, row.time);
+        let _ = writeln!(
+            out,
+            "note    beat {} row {} {} s, {}, {judged}, {lanes}{drawn}",
+            row.beat, row.row, row.time, row.snap
+        );
     }
     out
 }

@@ -171,8 +171,10 @@ fn notes_have_their_times() {
     let told = said(&["dozens.ssc", "--chart", "1", "--notes"]);
     let notes: Vec<&str> = told.lines().filter(|line| line.starts_with("note")).collect();
     assert_eq!(notes.len(), 7);
-    assert_eq!(notes[0], "note    beat 0 row 0 -0.012 s, judged, 1000");
-    assert!(notes[1].starts_with("note    beat 1 row 48 0.4165714285714") && notes[1].ends_with(" s, judged, 0100"));
+    assert_eq!(notes[0], "note    beat 0 row 0 -0.012 s, 4th, judged, 1000");
+    assert!(
+        notes[1].starts_with("note    beat 1 row 48 0.4165714285714") && notes[1].ends_with(" s, 4th, judged, 0100")
+    );
     assert!(notes[6].starts_with("note    beat 7 row 336 ") && notes[6].ends_with(", 000M"));
     let warped = written("warped.ssc", "#VERSION:0.83;#BPMS:0=60;#WARPS:1=2;#NOTEDATA:;#NOTES:\n1\n1\n1\n1;");
     let told = said(&[&warped, "--notes"]);
@@ -180,10 +182,10 @@ fn notes_have_their_times() {
     assert_eq!(
         notes,
         [
-            "note    beat 0 row 0 0 s, judged, 1",
-            "note    beat 1 row 48 1 s, not judged, 1",
-            "note    beat 2 row 96 1 s, not judged, 1",
-            "note    beat 3 row 144 1 s, judged, 1"
+            "note    beat 0 row 0 0 s, 4th, judged, 1",
+            "note    beat 1 row 48 1 s, 4th, not judged, 1",
+            "note    beat 2 row 96 1 s, 4th, not judged, 1",
+            "note    beat 3 row 144 1 s, 4th, judged, 1"
         ]
     );
     let bad = written("bad-notes.sm", "#BPMS:0=60;\n#NOTES:a:b:c:d:e:\n1\nx;");

@@ -91,6 +91,15 @@ pub struct Outcome {
     pub count: usize,
 }
 
+/// What a note sheet answers: the rows written, and the steps to all their times.
+#[derive(Clone, Copy, Debug)]
+#[repr(C)]
+pub struct Sheet {
+    pub number: u32,
+    pub count: usize,
+    pub steps: usize,
+}
+
 #[derive(Clone, Copy, Debug)]
 #[repr(C)]
 pub struct Displayed {
@@ -261,6 +270,19 @@ calls! {
         room delay_marks: u8,
         room counts: usize,
     ) -> u32 = "marrighentu_get_beat_infos_from_times";
+    fn note_sheet(
+        list tempos: f32,
+        list stops: f32,
+        list delays: f32,
+        list warps: f32,
+        value offset: f64,
+        value global: f64,
+        list fakes: f32,
+        slice rows: i32,
+        room times: f64,
+        room judged: u8,
+        room snaps: u8,
+    ) -> Sheet = "marrighentu_note_sheet";
     fn lay_out_events(
         list tempos: f32,
         list stops: f32,

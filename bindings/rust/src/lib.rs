@@ -27,6 +27,7 @@ mod events;
 mod ffi;
 mod lists;
 mod refusal;
+mod sheet;
 mod timing;
 
 pub use by_time::BeatInfo;
@@ -34,6 +35,7 @@ pub use cursor::{Answer, Cursor, CursorState};
 pub use events::{BenchAnswer, Event, EventKind};
 pub use lists::{Chart, Columns, Entries, Format, Lists, Speed, SpeedUnit};
 pub use refusal::{NoRefusal, Refusal};
+pub use sheet::{Note, Snap};
 pub use timing::{RowStore, Timing};
 
 /// Rows to a beat.

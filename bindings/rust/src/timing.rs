@@ -21,7 +21,7 @@ pub struct Timing {
     pub(crate) warps: Columns<f32>,
     speeds: Vec<Speed<f32>>,
     scrolls: Columns<f32>,
-    fakes: Columns<f32>,
+    pub(crate) fakes: Columns<f32>,
     /// how far the display has moved at each scroll; none where the scrolls can't be drawn
     shown: Option<Vec<f64>>,
     pub(crate) offset: f64,

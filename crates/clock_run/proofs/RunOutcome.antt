@@ -9,7 +9,7 @@ use lib.Ieee.{Float}
 use borrow.Author.Tests.{ne-eqb, leb-true}
 use Rattle.picks.specs.Pick.{pick}
 use Rattle.limits.specs.Refusals.{lower}
-use Rattle.limits.proofs.NoRefusal.{lower-none}
+use Rattle.limits.proofs.NoRefusal.{lower-none, none-lower}
 use Rattle.order.specs.Order.{laid}
 use Rattle.columns.specs.Laying.{given}
 use Rattle.chart.specs.Timing.{Timing}
@@ -21,7 +21,7 @@ use Rattle.clock_walk.proofs.NumbersFit.{NumbersFit}
 use Rattle.clock.specs.Marked.{markOf, noMark, markedTimingNumber}
 use Rattle.clock.specs.declared.Cursor.{Cursor}
 use Rattle.clock.proofs.OwnMark.{taken-mark}
-use Rattle.clock_run.specs.Run.{runOf, runRoomNumber, runNumber, RunColumns, runColumns, HistoryLaid, RunLaid}
+use Rattle.clock_run.specs.Run.{runOf, runRoomNumber, runNumber, RunColumns, runColumns, HistoryLaid, checkedRunNumber, RunLaid, CheckedRunLaid}
 use Rattle.clock_run.specs.MarkedRun.{markedRunOf, markedRunNumber, MarkedRunLaid}
 use Rattle.clock_run.specs.inside.Asked.{eachAsked, lastAsked, AllAsked}
 use Rattle.clock_run.proofs.AskedAsHistories.{unmarked-answers, unmarked-last, marked-answers, marked-last}
@@ -74,14 +74,41 @@ module _ (t : Timing) (offset global : Float) (c : Cursor) (beats : List Float) 
       → RunLaid t offset global c beats (record { number = n; cursor = c }) (runColumns numbers times counts) (runColumns numbers times counts)
   refused-run n e h = refused-history _ runOf t offset global c beats old refl n e h
 
+  unmarked-run : (tests : ℕ) → tests ≡ 0 → (m : Mark) → m ≡ noMark → (last : Cursor) (numbersNew : List ℕ) (timesNew : List Float) (countsNew : List ℕ)
+      → AllAsked m t offset global c beats last old (runColumns numbersNew timesNew countsNew)
+      → HistoryLaid tests runOf t offset global c beats (record { number = 0; cursor = last }) old (runColumns numbersNew timesNew countsNew)
+  unmarked-run tests e m none last numbersNew timesNew countsNew all =
+      let each : eachAsked m t offset global c beats ≡ answers t offset global c (runOf beats) = rw none (unmarked-answers t offset global c beats) in
+      let end : lastAsked m t offset global c beats ≡ lastCursor t offset global c (runOf beats) = rw none (unmarked-last t offset global c beats) in
+      taken-history tests runOf t offset global c beats old m each end last (runColumns numbersNew timesNew countsNew) e all
+
   pub taken-run : (m : Mark) → m ≡ noMark → (last : Cursor) (numbersNew : List ℕ) (timesNew : List Float) (countsNew : List ℕ)
       → runNumber t offset global c (length beats) (length numbers) (length times) (length counts) ≡ 0
       → AllAsked m t offset global c beats last (runColumns numbers times counts) (runColumns numbersNew timesNew countsNew)
       → RunLaid t offset global c beats (record { number = 0; cursor = last }) (runColumns numbers times counts) (runColumns numbersNew timesNew countsNew)
-  taken-run m none last numbersNew timesNew countsNew e all =
-      let each : eachAsked m t offset global c beats ≡ answers t offset global c (runOf beats) = rw none (unmarked-answers t offset global c beats) in
-      let end : lastAsked m t offset global c beats ≡ lastCursor t offset global c (runOf beats) = rw none (unmarked-last t offset global c beats) in
-      taken-history _ runOf t offset global c beats old m each end last (runColumns numbersNew timesNew countsNew) e all
+  taken-run m none last numbersNew timesNew countsNew e all = unmarked-run _ e m none last numbersNew timesNew countsNew all
+
+  -- ---- one over a timing that was tested
+  pub checked-room : checkedRunNumber t c (length beats) (length numbers) (length times) (length counts) ≡ 0
+      → (length beats ≤ length numbers) × (length beats ≤ length times) × (length beats ≤ length counts)
+  unfolding checkedRunNumber
+  checked-room h = let s = shortest 0 (none-lower _ ∙ h) in (omega arith, omega arith, omega arith)
+
+  -- over a timing that is taken it has the run's number, and so the run's outcome
+  pub checked-is-run : timingNumber t offset global ≡ 0
+      → checkedRunNumber t c (length beats) (length numbers) (length times) (length counts) ≡ runNumber t offset global c (length beats) (length numbers) (length times) (length counts)
+  unfolding runNumber checkedRunNumber
+  checked-is-run taken = rw taken (sym (none-lower _))
+
+  pub refused-checked-run : (n : ℕ) → n ≡ checkedRunNumber t c (length beats) (length numbers) (length times) (length counts) → (n ≡ 0 → ⊥)
+      → CheckedRunLaid t offset global c beats (record { number = n; cursor = c }) (runColumns numbers times counts) (runColumns numbers times counts)
+  refused-checked-run n e h = refused-history _ runOf t offset global c beats old refl n e h
+
+  pub taken-checked-run : (m : Mark) → m ≡ noMark → (last : Cursor) (numbersNew : List ℕ) (timesNew : List Float) (countsNew : List ℕ)
+      → checkedRunNumber t c (length beats) (length numbers) (length times) (length counts) ≡ 0
+      → AllAsked m t offset global c beats last (runColumns numbers times counts) (runColumns numbersNew timesNew countsNew)
+      → CheckedRunLaid t offset global c beats (record { number = 0; cursor = last }) (runColumns numbers times counts) (runColumns numbersNew timesNew countsNew)
+  taken-checked-run m none last numbersNew timesNew countsNew e all = unmarked-run _ e m none last numbersNew timesNew countsNew all
 
   -- ---- and one with a mark, which is then the timing's own
   module _ (m : Mark) where

@@ -31,6 +31,10 @@ unfoldable pub runNumber : Timing → Float → Float → Cursor → (beats numb
 runNumber t offset global c beats numbers times counts =
     lower (timingNumber t offset global) (lower (runRoomNumber beats numbers times counts) (cursorRefusal t c))
 
+-- for a timing that was tested: the room and the cursor alone
+unfoldable pub checkedRunNumber : Timing → Cursor → (beats numbers times counts : ℕ) → ℕ
+checkedRunNumber t c beats numbers times counts = lower (runRoomNumber beats numbers times counts) (cursorRefusal t c)
+
 -- ---- the one outcome: the number, the cursor, and the three columns to their last place
 
 -- the columns of a run: of each beat its number, its time and its count
@@ -54,4 +58,9 @@ module _ (tests : ℕ) (asked : List Float → History) (t : Timing) (offset glo
 abbrev pub RunLaid : Timing → Float → Float → Cursor → List Float → Ran → (old new : RunColumns) → Type 0
 RunLaid t offset global c beats ran old new =
     HistoryLaid (runNumber t offset global c (length beats) (length (old .numbers)) (length (old .times)) (length (old .counts))) runOf
+    t offset global c beats ran old new
+
+abbrev pub CheckedRunLaid : Timing → Float → Float → Cursor → List Float → Ran → (old new : RunColumns) → Type 0
+CheckedRunLaid t offset global c beats ran old new =
+    HistoryLaid (checkedRunNumber t c (length beats) (length (old .numbers)) (length (old .times)) (length (old .counts))) runOf
     t offset global c beats ran old new

@@ -7,7 +7,7 @@ ghost use mathlib.Core.Path.{_≡_};
 ghost use Prim.Native.Nat.{_≤_};
 ghost use lib.ListN.{length};
 ghost use Rattle.chart.specs.Timing.{timing};
-ghost use Rattle.clock_run.specs.Run.{runRoomNumber, runColumns, RunLaid};
+ghost use Rattle.clock_run.specs.Run.{runRoomNumber, runColumns, RunLaid, CheckedRunLaid};
 ghost use Rattle.clock_run.specs.MarkedRun.{MarkedRunLaid};
 ghost use Rattle.clock_run.specs.inside.Asked.{AllAsked};
 ghost use Rattle.clock_run.specs.inside.Outlook.{lesserRow, restUntil, lookOn, lookAhead, isBeyond, isBefore, quietTime, soonBefore};
@@ -359,6 +359,66 @@ pub fn run(
     let lent = cursor.refusal(tempo_beats, stop_beats, delay_beats, warp_beats);
     let later = limits::lower_of(room, lent);
     let number = limits::lower_of(timing, later);
+    if number == limits::TAKEN {
+        let none = clock::no_mark();
+        let last = ask_each(
+            cursor,
+            none,
+            tempo_beats,
+            tempo_values,
+            stop_beats,
+            stop_values,
+            delay_beats,
+            delay_values,
+            warp_beats,
+            warp_lengths,
+            offset,
+            global,
+            beats,
+            numbers,
+            times,
+            counts,
+        );
+        return Ran {
+            number: limits::TAKEN,
+            cursor: last,
+        };
+    }
+    Ran {
+        number: number,
+        cursor: cursor,
+    }
+}
+
+// The same over a timing that `check_timing` took and that has not changed since: only the room and the cursor are tested, so that a long run can be made in pieces,
+// each of which goes on with the cursor that the last one left. Over any other timing it still ends, and answers what the walk's definition says.
+pub fn run_checked(
+    cursor: Cursor,
+    tempo_beats: &[f32],
+    tempo_values: &[f32],
+    stop_beats: &[f32],
+    stop_values: &[f32],
+    delay_beats: &[f32],
+    delay_values: &[f32],
+    warp_beats: &[f32],
+    warp_lengths: &[f32],
+    offset: f64,
+    global: f64,
+    beats: &[f64],
+    numbers: &mut [u32],
+    times: &mut [f64],
+    counts: &mut [usize],
+) -> Ran
+    ensures { λ r.
+        let t = timing «tempo_beats».entry.now «tempo_values».entry.now «stop_beats».entry.now «stop_values».entry.now
+        «delay_beats».entry.now «delay_values».entry.now «warp_beats».entry.now «warp_lengths».entry.now in
+        let old = runColumns numbers.entry.now times.entry.now counts.entry.now in
+        let new = runColumns numbers.exit.now times.exit.now counts.exit.now in
+        ⌜ CheckedRunLaid t offset global cursor beats.entry.now r old new ⌝ }
+{
+    let room = room_number(beats.len(), numbers.len(), times.len(), counts.len());
+    let lent = cursor.refusal(tempo_beats, stop_beats, delay_beats, warp_beats);
+    let number = limits::lower_of(room, lent);
     if number == limits::TAKEN {
         let none = clock::no_mark();
         let last = ask_each(

@@ -1132,6 +1132,56 @@ fn replay_times(words: &[u64], floats: &[f32], numbers: &[f64], at: usize) -> Re
     }
 }
 
+// The sheet of a list of rows.
+fn replay_sheet(words: &[u64], floats: &[f32], rows: &[i32], at: usize) -> Replayed {
+    let tempo_beats_at = further(at, 1);
+    let tempo_values_at = behind(words, tempo_beats_at);
+    let stop_beats_at = behind(words, tempo_values_at);
+    let stop_values_at = behind(words, stop_beats_at);
+    let delay_beats_at = behind(words, stop_values_at);
+    let delay_values_at = behind(words, delay_beats_at);
+    let warp_beats_at = behind(words, delay_values_at);
+    let warp_lengths_at = behind(words, warp_beats_at);
+    let fake_beats_at = behind(words, warp_lengths_at);
+    let fake_lengths_at = behind(words, fake_beats_at);
+    let rows_at = behind(words, fake_lengths_at);
+    let times_at = behind(words, rows_at);
+    let judged_at = behind(words, times_at);
+    let snaps_at = behind(words, judged_at);
+    let answer_at = behind(words, snaps_at);
+    let mut times_room = [1.5; ROOM];
+    let mut judged_room = [77u8; ROOM];
+    let mut snaps_room = [77u8; ROOM];
+    let sheet = note_sheet::note_sheet(
+        f32_column(floats, words, tempo_beats_at),
+        f32_column(floats, words, tempo_values_at),
+        f32_column(floats, words, stop_beats_at),
+        f32_column(floats, words, stop_values_at),
+        f32_column(floats, words, delay_beats_at),
+        f32_column(floats, words, delay_values_at),
+        f32_column(floats, words, warp_beats_at),
+        f32_column(floats, words, warp_lengths_at),
+        ieee_patterns::f64_of_bits(word_at(words, answer_at)),
+        ieee_patterns::f64_of_bits(word_at(words, further(answer_at, 1))),
+        f32_column(floats, words, fake_beats_at),
+        f32_column(floats, words, fake_lengths_at),
+        row_column(rows, words, rows_at),
+        &mut times_room,
+        &mut judged_room,
+        &mut snaps_room,
+    );
+    let mut same = is_u32(sheet.number, word_at(words, further(answer_at, 2)));
+    same = both(same, sheet.count as u64 == word_at(words, further(answer_at, 3)));
+    same = both(same, sheet.steps as u64 == word_at(words, further(answer_at, 4)));
+    same = both(same, same_f64s(words, times_at, &times_room));
+    same = both(same, same_bytes(words, judged_at, &judged_room));
+    same = both(same, same_bytes(words, snaps_at, &snaps_room));
+    Replayed {
+        same: same,
+        next: further(answer_at, 5),
+    }
+}
+
 // ---- notes
 
 // A position, and why there is none.
@@ -1400,6 +1450,7 @@ fn replay_case(
         16 => replay_tempo_text_f32(words, floats, at),
         17 => replay_number_text(words, at),
         18 => replay_times(words, floats, numbers, at),
+        19 => replay_sheet(words, floats, rows, at),
         _ => Replayed {
             same: false,
             next: words.len(),

@@ -12,6 +12,7 @@ use oracle::marked;
 use oracle::notes::{self, Scrolls as ScrollList};
 use oracle::processing::{self, Format, Rooms, Sm, Ssc};
 use oracle::random::Random;
+use oracle::sheet::{self, Song};
 use oracle::sm_stops;
 use oracle::speeds::{self, Columns as SpeedColumns};
 use oracle::tempo_text::{self, MOST_ENTRY_BYTES, Width};
@@ -99,6 +100,10 @@ fn main() {
     );
     for (name, chart) in [("a typical chart", chart([50, 30, 10, 10])), ("1,000 tempos", chart([1_000, 0, 0, 0]))] {
         ASKED[..1].iter().chain(&ASKED[2..]).for_each(|order| bench.by_time(name, &chart, *order));
+    }
+    println!("nanoseconds a row of a note sheet; beside the original's cursor, its judgable rows, and a remainder");
+    for (name, chart) in [("a typical chart", chart([50, 30, 10, 10])), ("1,000 tempos", chart([1_000, 0, 0, 0]))] {
+        [2_000, 200].iter().for_each(|rows| bench.note_sheet(name, &chart, *rows));
     }
     println!(
         "nanoseconds a call of the port's two clocks; each call tests the timing, and a question to the bench clock lays all events out first"
@@ -686,6 +691,34 @@ impl Bench {
                 ));
             },
             &mut original,
+        );
+    }
+}
+
+impl Bench {
+    /// Rows evenly spread over 500 beats.
+    fn note_sheet(&mut self, name: &str, chart: &Chart, count: usize) {
+        let rows: Vec<i32> = (0..count).map(|place| (place * 24_000 / count) as i32).collect();
+        let (song, timing) = (Song { chart: chart.clone(), ..Song::default() }, chart.original());
+        let (mut ours, mut theirs) = (sheet::Columns::new(count), sheet::Columns::new(count));
+        assert_eq!(sheet::note_sheet(&song, &rows, &mut ours, [count; 3]).number, 0);
+        self.line(
+            &format!("note_sheet of {count} rows over {name}"),
+            count,
+            || {
+                black_box(sheet::note_sheet(black_box(&song), black_box(&rows), &mut ours, [count; 3]));
+            },
+            || {
+                let mut cursor = probe::BeatCursor::new(black_box(&timing));
+                for (row, time) in black_box(&rows).iter().zip(&mut theirs.times) {
+                    *time = cursor.time_for_beat(f64::from(*row) / 48.0);
+                }
+                probe::judgable_rows(black_box(&timing), black_box(&rows), &mut theirs.judged);
+                for (row, snap) in black_box(&rows).iter().zip(&mut theirs.snaps) {
+                    *snap = sheet::snap_by_remainder(*row);
+                }
+                black_box(&theirs);
+            },
         );
     }
 }

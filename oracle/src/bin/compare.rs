@@ -11,6 +11,7 @@ use oracle::marked;
 use oracle::numbers::Number;
 use oracle::processing;
 use oracle::random::Random;
+use oracle::sheet;
 use oracle::sm_stops;
 use oracle::tally::{Tally, Total};
 use oracle::{assembly, notes, speeds, tempo_text, tidying};
@@ -32,6 +33,7 @@ fn main() -> ExitCode {
     clock::compare_all(work, &mut total);
     marked::compare_all(work, &mut total);
     by_time::compare_all(work, &mut total);
+    sheet::compare_all(work, &mut total);
     bench_clock::compare_all(work, &mut total);
     edits::compare_all(work, &mut total);
     speeds::compare_all(work, &mut total);

@@ -1,6 +1,6 @@
 //! list_vectors: the original's answers to a sample of lists, charts and timings, for the program `replay_lists`.
 
-use oracle::{by_time, clock, lookups, notes, processing, sm_stops, speeds, stored, tempo_text, tidying};
+use oracle::{by_time, clock, lookups, notes, processing, sheet, sm_stops, speeds, stored, tempo_text, tidying};
 
 fn main() {
     let mut cases = Vec::new();
@@ -13,5 +13,6 @@ fn main() {
     notes::stored_cases(&mut cases);
     tempo_text::stored_cases(&mut cases);
     by_time::stored_cases(&mut cases);
+    sheet::stored_cases(&mut cases);
     stored::print(&cases);
 }

@@ -1,0 +1,10 @@
+pub mod SnapOfRow
+pub mod Places
+pub mod RowsOfASheet
+pub mod SheetKept
+pub mod Totals
+pub mod RunInPieces
+pub mod PieceByPiece
+pub mod SheetOutcome
+pub mod OneOutcome
+pub mod SmallSheets

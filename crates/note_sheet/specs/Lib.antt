@@ -1,0 +1,4 @@
+pub mod Snap
+pub mod Sheet
+pub mod Kept
+pub mod inside
