@@ -196,8 +196,7 @@ fn time_piece(
     rows: &[i32],
     times: &mut [f64],
 ) -> Piece
-    requires {
-        let t = timing «tempo_beats».now «tempo_values».now «stop_beats».now «stop_values».now
+    requires { let t = timing «tempo_beats».now «tempo_values».now «stop_beats».now «stop_values».now
         «delay_beats».now «delay_values».now «warp_beats».now «warp_lengths».now in
         ⌜ PieceFits t offset global cursor rows.now (length times.now) ⌝ }
     ensures { λ r.
@@ -250,8 +249,7 @@ fn time_rows(
     rows: &[i32],
     times: &mut [f64],
 ) -> Piece
-    requires {
-        let t = timing «tempo_beats».now «tempo_values».now «stop_beats».now «stop_values».now
+    requires { let t = timing «tempo_beats».now «tempo_values».now «stop_beats».now «stop_values».now
         «delay_beats».now «delay_values».now «warp_beats».now «warp_lengths».now in
         ⌜ AllFit t offset global rows.now (length times.now) ⌝ }
     ensures { λ r.

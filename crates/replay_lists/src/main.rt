@@ -1171,8 +1171,14 @@ fn replay_sheet(words: &[u64], floats: &[f32], rows: &[i32], at: usize) -> Repla
         &mut snaps_room,
     );
     let mut same = is_u32(sheet.number, word_at(words, further(answer_at, 2)));
-    same = both(same, sheet.count as u64 == word_at(words, further(answer_at, 3)));
-    same = both(same, sheet.steps as u64 == word_at(words, further(answer_at, 4)));
+    same = both(
+        same,
+        sheet.count as u64 == word_at(words, further(answer_at, 3)),
+    );
+    same = both(
+        same,
+        sheet.steps as u64 == word_at(words, further(answer_at, 4)),
+    );
     same = both(same, same_f64s(words, times_at, &times_room));
     same = both(same, same_bytes(words, judged_at, &judged_room));
     same = both(same, same_bytes(words, snaps_at, &snaps_room));
