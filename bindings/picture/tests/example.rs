@@ -303,10 +303,11 @@ fn json_says_all_of_it() {
     assert_eq!(notes.len(), words.lines().filter(|line| line.starts_with("note")).count());
     for note in notes {
         let start = format!(
-            "note    beat {} row {} {} s, {}, ",
+            "note    beat {} row {} {} s, {}, {}, ",
             note.field("beat").number(),
             note.field("row").number(),
             note.field("time").number(),
+            note.field("snap").text(),
             if note.field("judged") == &Json::Truth(true) { "judged" } else { "not judged" }
         );
         assert!(words.contains(&start), "{start}");
