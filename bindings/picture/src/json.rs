@@ -232,7 +232,7 @@ fn timing(seen: &Seen) -> Vec<(&'static str, Json)> {
                 ("time", Json::number(row.time)),
                 ("displayed", row.displayed.map_or(Json::Null, Json::number)),
                 ("judged", Json::Truth(row.judged)),
-                ("snap", Json::text(&row.snap.to_string())),
+                ("snap", Json::text(row.snap.to_string())),
                 ("notes", Json::List(notes.collect())),
             ])
         });
