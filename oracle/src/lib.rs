@@ -34,6 +34,8 @@ pub mod lookups;
 #[cfg(feature = "port")]
 pub mod marked;
 #[cfg(feature = "port")]
+pub mod mend;
+#[cfg(feature = "port")]
 pub mod notes;
 pub mod numbers;
 #[cfg(feature = "port")]
