@@ -2,7 +2,8 @@
 #![cfg(feature = "port")]
 
 use oracle::cases::Work;
-use oracle::mend::{KEPT, List, MERGED, REPLACED, Rooms, compare, port};
+use oracle::mend::{KEPT, List, MERGED, REPLACED};
+use oracle::mend_calls::{Rooms, compare, port};
 use oracle::tidying::Outcome;
 
 const WORK: Work = Work { seed: 1, seconds: 0 };
