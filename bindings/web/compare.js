@@ -4,7 +4,7 @@
 const fs = require('fs');
 const path = require('path');
 const { execFileSync } = require('child_process');
-const { root, header, engine, Marrighentu } = require('./load.js');
+const { root, header, engine, Marrighentu } = require('./tests/load.js');
 
 const [seed, rounds] = [Number(process.argv[2] || 1), Number(process.argv[3] || 200)];
 const { functions, structs } = engine;
@@ -88,11 +88,14 @@ function anyNumber() {
 }
 
 // One length for each list of a call, now and then another; columns without a list's name are one list. A calm question has lists as assembly writes them.
+const FLAT = new Set(['stops']);
 function lengths(calm) {
     const found = {};
     return (key) => {
         const list = key.includes('_') ? key.replace(/_[a-z]+$/, '') : '';
         found[list] ??= chance(6) ? one([0, 63, 64, 65, 300, 1024, calm ? 7 : 1025]) : below(12);
+        // a flat list has a value behind each beat
+        if (calm && FLAT.has(key)) return 2 * below(6);
         return !calm && chance(20) ? below(14) : found[list];
     };
 }
@@ -136,13 +139,13 @@ function numberOf(type, key, calm) {
 }
 
 function question(name) {
-    const calm = !chance(3);
+    const [calm, roomy] = [!chance(3), !chance(4)];
     const sizes = lengths(calm);
     const given = {};
     for (const { kind, type, name: key } of functions[name].parameters) {
         if (kind === 'number') given[key] = numberOf(type, key, calm);
         else if (kind === 'read') given[key] = numbersOf(type, key, sizes(key), calm);
-        else if (kind === 'written') given[key] = numbersOf(type, key, chance(6) ? below(10) : one(type === 'uint8_t' ? [20, 400, 1100, 34000] : [20, 20, 400, 1100, 5200]), calm);
+        else if (kind === 'written') given[key] = numbersOf(type, key, roomy ? one(type === 'uint8_t' ? [1100, 34000] : [1100, 1100, 5200]) : one([0, below(10), 20, 400]), calm);
         else given[key] = structOf(type);
     }
     // a mark and a cursor of the timing itself, as a caller has them, in most questions
