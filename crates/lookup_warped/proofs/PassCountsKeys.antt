@@ -5,7 +5,6 @@ use mathlib.Core.Bool.{Bool, true, false}
 use mathlib.Core.List.{List, [], _∷_}
 use mathlib.Core.Logic.{⊎-elim}
 use native.Mathlib.Omega.{arith}
-use native.Mathlib.Nat.{zero-add}
 use borrow.Author.Tests.{lt-ltb, le-ltb, le-leb, lt-leb}
 use lib.Ieee.{Float}
 use Rattle.picks.specs.Pick.{pick}
@@ -14,7 +13,7 @@ use Rattle.order.proofs.Compare.{below?}
 use Rattle.rows.specs.RowKey.{rowKeyOf}
 use Rattle.lookup_warped.specs.WarpedRows.{span}
 use Rattle.lookup_warped.specs.OnePass.{endKey, firstNew, passOn}
-use Rattle.lookup_warped.proofs.KeysCounted.{keysFrom, keys-split, keys-all, keys-none, keys-agree, keys-fewer}
+use Rattle.lookup_warped.proofs.KeysCounted.{keysFrom, keys-none, keys-agree, keys-fewer, keys-around, keys-at-least}
 use Rattle.lookup_warped.proofs.RowsByKey.{hasKey, someHasKey}
 use Rattle.lookup_warped.proofs.HowFar.{end-within}
 
@@ -52,6 +51,16 @@ some-later warp warps k = by (hasKey warp k)
     by true t = refl
     by false t = t
 
+-- ---- and which of them are new
+before-start : (far : ℕ) (warp : Float × Float) (j : ℕ) → far ≤ j → j < firstNew far warp → j < rowKeyOf warp
+before-start far warp j l m = omega arith
+
+has-new : (far : ℕ) (warp : Float × Float) (warps : List (Float × Float)) (j : ℕ) → firstNew far warp ≤ j → j < endKey warp → someHasKey (warp ∷ warps) j ≡ true
+has-new far warp warps j l m = first-has warp warps j (has warp j (omega arith) m)
+
+lacks : (far : ℕ) (warp : Float × Float) (j : ℕ) → far ≤ j → endKey warp ≤ firstNew far warp → hasKey warp j ≡ false
+lacks far warp j l h = ⊎-elim (λ b. has-before warp j b) (λ b. has-behind warp j (omega arith)) (below? j (rowKeyOf warp))
+
 -- ---- a warp that adds nothing, and one that adds the keys from its first new one on
 pass-none : (far : ℕ) (warp : Float × Float) (warps : List (Float × Float)) → endKey warp ≤ firstNew far warp → passOn far (warp ∷ warps) ≡ passOn far warps
 unfolding passOn
@@ -65,50 +74,32 @@ unfolding passOn
 pass-some far warp warps h = rw (lt-ltb (firstNew far warp) (endKey warp) h)
 
 -- ---- of the n keys from far on, which are the rest of the span
+rest-of-span : (far n : ℕ) (warp : Float × Float) → far + n ≡ span → endKey warp ≤ far + n
+rest-of-span far n warp s = omega (arith, end-within warp)
+
 pub pass-counts : (far n : ℕ) (warps : List (Float × Float)) → far + n ≡ span → NeverFalls rowKeyOf warps → passOn far warps ≡ keysFrom (someHasKey warps) far n
 pass-counts far n [] s p = unfold passOn in (sym (keys-none (someHasKey []) far n (λ j l h. unfold someHasKey in refl)))
 pass-counts far n (warp ∷ warps) s p =
     ⊎-elim
     (λ h.
-    let all = someHasKey (warp ∷ warps) in
-    let first = firstNew far warp in
-    let last = endKey warp in
-    let gap : far + (first - far) ≡ first = omega arith in
-    let whole : first + (last - first) ≡ last = omega arith in
-    let parts : n ≡ (first - far) + ((last - first) + (span - last)) = omega (arith, end-within warp) in
-    let left : last + (span - last) ≡ span = omega (arith, end-within warp) in
-    let before = keys-none all far (first - far) (λ j l m. first-lacks warp warps j (has-before warp j (omega arith)) ∙ none-before (rowKeyOf warp) j warps (p .0) (omega arith)) in
-    let within = keys-all all first (last - first) (λ j l m. first-has warp warps j (has warp j (omega arith) (omega arith))) in
-    let behind = keys-agree all (someHasKey warps) last (span - last) (λ j l m. first-lacks warp warps j (has-behind warp j l)) in
-    let rest = pass-counts last (span - last) warps left (p .1) in
-    pass-some far warp warps h ∙ ap (λ (m : ℕ). (last - first) + m) (rest ∙ sym behind)
-    ∙ sym (ap (keysFrom all far) parts ∙ keys-split all far (first - far) ((last - first) + (span - last))
-    ∙ rw (before, gap, keys-split all first (last - first) (span - last), within, whole, zero-add)))
+    let fits = rest-of-span far n warp s in
+    let counted =
+    keys-around (someHasKey (warp ∷ warps)) (someHasKey warps) far (firstNew far warp) (endKey warp) n (omega arith) h fits (has-new far warp warps)
+    (λ j l m. first-lacks warp warps j (has-before warp j (before-start far warp j l m)) ∙ none-before (rowKeyOf warp) j warps (p .0) (before-start far warp j l m))
+    (λ j l. first-lacks warp warps j (has-behind warp j l)) in
+    pass-some far warp warps h ∙ ap (λ (m : ℕ). (endKey warp - firstNew far warp) + m) (pass-counts (endKey warp) (far + n - endKey warp) warps (omega arith) (p .1)) ∙ sym counted)
     (λ h. pass-none far warp warps h ∙ pass-counts far n warps s (p .1)
-    ∙ sym (keys-agree (someHasKey (warp ∷ warps)) (someHasKey warps) far n (λ j l m. first-lacks warp warps j (lacks j l h))))
+    ∙ sym (keys-agree (someHasKey (warp ∷ warps)) (someHasKey warps) far n (λ j l m. first-lacks warp warps j (lacks far warp j l h))))
     (below? (firstNew far warp) (endKey warp))
-  where
-    lacks : (j : ℕ) → far ≤ j → endKey warp ≤ firstNew far warp → hasKey warp j ≡ false
-    lacks j l h = ⊎-elim (λ b. has-before warp j b) (λ b. has-behind warp j (omega arith)) (below? j (rowKeyOf warp))
 
 pub pass-at-most : (far n : ℕ) (warps : List (Float × Float)) → far + n ≡ span → passOn far warps ≤ keysFrom (someHasKey warps) far n
 pass-at-most far n [] s = unfold passOn in omega arith
 pass-at-most far n (warp ∷ warps) s =
     ⊎-elim
     (λ h.
-    let all = someHasKey (warp ∷ warps) in
-    let first = firstNew far warp in
-    let last = endKey warp in
-    let gap : far + (first - far) ≡ first = omega arith in
-    let whole : first + (last - first) ≡ last = omega arith in
-    let parts : n ≡ (first - far) + ((last - first) + (span - last)) = omega (arith, end-within warp) in
-    let left : last + (span - last) ≡ span = omega (arith, end-within warp) in
-    let within = keys-all all first (last - first) (λ j l m. first-has warp warps j (has warp j (omega arith) (omega arith))) in
-    let more = keys-fewer (someHasKey warps) all last (span - last) (λ j t. some-later warp warps j t) in
-    let rest = pass-at-most last (span - last) warps left in
-    let sum : keysFrom all far n ≡ keysFrom all far (first - far) + ((last - first) + keysFrom all last (span - last)) =
-    ap (keysFrom all far) parts ∙ keys-split all far (first - far) ((last - first) + (span - last))
-    ∙ rw (gap, keys-split all first (last - first) (span - last), within, whole) in
-    omega (arith, pass-some far warp warps h))
-    (λ h. omega (arith, pass-none far warp warps h, pass-at-most far n warps s, keys-fewer (someHasKey warps) (someHasKey (warp ∷ warps)) far n (λ j t. some-later warp warps j t)))
+    let fits = rest-of-span far n warp s in
+    let counted =
+    keys-at-least (someHasKey (warp ∷ warps)) (someHasKey warps) far (firstNew far warp) (endKey warp) n (omega arith) h fits (has-new far warp warps) (some-later warp warps) in
+    omega (arith, pass-some far warp warps h, pass-at-most (endKey warp) (far + n - endKey warp) warps (omega arith)))
+    (λ h. omega (arith, pass-none far warp warps h, pass-at-most far n warps s, keys-fewer (someHasKey warps) (someHasKey (warp ∷ warps)) far n (some-later warp warps)))
     (below? (firstNew far warp) (endKey warp))
