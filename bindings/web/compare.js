@@ -1,5 +1,6 @@
-// compare.js [SEED] [ROUNDS]: every function of the header is asked the same by both, the WebAssembly module here and the native library in a program that is
-// written from the header; the answers, the lent cursors and every room to its last place must have the same bits (any NaN is any other).
+// compare.js [SEED] [ROUNDS] [NAME]: every function of the header, or NAME alone, is asked the same of both, the WebAssembly module here and the native library
+// in a program that is written from the header; the answers, the lent cursors and every room to its last place must have the same bits (any NaN is any other).
+// SPOILED=PLACE, for the test that faults are found, changes one number of the module's last answer, counted from its end.
 'use strict';
 const fs = require('fs');
 const path = require('path');
@@ -9,6 +10,8 @@ const { root, header, engine, Marrighentu } = require('./tests/load.js');
 const [seed, rounds] = [Number(process.argv[2] || 1), Number(process.argv[3] || 200)];
 const { functions, structs } = engine;
 const names = Object.keys(functions);
+const chosen = process.argv[4] ? [process.argv[4]] : names;
+const spoiled = process.env.SPOILED === undefined ? -1 : Number(process.env.SPOILED);
 const WIDTHS = { double: 8, float: 4, int32_t: 4, uint32_t: 4, uint64_t: 8, uint8_t: 1, bool: 1, size_t: 8 };
 
 // ---- the program, written from the header
@@ -212,7 +215,7 @@ let compared = 0;
 let different = 0;
 let taken = 0;
 const never = [];
-for (const name of names) {
+for (const name of chosen) {
     const asked = [];
     let own = 0;
     for (let round = 0; round < rounds; round++) {
@@ -220,6 +223,11 @@ for (const name of names) {
         const answer = engine[name.slice('marrighentu_'.length)](given);
         if (functions[name].result === 'void' || typeof answer !== 'object' || answer.number === 0) own++;
         asked.push({ given, wanted: numbersIn(name, answer) });
+    }
+    if (spoiled >= 0) {
+        const { wanted } = asked[asked.length - 1];
+        const place = wanted[wanted.length - 1 - (spoiled % wanted.length)];
+        place[1] = Object.is(place[1], 0) ? -0 : 0;
     }
     taken += own;
     if (!own) never.push(name);
@@ -243,5 +251,5 @@ for (const name of names) {
 }
 // a function that is refused whatever is asked would be compared in name only
 for (const name of never) console.log(`${name}: none of ${rounds} questions was taken`);
-console.log(`${names.length} functions, ${compared} compared, ${taken} of them taken, ${different} different`);
+console.log(`${chosen.length} functions, ${compared} compared, ${taken} of them taken, ${different} different`);
 process.exitCode = different || never.length ? 1 : 0;
