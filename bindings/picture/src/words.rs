@@ -44,6 +44,9 @@ fn lists(out: &mut String, timing: &Timing) {
     list(out, "stop", timing.stops(), "s");
     list(out, "delay", timing.delays(), "s");
     list(out, "warp", timing.warps(), "beats");
+    if !timing.warps().is_empty() {
+        let _ = writeln!(out, "warped  {} rows", timing.warped_rows());
+    }
     for speed in timing.speeds() {
         let _ = writeln!(out, "speed   {}", speed_words(speed));
     }
