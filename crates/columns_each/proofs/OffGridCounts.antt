@@ -1,22 +1,26 @@
 -- Beats off the grid: a list that loses none counts its column, a list that does not counts what passes neither test, and no list that is taken counts round.
 -- Assumes nothing.
 use Prim.Native.Nat.{ℕ, _+_, _≤_, _<_}
-use mathlib.Core.Path.{_≡_, refl, ap, _∙_}
+use mathlib.Core.Path.{_≡_, refl, sym, ap, _∙_}
 use mathlib.Core.Bool.{Bool, true, false}
 use mathlib.Core.List.{List, [], _∷_, map}
-use native.Mathlib.Nat.{mod-eq-of-lt, lt-of-le-of-lt}
+use native.Mathlib.Nat.{mod-eq-of-lt, lt-of-le-of-lt, le-trans}
 use native.Mathlib.Omega.{arith}
 use lib.Dec.{lit<}
-use lib.ListN.{length, length-map}
+use lib.ListN.{length, take, length-map}
+use lib.Seq.{take-all}
+use borrow.Author.Tests.{ne-eqb}
 use lib.Ieee.{Float}
 use Rattle.picks.specs.Pick.{pick}
 use Rattle.rows.specs.Rows.{onGrid}
 use Rattle.limits.specs.Numbers.{miss, misses}
 use Rattle.limits.specs.Table.{mostEntries}
 use Rattle.limits.proofs.HowManyFail.{misses-few}
+use Rattle.columns.specs.declared.Outcome.{Outcome}
 use Rattle.columns.specs.Kept.{kept}
 use Rattle.columns.proofs.KeptLaid.{few-kept}
-use Rattle.columns_each.specs.OffGrid.{movedOf, movedIn, always, roundCount}
+use Rattle.columns_each.specs.OffGrid.{movedOf, movedIn, movedUnder, always, roundCount}
+use Rattle.columns_each.specs.declared.ListOutcome.{ListOutcome}
 
 none-dropped : {E : Type 0} (list : List E) → kept always (λ (e : E). e) list ≡ list
 unfolding kept
@@ -54,3 +58,20 @@ module _ {E : Type 0} (stays : E → Bool) (beatOf : E → Float) where
 -- ---- no list that is taken counts round
 pub few-held : (n : ℕ) → n ≤ mostEntries → roundCount n ≡ n
 few-held n h = mod-eq-of-lt (lt-of-le-of-lt h (lit< tt))
+
+-- the count of a column that is quantised whole
+pub whole-counted : (beats old : List Float) → length old ≡ length beats → length beats ≤ mostEntries → roundCount (movedIn (take (length old) beats)) ≡ movedIn beats
+whole-counted beats old same few =
+    let all : length beats ≤ length old = omega arith in
+    ap (λ (l : List Float). roundCount (movedIn l)) (take-all (length old) beats all) ∙ few-held (movedIn beats) (le-trans (misses-few onGrid beats) few)
+
+-- ---- what a call hands up: the count of a list that is taken, and none of one that is refused
+module _ {outcome : Outcome} {r : ListOutcome} (off moved : ℕ) (same : r .outcome ≡ outcome) (count : r .moved ≡ movedUnder (outcome .number) off) where
+  up : movedUnder (outcome .number) off ≡ movedUnder (outcome .number) moved → r .moved ≡ movedUnder (r .outcome .number) moved
+  up e = count ∙ e ∙ ap (λ (o : Outcome). movedUnder (o .number) moved) (sym same)
+
+  pub handed-up : off ≡ moved → r .moved ≡ movedUnder (r .outcome .number) moved
+  handed-up e = up (ap (movedUnder (outcome .number)) e)
+
+  pub none-handed-up : (outcome .number ≡ 0 → ⊥) → r .moved ≡ movedUnder (r .outcome .number) moved
+  none-handed-up h = up (rw (ne-eqb (outcome .number) 0 h))
