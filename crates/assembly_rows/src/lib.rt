@@ -107,39 +107,8 @@ fn assemble_in(
     )
 }
 
-// Columns for as many entries as a chart has.
-fn assemble_few(
-    beats: &[f64],
-    values: &[f64],
-    meaning: Meaning,
-    out_beats: &mut [f32],
-    out_values: &mut [f32],
-) -> Outcome
-    requires { ⌜ (length values.now ≡ length beats.now) × (length beats.now ≤ 64) ⌝ }
-    ensures { λ r.
-        ⌜ RowsAssembled meaning beats.entry.now values.entry.now r
-        «out_beats».entry.now «out_beats».exit.now «out_values».entry.now «out_values».exit.now ⌝ }
-{
-    let n = beats.len();
-    let mut work_beats = [0.0; limits::FEW];
-    let mut work_values = [0.0; limits::FEW];
-    let mut tidy_beats = [0.0; limits::FEW];
-    let mut tidy_values = [0.0; limits::FEW];
-    assemble_in(
-        beats,
-        values,
-        meaning,
-        &mut work_beats[..n],
-        &mut work_values[..n],
-        &mut tidy_beats[..n],
-        &mut tidy_values[..n],
-        out_beats,
-        out_values,
-    )
-}
-
-// Columns for as many as are taken.
-fn assemble_many(
+// A chart's lists are mostly short, so few entries have columns of their own: clearing them costs little.
+fn assemble_any(
     beats: &[f64],
     values: &[f64],
     meaning: Meaning,
@@ -152,6 +121,23 @@ fn assemble_many(
         «out_beats».entry.now «out_beats».exit.now «out_values».entry.now «out_values».exit.now ⌝ }
 {
     let n = beats.len();
+    if n <= limits::FEW {
+        let mut work_beats = [0.0; limits::FEW];
+        let mut work_values = [0.0; limits::FEW];
+        let mut tidy_beats = [0.0; limits::FEW];
+        let mut tidy_values = [0.0; limits::FEW];
+        return assemble_in(
+            beats,
+            values,
+            meaning,
+            &mut work_beats[..n],
+            &mut work_values[..n],
+            &mut tidy_beats[..n],
+            &mut tidy_values[..n],
+            out_beats,
+            out_values,
+        );
+    }
     let mut work_beats = [0.0; limits::MOST_ENTRIES];
     let mut work_values = [0.0; limits::MOST_ENTRIES];
     let mut tidy_beats = [0.0; limits::MOST_ENTRIES];
@@ -167,24 +153,6 @@ fn assemble_many(
         out_beats,
         out_values,
     )
-}
-
-fn assemble_any(
-    beats: &[f64],
-    values: &[f64],
-    meaning: Meaning,
-    out_beats: &mut [f32],
-    out_values: &mut [f32],
-) -> Outcome
-    requires { ⌜ (length values.now ≡ length beats.now) × (length beats.now ≤ 1024) ⌝ }
-    ensures { λ r.
-        ⌜ RowsAssembled meaning beats.entry.now values.entry.now r
-        «out_beats».entry.now «out_beats».exit.now «out_values».entry.now «out_values».exit.now ⌝ }
-{
-    if beats.len() <= limits::FEW {
-        return assemble_few(beats, values, meaning, out_beats, out_values);
-    }
-    assemble_many(beats, values, meaning, out_beats, out_values)
 }
 
 // ---- lists of one length: where quantised beats rise each number is written by itself, and none is tested; where they fall, of a list that is taken, the same turned round
@@ -288,56 +256,6 @@ fn assemble_even(
     columns_each::with_moved(outcome, off)
 }
 
-fn assemble_even_few(
-    beats: &[f64],
-    values: &[f64],
-    meaning: Meaning,
-    out_beats: &mut [f32],
-    out_values: &mut [f32],
-) -> ListOutcome
-    requires { ⌜ (length values.now ≡ length beats.now) × (length beats.now ≤ 64) ⌝ }
-    ensures { λ r.
-        ⌜ RowsUntested meaning beats.entry.now values.entry.now (r .outcome)
-        «out_beats».entry.now «out_beats».exit.now «out_values».entry.now «out_values».exit.now ⌝ }
-    ensures { λ r. ⌜ r .moved ≡ movedUnder (r .outcome .number) (movedIn beats.entry.now) ⌝ }
-{
-    let n = beats.len();
-    let mut quantised = [0.0f32; limits::FEW];
-    assemble_even(
-        beats,
-        values,
-        meaning,
-        &mut quantised[..n],
-        out_beats,
-        out_values,
-    )
-}
-
-fn assemble_even_many(
-    beats: &[f64],
-    values: &[f64],
-    meaning: Meaning,
-    out_beats: &mut [f32],
-    out_values: &mut [f32],
-) -> ListOutcome
-    requires { ⌜ (length values.now ≡ length beats.now) × (length beats.now ≤ 1024) ⌝ }
-    ensures { λ r.
-        ⌜ RowsUntested meaning beats.entry.now values.entry.now (r .outcome)
-        «out_beats».entry.now «out_beats».exit.now «out_values».entry.now «out_values».exit.now ⌝ }
-    ensures { λ r. ⌜ r .moved ≡ movedUnder (r .outcome .number) (movedIn beats.entry.now) ⌝ }
-{
-    let n = beats.len();
-    let mut quantised = [0.0f32; limits::MOST_ENTRIES];
-    assemble_even(
-        beats,
-        values,
-        meaning,
-        &mut quantised[..n],
-        out_beats,
-        out_values,
-    )
-}
-
 // ---- the calls
 
 // A list as it is where its quantised beats rise, and as `assemble_rows` has it where they do not.
@@ -358,11 +276,28 @@ pub fn assemble_untested(
         let number = limits::list_number(Kind::Beat, Kind::Value, beats, values);
         return columns_each::with_moved(columns::refused(number), 0);
     }
-    if beats.len() <= limits::FEW {
-        return assemble_even_few(beats, values, meaning, out_beats, out_values);
+    let n = beats.len();
+    if n <= limits::FEW {
+        let mut quantised = [0.0f32; limits::FEW];
+        return assemble_even(
+            beats,
+            values,
+            meaning,
+            &mut quantised[..n],
+            out_beats,
+            out_values,
+        );
     }
-    if beats.len() <= limits::MOST_ENTRIES {
-        return assemble_even_many(beats, values, meaning, out_beats, out_values);
+    if n <= limits::MOST_ENTRIES {
+        let mut quantised = [0.0f32; limits::MOST_ENTRIES];
+        return assemble_even(
+            beats,
+            values,
+            meaning,
+            &mut quantised[..n],
+            out_beats,
+            out_values,
+        );
     }
     columns_each::with_moved(columns::refused(limits::TOO_LONG), 0)
 }

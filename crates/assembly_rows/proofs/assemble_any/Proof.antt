@@ -1,41 +1,48 @@
--- `assembly_rows::assemble_any` lends as much as the list needs. Assumes nothing.
+-- `assembly_rows::assemble_any` lends parts of four arrays, which are no shorter than the list: of 64 numbers where that is so, and else of 1,024. Assumes nothing.
+use mathlib.Core.Path.{sym}
+use lib.Seq.{length-take-le}
 use borrow.Author.Needs.{needs}
 use Rattle.assembly_rows.proofs.assemble_any.Statement.{statement}
 use Rattle.assembly_rows.proofs.assemble_any.Tie as tie
 
-assemble-few-requires : tie.Need-assemble-few-requires
-assemble-few-requires c κs = (c .before .before .before .before .before .before .before .pre .0, c .before .before .if1 .taken)
+few-requires : tie.Need-assemble-in-requires
+few-requires c κs =
+    let few = c .before .before .before .before .before .before in
+    let even = few .before .before .before .before .before .pre .0 in
+    let h = few .if1 .taken in
+    ((even, length-take-le _ _ h, length-take-le _ _ h), (length-take-le _ _ h, length-take-le _ _ h))
 
-same-length : tie.Need-same-length
-same-length c = search needs
-
-same-length-2 : tie.Need-same-length-2
-same-length-2 c = search needs
-
-returns : tie.Need-returns
-returns c = c .before .before .before .before .assemble-few .ensures
-
-assemble-many-requires : tie.Need-assemble-many-requires
-assemble-many-requires c κs = search needs
-
-same-length-3 : tie.Need-same-length-3
-same-length-3 c = search needs
-
-same-length-4 : tie.Need-same-length-4
-same-length-4 c = search needs
-
-returns-2 : tie.Need-returns-2
-returns-2 c = c .before .before .before .before .assemble-many .ensures
+many-requires : tie.Need-assemble-in-requires-2
+many-requires c κs =
+    let pre = c .before .before .before .before .before .before .before .before .before .before .before .pre in
+    let h = pre .1 in
+    ((pre .0, length-take-le _ _ h, length-take-le _ _ h), (length-take-le _ _ h, length-take-le _ _ h))
 
 pub assemble-any-spec : {M : Type 1} → statement M
 assemble-any-spec =
     tie.close
     (tie.spec
-    assemble-few-requires
-    same-length
-    same-length-2
-    returns
-    assemble-many-requires
-    same-length-3
-    same-length-4
-    returns-2)
+    (λ c. search needs)
+    (λ c. sym (length-take-le _ _ (c .before .if1 .taken)))
+    (λ c. search needs)
+    (λ c. sym (length-take-le _ _ (c .before .before .if1 .taken)))
+    (λ c. search needs)
+    (λ c. sym (length-take-le _ _ (c .before .before .before .if1 .taken)))
+    (λ c. search needs)
+    (λ c. sym (length-take-le _ _ (c .before .before .before .before .if1 .taken)))
+    few-requires
+    (λ c. search needs)
+    (λ c. search needs)
+    (λ c. c .before .before .before .before .before .before .before .before .assemble-in .ensures)
+    (λ c. search needs)
+    (λ c. sym (length-take-le _ _ (c .before .before .before .before .before .before .pre .1)))
+    (λ c. search needs)
+    (λ c. sym (length-take-le _ _ (c .before .before .before .before .before .before .before .pre .1)))
+    (λ c. search needs)
+    (λ c. sym (length-take-le _ _ (c .before .before .before .before .before .before .before .before .pre .1)))
+    (λ c. search needs)
+    (λ c. sym (length-take-le _ _ (c .before .before .before .before .before .before .before .before .before .pre .1)))
+    many-requires
+    (λ c. search needs)
+    (λ c. search needs)
+    (λ c. c .before .before .before .before .before .before .before .before .assemble-in2 .ensures))
