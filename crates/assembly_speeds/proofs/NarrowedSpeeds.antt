@@ -13,6 +13,7 @@ use Rattle.order.proofs.Columns.{length-entries, first-entries, second-entries}
 use Rattle.columns.specs.Each.{laidEach}
 use Rattle.columns.proofs.EachOverFront.{each-over-front}
 use Rattle.chart.specs.ChartColumns.{SpeedColumns, speedColumns}
+use Rattle.tidy_kept.proofs.ColumnsPlaced.{entries-take}
 use Rattle.tidy_speeds_entries.specs.Speed.{SpeedEntry, speedValues, speedEntries}
 use Rattle.tidy_speeds_entries.specs.LaidSpeeds.{ratioOf, delayOf, unitOf, leastOf}
 use Rattle.tidy_speeds_entries.proofs.SpeedColumns.{many-values, many-speeds}
@@ -31,13 +32,6 @@ pub laid-front : {A B : Type 0} (f : A → B) (n : ℕ) (from : List A) (old : L
 laid-front f n from old h k = each-over-front f (take n from) old (omega (arith, length-take-le n from h))
 
 -- ---- fronts
-take-entries : {A B : Type 0} (n : ℕ) (firsts : List A) (seconds : List B) → entries (take n firsts) (take n seconds) ≡ take n (entries firsts seconds)
-unfolding entries
-take-entries zero firsts seconds = refl
-take-entries (suc n) [] seconds = refl
-take-entries (suc n) (a ∷ firsts) [] = refl
-take-entries (suc n) (a ∷ firsts) (b ∷ seconds) = ap (_∷_ (a, b)) (take-entries n firsts seconds)
-
 take-there : {A : Type 0} (count n : ℕ) (l : List A) → n ≡ min count (length l) → take count l ≡ take n l
 take-there zero zero l h = refl
 take-there zero (suc n) l h = absurd (omega arith)
@@ -49,7 +43,7 @@ take-there (suc count) (suc n) (x ∷ l) h = ap (_∷_ x) (take-there count n l 
 module _ (n : ℕ) (beats ratios delays : List Float) (units : List ℕ) where
   take-speeds : speedEntries (take n beats) (take n ratios) (take n delays) (take n units) ≡ take n (speedEntries beats ratios delays units)
   take-speeds =
-      ap (entries (take n beats)) (ap (entries (take n ratios)) (take-entries n delays units) ∙ take-entries n ratios (entries delays units)) ∙ take-entries n beats (speedValues ratios delays units)
+      ap (entries (take n beats)) (ap (entries (take n ratios)) (entries-take n delays units) ∙ entries-take n ratios (entries delays units)) ∙ entries-take n beats (speedValues ratios delays units)
 
 -- ---- the columns of a list
 module _ (beats ratios delays : List Float) (units : List ℕ) (r : length beats ≡ length ratios) (d : length beats ≡ length delays) (u : length beats ≡ length units) where

@@ -103,86 +103,7 @@ fn assemble_in(
     )
 }
 
-// Columns for as many entries as a chart has.
-fn assemble_few(
-    beats: &[f64],
-    ratios: &[f64],
-    delays: &[f64],
-    units: &[u8],
-    out_beats: &mut [f32],
-    out_ratios: &mut [f32],
-    out_delays: &mut [f32],
-    out_units: &mut [u8],
-) -> Outcome
-    requires { ⌜ length beats.now ≤ 64 ⌝ }
-    ensures { λ r.
-        let raw = speedColumns beats.entry.now ratios.entry.now delays.entry.now units.entry.now in
-        let rooms = lentSpeeds «out_beats» «out_ratios» «out_delays» «out_units» in
-        ⌜ SpeedsAssembled raw r (speedsBefore rooms) (speedsAfter rooms) ⌝ }
-{
-    let n = beats.len();
-    let mut work_beats = [0.0; limits::FEW];
-    let mut tidy_beats = [0.0; limits::FEW];
-    let mut tidy_ratios = [0.0; limits::FEW];
-    let mut tidy_delays = [0.0; limits::FEW];
-    let mut tidy_units = [0u8; limits::FEW];
-    assemble_in(
-        beats,
-        ratios,
-        delays,
-        units,
-        &mut work_beats[..n],
-        &mut tidy_beats[..n],
-        &mut tidy_ratios[..n],
-        &mut tidy_delays[..n],
-        &mut tidy_units[..n],
-        out_beats,
-        out_ratios,
-        out_delays,
-        out_units,
-    )
-}
-
-// Columns for as many as are taken.
-fn assemble_many(
-    beats: &[f64],
-    ratios: &[f64],
-    delays: &[f64],
-    units: &[u8],
-    out_beats: &mut [f32],
-    out_ratios: &mut [f32],
-    out_delays: &mut [f32],
-    out_units: &mut [u8],
-) -> Outcome
-    requires { ⌜ length beats.now ≤ 1024 ⌝ }
-    ensures { λ r.
-        let raw = speedColumns beats.entry.now ratios.entry.now delays.entry.now units.entry.now in
-        let rooms = lentSpeeds «out_beats» «out_ratios» «out_delays» «out_units» in
-        ⌜ SpeedsAssembled raw r (speedsBefore rooms) (speedsAfter rooms) ⌝ }
-{
-    let n = beats.len();
-    let mut work_beats = [0.0; limits::MOST_ENTRIES];
-    let mut tidy_beats = [0.0; limits::MOST_ENTRIES];
-    let mut tidy_ratios = [0.0; limits::MOST_ENTRIES];
-    let mut tidy_delays = [0.0; limits::MOST_ENTRIES];
-    let mut tidy_units = [0u8; limits::MOST_ENTRIES];
-    assemble_in(
-        beats,
-        ratios,
-        delays,
-        units,
-        &mut work_beats[..n],
-        &mut tidy_beats[..n],
-        &mut tidy_ratios[..n],
-        &mut tidy_delays[..n],
-        &mut tidy_units[..n],
-        out_beats,
-        out_ratios,
-        out_delays,
-        out_units,
-    )
-}
-
+// A chart's lists are mostly short, so few entries have columns of their own: clearing them costs little.
 fn assemble_any(
     beats: &[f64],
     ratios: &[f64],
@@ -199,23 +120,44 @@ fn assemble_any(
         let rooms = lentSpeeds «out_beats» «out_ratios» «out_delays» «out_units» in
         ⌜ SpeedsAssembled raw r (speedsBefore rooms) (speedsAfter rooms) ⌝ }
 {
-    if beats.len() <= limits::FEW {
-        return assemble_few(
+    let n = beats.len();
+    if n <= limits::FEW {
+        let mut work_beats = [0.0; limits::FEW];
+        let mut tidy_beats = [0.0; limits::FEW];
+        let mut tidy_ratios = [0.0; limits::FEW];
+        let mut tidy_delays = [0.0; limits::FEW];
+        let mut tidy_units = [0u8; limits::FEW];
+        return assemble_in(
             beats,
             ratios,
             delays,
             units,
+            &mut work_beats[..n],
+            &mut tidy_beats[..n],
+            &mut tidy_ratios[..n],
+            &mut tidy_delays[..n],
+            &mut tidy_units[..n],
             out_beats,
             out_ratios,
             out_delays,
             out_units,
         );
     }
-    assemble_many(
+    let mut work_beats = [0.0; limits::MOST_ENTRIES];
+    let mut tidy_beats = [0.0; limits::MOST_ENTRIES];
+    let mut tidy_ratios = [0.0; limits::MOST_ENTRIES];
+    let mut tidy_delays = [0.0; limits::MOST_ENTRIES];
+    let mut tidy_units = [0u8; limits::MOST_ENTRIES];
+    assemble_in(
         beats,
         ratios,
         delays,
         units,
+        &mut work_beats[..n],
+        &mut tidy_beats[..n],
+        &mut tidy_ratios[..n],
+        &mut tidy_delays[..n],
+        &mut tidy_units[..n],
         out_beats,
         out_ratios,
         out_delays,
@@ -349,72 +291,6 @@ fn assemble_by(
     columns_each::with_moved(outcome, off)
 }
 
-fn assemble_by_few(
-    beats: &[f64],
-    ratios: &[f64],
-    delays: &[f64],
-    units: &[u8],
-    out_beats: &mut [f32],
-    out_ratios: &mut [f32],
-    out_delays: &mut [f32],
-    out_units: &mut [u8],
-) -> ListOutcome
-    requires { ⌜ EvenSpeeds (speedColumns beats.now ratios.now delays.now units.now) ⌝ }
-    requires { ⌜ length beats.now ≤ 64 ⌝ }
-    ensures { λ r.
-        let raw = speedColumns beats.entry.now ratios.entry.now delays.entry.now units.entry.now in
-        let rooms = lentSpeeds «out_beats» «out_ratios» «out_delays» «out_units» in
-        ⌜ SpeedsUntested raw (r .outcome) (speedsBefore rooms) (speedsAfter rooms) ⌝ }
-    ensures { λ r. ⌜ r .moved ≡ movedUnder (r .outcome .number) (movedIn beats.entry.now) ⌝ }
-{
-    let n = beats.len();
-    let mut quantised = [0.0f32; limits::FEW];
-    assemble_by(
-        beats,
-        ratios,
-        delays,
-        units,
-        &mut quantised[..n],
-        out_beats,
-        out_ratios,
-        out_delays,
-        out_units,
-    )
-}
-
-fn assemble_by_many(
-    beats: &[f64],
-    ratios: &[f64],
-    delays: &[f64],
-    units: &[u8],
-    out_beats: &mut [f32],
-    out_ratios: &mut [f32],
-    out_delays: &mut [f32],
-    out_units: &mut [u8],
-) -> ListOutcome
-    requires { ⌜ EvenSpeeds (speedColumns beats.now ratios.now delays.now units.now) ⌝ }
-    requires { ⌜ length beats.now ≤ 1024 ⌝ }
-    ensures { λ r.
-        let raw = speedColumns beats.entry.now ratios.entry.now delays.entry.now units.entry.now in
-        let rooms = lentSpeeds «out_beats» «out_ratios» «out_delays» «out_units» in
-        ⌜ SpeedsUntested raw (r .outcome) (speedsBefore rooms) (speedsAfter rooms) ⌝ }
-    ensures { λ r. ⌜ r .moved ≡ movedUnder (r .outcome .number) (movedIn beats.entry.now) ⌝ }
-{
-    let n = beats.len();
-    let mut quantised = [0.0f32; limits::MOST_ENTRIES];
-    assemble_by(
-        beats,
-        ratios,
-        delays,
-        units,
-        &mut quantised[..n],
-        out_beats,
-        out_ratios,
-        out_delays,
-        out_units,
-    )
-}
-
 // ---- the calls
 
 // The assembled speeds over the fronts of the four rooms, and how many.
@@ -480,24 +356,29 @@ pub fn assemble_untested(
         );
         return columns_each::with_moved(refused, 0);
     }
-    if beats.len() <= limits::FEW {
-        return assemble_by_few(
+    let n = beats.len();
+    if n <= limits::FEW {
+        let mut quantised = [0.0f32; limits::FEW];
+        return assemble_by(
             beats,
             ratios,
             delays,
             units,
+            &mut quantised[..n],
             out_beats,
             out_ratios,
             out_delays,
             out_units,
         );
     }
-    if beats.len() <= limits::MOST_ENTRIES {
-        return assemble_by_many(
+    if n <= limits::MOST_ENTRIES {
+        let mut quantised = [0.0f32; limits::MOST_ENTRIES];
+        return assemble_by(
             beats,
             ratios,
             delays,
             units,
+            &mut quantised[..n],
             out_beats,
             out_ratios,
             out_delays,

@@ -1,84 +1,39 @@
--- `assembly_speeds::assemble_by` lays each by itself where the quantised beats rise and the ratios are apart. Assumes nothing.
-use mathlib.Core.Path.{sym, _∙_}
+-- `assembly_speeds::assemble_quantised` lays each by itself where the quantised beats rise and the ratios are apart. Assumes nothing.
+use mathlib.Core.Path.{sym, ap, _∙_}
+use lib.ListN.{length, length-map}
 use Rattle.rows.specs.Rows.{quantized}
-use Rattle.columns.proofs.LaidEach.{laid-all}
 use Rattle.assembly_speeds.proofs.Untested.{apart, not-apart}
 use Rattle.chart.specs.ChartColumns.{speedColumns}
 use borrow.Author.Needs.{needs}
-use Rattle.assembly_speeds.proofs.assemble_by.Statement.{statement}
-use Rattle.assembly_speeds.proofs.assemble_by.Tie as tie
-
-quantize-column-f32-requires : tie.Need-quantize-column-f32-requires
-quantize-column-f32-requires c κs = search needs
-
-rise-apart-requires : tie.Need-rise-apart-requires
-rise-apart-requires c κs = search needs
+use Rattle.assembly_speeds.proofs.assemble_quantised.Statement.{statement}
+use Rattle.assembly_speeds.proofs.assemble_quantised.Tie as tie
 
 lay-each-requires : tie.Need-lay-each-requires
-lay-each-requires c κs = search needs
-
-same-length : tie.Need-same-length
-same-length c = search needs
-
-same-length-2 : tie.Need-same-length-2
-same-length-2 c = search needs
-
-same-length-3 : tie.Need-same-length-3
-same-length-3 c = search needs
-
-same-length-4 : tie.Need-same-length-4
-same-length-4 c = search needs
-
-same-length-5 : tie.Need-same-length-5
-same-length-5 c = search needs
+lay-each-requires c κs =
+    let s = c .before .before .before .before .before .before .before .before .before .before .before .before .before .before .before in
+    let many = ap length (s .pre .1 .1) ∙ length-map (s .args .beats .now) quantized in
+    record { ratiosEven = many ∙ s .pre .0 .ratiosEven; delaysEven = many ∙ s .pre .0 .delaysEven; unitsEven = many ∙ s .pre .0 .unitsEven }
 
 returns : tie.Need-returns
 returns c =
-    let s = c .before .before .before .before .before .before .before .before .before .before .before .before .before .before .before .before .before .before .before .before .before .before .before .before .before .before .before .before .before .before .pre in
-    let given = c .before .before .before .before .before .before .before .before .before .before .before .before .before .before .before .before .before .before .before .before .before .before .before .before .before .before .before .before .before .before .args in
-    apart (speedColumns (given .beats .now) (given .ratios .now) (given .delays .now) (given .units .now)) (s .0) (s .1 .0) (c .before .before .before .before .before .before .before .before .before .before .before .before .before .before .before .before .before .before .before .quantize-column-f32 .ensures ∙ laid-all quantized (given .beats .now) (given .quantised .now) (sym (s .1 .1))) (sym (c .before .before .before .before .before .before .before .before .before .before .before .before .before .before .before .rise-apart .ensures) ∙ c .before .before .before .before .before .before .before .before .before .before .before .before .before .before .if1 .taken) (c .before .before .before .before .before .before .before .before .lay-each .ensures)
-
-assemble-any-requires : tie.Need-assemble-any-requires
-assemble-any-requires c κs = c .before .before .before .before .before .before .before .before .before .before .before .before .before .before .before .before .before .before .before .before .pre .1 .0
-
-same-length-6 : tie.Need-same-length-6
-same-length-6 c = search needs
-
-same-length-7 : tie.Need-same-length-7
-same-length-7 c = search needs
-
-same-length-8 : tie.Need-same-length-8
-same-length-8 c = search needs
-
-same-length-9 : tie.Need-same-length-9
-same-length-9 c = search needs
-
-same-length-10 : tie.Need-same-length-10
-same-length-10 c = search needs
+    let s = c .before .before .before .before .before .before .before .before .before .before .before .before .before .before .before .before .before .before .before .before .before .before .before .before in
+    apart (speedColumns (s .args .beats .now) (s .args .ratios .now) (s .args .delays .now) (s .args .units .now)) (s .pre .0) (s .pre .1 .0) (s .pre .1 .1)
+    (sym (c .before .before .before .before .before .before .before .before .before .before .before .before .before .before .rise-apart .ensures) ∙ c .before .before .before .before .before .before .before .before .before .before .before .before .before .if1 .taken) (c .before .before .before .before .before .before .before .before .lay-each .ensures)
 
 returns-2 : tie.Need-returns-2
 returns-2 c =
-    let s = c .before .before .before .before .before .before .before .before .before .before .before .before .before .before .before .before .before .before .before .before .before .before .before .before .before .before .before .before .before .pre in
-    let given = c .before .before .before .before .before .before .before .before .before .before .before .before .before .before .before .before .before .before .before .before .before .before .before .before .before .before .before .before .before .args in
-    not-apart (speedColumns (given .beats .now) (given .ratios .now) (given .delays .now) (given .units .now)) (s .0) (s .1 .0) (c .before .before .before .before .before .before .before .before .before .before .before .before .before .before .before .before .before .before .quantize-column-f32 .ensures ∙ laid-all quantized (given .beats .now) (given .quantised .now) (sym (s .1 .1))) (sym (c .before .before .before .before .before .before .before .before .before .before .before .before .before .before .rise-apart .ensures) ∙ c .before .before .before .before .before .before .before .before .before .before .before .before .before .if1 .left) (c .before .before .before .before .before .before .before .before .assemble-any .ensures)
+    let s = c .before .before .before .before .before .before .before .before .before .before .before .before .before .before .before .before .before .before .before .before .before .before .before .before in
+    not-apart (speedColumns (s .args .beats .now) (s .args .ratios .now) (s .args .delays .now) (s .args .units .now)) (s .pre .0) (s .pre .1 .0) (s .pre .1 .1)
+    (sym (c .before .before .before .before .before .before .before .before .before .before .before .before .before .before .rise-apart .ensures) ∙ c .before .before .before .before .before .before .before .before .before .before .before .before .before .if1 .left) (c .before .before .before .before .before .before .before .before .assemble-any .ensures)
 
-pub assemble-by-spec : {M : Type 1} → statement M
-assemble-by-spec =
+pub assemble-quantised-spec : {M : Type 1} → statement M
+assemble-quantised-spec =
     tie.close
     (tie.spec
-    quantize-column-f32-requires
-    rise-apart-requires
+    (λ c κs. search needs)
     lay-each-requires
-    same-length
-    same-length-2
-    same-length-3
-    same-length-4
-    same-length-5
+    (λ c. search needs) (λ c. search needs) (λ c. search needs) (λ c. search needs)
     returns
-    assemble-any-requires
-    same-length-6
-    same-length-7
-    same-length-8
-    same-length-9
-    same-length-10
+    (λ c κs. c .before .before .before .before .before .before .before .before .before .before .before .before .before .before .before .pre .1 .0)
+    (λ c. search needs) (λ c. search needs) (λ c. search needs) (λ c. search needs)
     returns-2)

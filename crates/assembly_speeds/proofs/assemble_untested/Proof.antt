@@ -1,121 +1,76 @@
--- `assembly_speeds::assemble_untested` lends columns by size. Assumes nothing.
+-- `assembly_speeds::assemble_untested` lends a part of an array that is no shorter than the list; lengths that are refused count none. Assumes nothing.
 use mathlib.Core.Path.{sym, _∙_}
+use native.Mathlib.Omega.{arith}
+use lib.Seq.{length-take-le}
 use borrow.Author.Tests.{not-true, not-false}
-use Rattle.assembly_speeds.proofs.Untested.{same-so, not-even, not-few}
 use Rattle.chart.specs.ChartColumns.{speedColumns}
+use Rattle.assembly_speeds.specs.inside.NarrowedSpeeds.{EvenSpeeds}
+use Rattle.columns_each.specs.OffGrid.{movedIn}
+use Rattle.columns_each.proofs.OffGridCounts.{none-handed-up}
+use Rattle.assembly_speeds.proofs.Untested.{same-so, not-even, not-few, uneven-refused, long-refused}
 use borrow.Author.Needs.{needs}
 use Rattle.assembly_speeds.proofs.assemble_untested.Statement.{statement}
 use Rattle.assembly_speeds.proofs.assemble_untested.Tie as tie
 
-same-lengths-requires : tie.Need-same-lengths-requires
-same-lengths-requires c κs = search needs
+-- ---- where the columns are of one length
+abbrev start : tie.Else1 → tie.Start
+start c = c .before .before .before .before .before .before .before .before .before .before
 
-assemble-speeds-requires : tie.Need-assemble-speeds-requires
-assemble-speeds-requires c κs = search needs
+even : (c : tie.Else1) → let given = start c .args in EvenSpeeds (speedColumns (given .beats .now) (given .ratios .now) (given .delays .now) (given .units .now))
+even c =
+    let given = start c .args in
+    let same = c .before .same-lengths in
+    same-so (speedColumns (given .beats .now) (given .ratios .now) (given .delays .now) (given .units .now)) (sym (same .ensures) ∙ not-false (same .result) (c .if1 .left))
 
-same-length : tie.Need-same-length
-same-length c = search needs
+few-requires : tie.Need-assemble-by-requires
+few-requires c κs = let few = c .before .before .before .before .before in (even (few .before), (omega (arith, few .if2 .taken), length-take-le _ _ (few .if2 .taken)))
 
-same-length-2 : tie.Need-same-length-2
-same-length-2 c = search needs
+many-requires : tie.Need-assemble-by-requires-2
+many-requires c κs = let many = c .before .before .before .before .before in (even (many .before .before), (many .if3 .taken, length-take-le _ _ (many .if3 .taken)))
 
-same-length-3 : tie.Need-same-length-3
-same-length-3 c = search needs
+-- ---- where they are not, or are too long
+uneven-returns : tie.Need-returns
+uneven-returns c =
+    let given = c .before .before .before .before .before .before .before .before .before .before .before .before .before .before .before .before .before .before .before .before .before .before .before .before .args in
+    let raw = speedColumns (given .beats .now) (given .ratios .now) (given .delays .now) (given .units .now) in
+    let same = c .before .before .before .before .before .before .before .before .before .before .before .before .before .before .before .same-lengths in
+    let differ = sym (same .ensures) ∙ not-true (same .result) (c .before .before .before .before .before .before .before .before .before .before .before .before .before .before .if1 .taken) in
+    let refused = c .before .before .before .before .before .before .before .before .before .assemble-speeds .ensures in
+    let up = c .with-moved in
+    (rw (up .ensures .0) (not-even raw differ refused),
+    none-handed-up 0 (movedIn (given .beats .now)) (up .ensures .0) (up .ensures .1) (uneven-refused raw differ refused))
 
-same-length-4 : tie.Need-same-length-4
-same-length-4 c = search needs
-
-returns : tie.Need-returns
-returns c =
-    let given = c .before .before .before .before .before .before .before .before .before .before .before .before .before .before .before .before .before .before .before .before .before .before .before .args in
-    not-even (speedColumns (given .beats .now) (given .ratios .now) (given .delays .now) (given .units .now)) (sym (c .before .before .before .before .before .before .before .before .before .before .before .before .before .before .same-lengths .ensures) ∙ not-true (c .before .before .before .before .before .before .before .before .before .before .before .before .before .before .same-lengths .result) (c .before .before .before .before .before .before .before .before .before .before .before .before .before .if1 .taken)) (c .before .before .before .before .before .before .before .before .assemble-speeds .ensures)
-
-assemble-by-few-requires : tie.Need-assemble-by-few-requires
-assemble-by-few-requires c κs =
-    let given = c .before .before .before .before .before .before .before .before .before .before .before .before .before .before .before .args in
-    (same-so (speedColumns (given .beats .now) (given .ratios .now) (given .delays .now) (given .units .now)) (sym (c .before .before .before .before .before .before .same-lengths .ensures) ∙ not-false (c .before .before .before .before .before .before .same-lengths .result) (c .before .before .before .before .before .if1 .left)), c .before .before .before .before .if2 .taken)
-
-same-length-5 : tie.Need-same-length-5
-same-length-5 c = search needs
-
-same-length-6 : tie.Need-same-length-6
-same-length-6 c = search needs
-
-same-length-7 : tie.Need-same-length-7
-same-length-7 c = search needs
-
-same-length-8 : tie.Need-same-length-8
-same-length-8 c = search needs
-
-returns-2 : tie.Need-returns-2
-returns-2 c = c .before .before .before .before .before .before .before .before .assemble-by-few .ensures
-
-assemble-by-many-requires : tie.Need-assemble-by-many-requires
-assemble-by-many-requires c κs =
-    let given = c .before .before .before .before .before .before .before .before .before .before .before .before .before .before .before .before .args in
-    (same-so (speedColumns (given .beats .now) (given .ratios .now) (given .delays .now) (given .units .now)) (sym (c .before .before .before .before .before .before .before .same-lengths .ensures) ∙ not-false (c .before .before .before .before .before .before .before .same-lengths .result) (c .before .before .before .before .before .before .if1 .left)), c .before .before .before .before .if3 .taken)
-
-same-length-9 : tie.Need-same-length-9
-same-length-9 c = search needs
-
-same-length-10 : tie.Need-same-length-10
-same-length-10 c = search needs
-
-same-length-11 : tie.Need-same-length-11
-same-length-11 c = search needs
-
-same-length-12 : tie.Need-same-length-12
-same-length-12 c = search needs
-
-returns-3 : tie.Need-returns-3
-returns-3 c = c .before .before .before .before .before .before .before .before .assemble-by-many .ensures
-
-assemble-speeds-requires-2 : tie.Need-assemble-speeds-requires-2
-assemble-speeds-requires-2 c κs = search needs
-
-same-length-13 : tie.Need-same-length-13
-same-length-13 c = search needs
-
-same-length-14 : tie.Need-same-length-14
-same-length-14 c = search needs
-
-same-length-15 : tie.Need-same-length-15
-same-length-15 c = search needs
-
-same-length-16 : tie.Need-same-length-16
-same-length-16 c = search needs
-
-returns-4 : tie.Need-returns-4
-returns-4 c =
-    let given = c .before .before .before .before .before .before .before .before .before .before .before .before .before .before .before .before .before .before .before .before .before .before .before .before .before .args in
-    not-few (speedColumns (given .beats .now) (given .ratios .now) (given .delays .now) (given .units .now)) (sym (c .before .before .before .before .before .before .before .before .before .before .before .before .before .before .before .before .same-lengths .ensures) ∙ not-false (c .before .before .before .before .before .before .before .before .before .before .before .before .before .before .before .before .same-lengths .result) (c .before .before .before .before .before .before .before .before .before .before .before .before .before .before .before .if1 .left)) (c .before .before .before .before .before .before .before .before .before .before .before .before .before .if3 .left) (c .before .before .before .before .before .before .before .before .assemble-speeds2 .ensures)
+long-returns : tie.Need-returns-4
+long-returns c =
+    let given = c .before .before .before .before .before .before .before .before .before .before .before .before .before .before .before .before .before .before .before .before .before .before .before .before .before .before .args in
+    let raw = speedColumns (given .beats .now) (given .ratios .now) (given .delays .now) (given .units .now) in
+    let same = c .before .before .before .before .before .before .before .before .before .before .before .before .before .before .before .before .before .same-lengths in
+    let long = c .before .before .before .before .before .before .before .before .before .before .before .before .before .before .if3 .left in
+    let refused = c .before .before .before .before .before .before .before .before .before .assemble-speeds2 .ensures in
+    let up = c .with-moved2 in
+    (rw (up .ensures .0) (not-few raw (sym (same .ensures) ∙ not-false (same .result) (c .before .before .before .before .before .before .before .before .before .before .before .before .before .before .before .before .if1 .left)) long refused),
+    none-handed-up 0 (movedIn (given .beats .now)) (up .ensures .0) (up .ensures .1) (long-refused raw long refused))
 
 pub assemble-untested-spec : {M : Type 1} → statement M
 assemble-untested-spec =
     tie.close
     (tie.spec
-    same-lengths-requires
-    assemble-speeds-requires
-    same-length
-    same-length-2
-    same-length-3
-    same-length-4
-    returns
-    assemble-by-few-requires
-    same-length-5
-    same-length-6
-    same-length-7
-    same-length-8
-    returns-2
-    assemble-by-many-requires
-    same-length-9
-    same-length-10
-    same-length-11
-    same-length-12
-    returns-3
-    assemble-speeds-requires-2
-    same-length-13
-    same-length-14
-    same-length-15
-    same-length-16
-    returns-4)
+    (λ c κs. search needs)
+    (λ c κs. search needs)
+    (λ c κs. search needs)
+    (λ c. search needs) (λ c. search needs) (λ c. search needs) (λ c. search needs)
+    uneven-returns
+    (λ c. search needs)
+    (λ c. sym (length-take-le _ _ (c .before .if2 .taken)))
+    few-requires
+    (λ c. search needs) (λ c. search needs) (λ c. search needs) (λ c. search needs)
+    (λ c. c .before .before .before .before .before .before .before .before .before .assemble-by .ensures)
+    (λ c. search needs)
+    (λ c. sym (length-take-le _ _ (c .before .if3 .taken)))
+    many-requires
+    (λ c. search needs) (λ c. search needs) (λ c. search needs) (λ c. search needs)
+    (λ c. c .before .before .before .before .before .before .before .before .before .assemble-by2 .ensures)
+    (λ c κs. search needs)
+    (λ c κs. search needs)
+    (λ c. search needs) (λ c. search needs) (λ c. search needs) (λ c. search needs)
+    long-returns)
