@@ -309,125 +309,6 @@ const FEW_WARPS: usize = 3 * limits::FEW;
 
 const MOST_WARPS: usize = 3 * limits::MOST_ENTRIES;
 
-// Columns for as many entries as a chart has.
-fn assemble_few(
-    format: TimingFormat,
-    most_warps: usize,
-    other: u32,
-    later: u32,
-    tempo_beats: &[f64],
-    tempo_values: &[f64],
-    stop_beats: &[f64],
-    stop_values: &[f64],
-    warp_beats: &[f64],
-    warp_lengths: &[f64],
-    out_tempo_beats: &mut [f32],
-    out_tempo_values: &mut [f32],
-    out_stop_beats: &mut [f32],
-    out_stop_values: &mut [f32],
-    out_warp_beats: &mut [f32],
-    out_warp_lengths: &mut [f32],
-) -> AssembledTempos
-    requires { ⌜ (length «tempo_beats».now ≤ 64) × (length «stop_beats».now ≤ 64) × (length «warp_beats».now ≤ 64) ⌝ }
-    ensures { λ r.
-        let raw = threeColumns
-        «tempo_beats».entry.now «tempo_values».entry.now
-        «stop_beats».entry.now «stop_values».entry.now
-        «warp_beats».entry.now «warp_lengths».entry.now in
-        let rooms = lentThree «out_tempo_beats» «out_tempo_values» «out_stop_beats» «out_stop_values» «out_warp_beats» «out_warp_lengths» in
-        ⌜ ThreeLaid (lower (threeNumber raw) other) later «most_warps» (mergedLists format raw) r (threeBefore rooms) (threeAfter rooms) ⌝ }
-{
-    let mut work_tempo_beats = [0.0; limits::FEW];
-    let mut work_tempo_values = [0.0; limits::FEW];
-    let mut work_stop_beats = [0.0; limits::FEW];
-    let mut work_stop_values = [0.0; limits::FEW];
-    let mut work_warp_beats = [0.0; FEW_WARPS];
-    let mut work_warp_lengths = [0.0; FEW_WARPS];
-    assemble_in(
-        format,
-        most_warps,
-        other,
-        later,
-        tempo_beats,
-        tempo_values,
-        stop_beats,
-        stop_values,
-        warp_beats,
-        warp_lengths,
-        &mut work_tempo_beats,
-        &mut work_tempo_values,
-        &mut work_stop_beats,
-        &mut work_stop_values,
-        &mut work_warp_beats,
-        &mut work_warp_lengths,
-        out_tempo_beats,
-        out_tempo_values,
-        out_stop_beats,
-        out_stop_values,
-        out_warp_beats,
-        out_warp_lengths,
-    )
-}
-
-// Columns for as many as are taken, and for every warp that they can make.
-fn assemble_many(
-    format: TimingFormat,
-    most_warps: usize,
-    other: u32,
-    later: u32,
-    tempo_beats: &[f64],
-    tempo_values: &[f64],
-    stop_beats: &[f64],
-    stop_values: &[f64],
-    warp_beats: &[f64],
-    warp_lengths: &[f64],
-    out_tempo_beats: &mut [f32],
-    out_tempo_values: &mut [f32],
-    out_stop_beats: &mut [f32],
-    out_stop_values: &mut [f32],
-    out_warp_beats: &mut [f32],
-    out_warp_lengths: &mut [f32],
-) -> AssembledTempos
-    ensures { λ r.
-        let raw = threeColumns
-        «tempo_beats».entry.now «tempo_values».entry.now
-        «stop_beats».entry.now «stop_values».entry.now
-        «warp_beats».entry.now «warp_lengths».entry.now in
-        let rooms = lentThree «out_tempo_beats» «out_tempo_values» «out_stop_beats» «out_stop_values» «out_warp_beats» «out_warp_lengths» in
-        ⌜ ThreeLaid (lower (threeNumber raw) other) later «most_warps» (mergedLists format raw) r (threeBefore rooms) (threeAfter rooms) ⌝ }
-{
-    let mut work_tempo_beats = [0.0; limits::MOST_ENTRIES];
-    let mut work_tempo_values = [0.0; limits::MOST_ENTRIES];
-    let mut work_stop_beats = [0.0; limits::MOST_ENTRIES];
-    let mut work_stop_values = [0.0; limits::MOST_ENTRIES];
-    let mut work_warp_beats = [0.0; MOST_WARPS];
-    let mut work_warp_lengths = [0.0; MOST_WARPS];
-    assemble_in(
-        format,
-        most_warps,
-        other,
-        later,
-        tempo_beats,
-        tempo_values,
-        stop_beats,
-        stop_values,
-        warp_beats,
-        warp_lengths,
-        &mut work_tempo_beats,
-        &mut work_tempo_values,
-        &mut work_stop_beats,
-        &mut work_stop_values,
-        &mut work_warp_beats,
-        &mut work_warp_lengths,
-        out_tempo_beats,
-        out_tempo_values,
-        out_stop_beats,
-        out_stop_values,
-        out_warp_beats,
-        out_warp_lengths,
-    )
-}
-
 // ---- the call
 
 // Tempos, stops and warps, given and made, over the fronts of their rooms. `other` is the lowest raw number of the other lists, and `later` the lowest
@@ -461,7 +342,14 @@ pub fn assemble_tempos(
     if tempo_beats.len() <= limits::FEW {
         if stop_beats.len() <= limits::FEW {
             if warp_beats.len() <= limits::FEW {
-                return assemble_few(
+                // as many as most charts have: clearing the columns costs little
+                let mut work_tempo_beats = [0.0; limits::FEW];
+                let mut work_tempo_values = [0.0; limits::FEW];
+                let mut work_stop_beats = [0.0; limits::FEW];
+                let mut work_stop_values = [0.0; limits::FEW];
+                let mut work_warp_beats = [0.0; FEW_WARPS];
+                let mut work_warp_lengths = [0.0; FEW_WARPS];
+                return assemble_in(
                     format,
                     most_warps,
                     other,
@@ -472,6 +360,12 @@ pub fn assemble_tempos(
                     stop_values,
                     warp_beats,
                     warp_lengths,
+                    &mut work_tempo_beats,
+                    &mut work_tempo_values,
+                    &mut work_stop_beats,
+                    &mut work_stop_values,
+                    &mut work_warp_beats,
+                    &mut work_warp_lengths,
                     out_tempo_beats,
                     out_tempo_values,
                     out_stop_beats,
@@ -482,7 +376,13 @@ pub fn assemble_tempos(
             }
         }
     }
-    assemble_many(
+    let mut work_tempo_beats = [0.0; limits::MOST_ENTRIES];
+    let mut work_tempo_values = [0.0; limits::MOST_ENTRIES];
+    let mut work_stop_beats = [0.0; limits::MOST_ENTRIES];
+    let mut work_stop_values = [0.0; limits::MOST_ENTRIES];
+    let mut work_warp_beats = [0.0; MOST_WARPS];
+    let mut work_warp_lengths = [0.0; MOST_WARPS];
+    assemble_in(
         format,
         most_warps,
         other,
@@ -493,6 +393,12 @@ pub fn assemble_tempos(
         stop_values,
         warp_beats,
         warp_lengths,
+        &mut work_tempo_beats,
+        &mut work_tempo_values,
+        &mut work_stop_beats,
+        &mut work_stop_values,
+        &mut work_warp_beats,
+        &mut work_warp_lengths,
         out_tempo_beats,
         out_tempo_values,
         out_stop_beats,

@@ -1,73 +1,38 @@
--- `assembly_tempos::assemble_tempos` goes by the lengths of the lists. Assumes nothing.
+-- `assembly_tempos::assemble_tempos` lends arrays that are long enough: for 64 entries a list where none has more, and else for 1,024. Assumes nothing.
+use native.Mathlib.Omega.{arith}
+use lib.ListN.{length-replicate}
+use lib.Ieee.{Float, binary64, ofBits}
+use Rattle.process_raw.specs.LentLists.{ThreeColumns, threeColumns}
+use Rattle.assembly_tempos.proofs.WorkColumns.{lengths-few, work-rooms}
 use borrow.Author.Needs.{needs}
 use Rattle.assembly_tempos.proofs.assemble_tempos.Statement.{statement}
 use Rattle.assembly_tempos.proofs.assemble_tempos.Tie as tie
 
-assemble-few-requires : tie.Need-assemble-few-requires
-assemble-few-requires c κs = (c .before .before .before .before .before .before .before .before .if1 .taken, c .before .before .before .before .before .before .before .if2 .taken, c .before .before .before .before .before .before .if3 .taken)
+abbrev given : tie.Start → ThreeColumns
+given s = threeColumns (s .args .tempo-beats .now) (s .args .tempo-values .now) (s .args .stop-beats .now) (s .args .stop-values .now) (s .args .warp-beats .now) (s .args .warp-lengths .now)
 
-same-length : tie.Need-same-length
-same-length c = search needs
+few-rooms : tie.Need-assemble-in-requires
+few-rooms c κs =
+    let few = c .before .before .before .before .before .before .before .before .before .before .before .before in
+    let start = few .before .before .before .before .before .before .before .before .before .before .before .before .before .before .before in
+    work-rooms 64 (start .args .format) (given start) (omega arith) (length-replicate {A = Float} 64 (ofBits binary64 0)) (length-replicate {A = Float} 192 (ofBits binary64 0))
+    (λ h. record { tempos = few .before .before .if1 .taken; stops = few .before .if2 .taken; warps = few .if3 .taken })
 
-same-length-2 : tie.Need-same-length-2
-same-length-2 c = search needs
-
-same-length-3 : tie.Need-same-length-3
-same-length-3 c = search needs
-
-same-length-4 : tie.Need-same-length-4
-same-length-4 c = search needs
-
-same-length-5 : tie.Need-same-length-5
-same-length-5 c = search needs
-
-same-length-6 : tie.Need-same-length-6
-same-length-6 c = search needs
-
-returns : tie.Need-returns
-returns c = c .before .before .before .before .before .before .before .before .before .before .before .before .assemble-few .ensures
-
-assemble-many-requires : tie.Need-assemble-many-requires
-assemble-many-requires c κs = search needs
-
-same-length-7 : tie.Need-same-length-7
-same-length-7 c = search needs
-
-same-length-8 : tie.Need-same-length-8
-same-length-8 c = search needs
-
-same-length-9 : tie.Need-same-length-9
-same-length-9 c = search needs
-
-same-length-10 : tie.Need-same-length-10
-same-length-10 c = search needs
-
-same-length-11 : tie.Need-same-length-11
-same-length-11 c = search needs
-
-same-length-12 : tie.Need-same-length-12
-same-length-12 c = search needs
-
-returns-2 : tie.Need-returns-2
-returns-2 c = c .before .before .before .before .before .before .before .before .before .before .before .before .assemble-many .ensures
+many-rooms : tie.Need-assemble-in-requires-2
+many-rooms c κs =
+    let start = c .before .before .before .before .before .before .before .before .before .before .before .before .before .before .before .before .before .before .before .before .before .before .before .before .before in
+    work-rooms 1024 (start .args .format) (given start) (omega arith) (length-replicate {A = Float} 1024 (ofBits binary64 0)) (length-replicate {A = Float} 3072 (ofBits binary64 0))
+    (lengths-few (given start))
 
 pub assemble-tempos-spec : {M : Type 1} → statement M
 assemble-tempos-spec =
     tie.close
     (tie.spec
-    assemble-few-requires
-    same-length
-    same-length-2
-    same-length-3
-    same-length-4
-    same-length-5
-    same-length-6
-    returns
-    assemble-many-requires
-    same-length-7
-    same-length-8
-    same-length-9
-    same-length-10
-    same-length-11
-    same-length-12
-    returns-2)
+    (λ c. search needs) (λ c. search needs) (λ c. search needs) (λ c. search needs) (λ c. search needs) (λ c. search needs)
+    few-rooms
+    (λ c. search needs) (λ c. search needs) (λ c. search needs) (λ c. search needs) (λ c. search needs) (λ c. search needs)
+    (λ c. c .before .before .before .before .before .before .before .before .before .before .before .before .before .before .before .before .before .before .assemble-in .ensures)
+    (λ c. search needs) (λ c. search needs) (λ c. search needs) (λ c. search needs) (λ c. search needs) (λ c. search needs)
+    many-rooms
+    (λ c. search needs) (λ c. search needs) (λ c. search needs) (λ c. search needs) (λ c. search needs) (λ c. search needs)
+    (λ c. c .before .before .before .before .before .before .before .before .before .before .before .before .before .before .before .before .before .before .assemble-in2 .ensures))
