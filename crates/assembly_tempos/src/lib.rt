@@ -132,8 +132,7 @@ fn assemble_stops(
             Meaning::Values,
             out_beats,
             out_values,
-        )
-        .outcome;
+        ).outcome;
     }
     if columns_order::rise(beats) {
         cast_column(beats, out_beats);
