@@ -6,7 +6,7 @@ ghost use lib.Ieee.{toBits, binary32};
 ghost use Rattle.text_page.specs.Page.{Wrote};
 ghost use Rattle.text_page.specs.Digits.{decimalText};
 ghost use Rattle.chart.specs.ChartColumns.{lentColumns, lentSpeeds, LentChart, ChartRoom, before};
-ghost use Rattle.report_text.specs.Output.{number, answerLine, offsetLine, pairLine, pairLines, speedLine, speedLines, warpedLine, listsText, frontLists};
+ghost use Rattle.report_text.specs.Output.{number, answerLine, offsetLine, pairLine, pairLines, speedLine, speedLines, warpedLine, movedLine, listsText, frontLists};
 
 // A number by its pattern, and the byte that ends it.
 fn put_number(page: &mut [u8], at: usize, x: f32, end: u8) -> usize
@@ -127,12 +127,21 @@ fn put_warped(page: &mut [u8], at: usize, rows: u64) -> usize
     put_decimal(page, at, rows)
 }
 
-// What stands behind the answer line of a taken input: offset, the first entries of the seven lists in their order, and the rows that are warped.
+fn put_moved(page: &mut [u8], at: usize, moved: u64) -> usize
+    ensures { λ r. ⌜ Wrote (movedLine moved) at r page.entry.now page.exit.now ⌝ }
+{
+    let at = text_page::put_bytes(page, at, b"moved=");
+    put_decimal(page, at, moved)
+}
+
+// What stands behind the answer line of a taken input: offset, the first entries of the seven lists in their order, the rows that are warped, and how many
+// entries were off the grid.
 pub fn put_lists(
     page: &mut [u8],
     at: usize,
     offset: f32,
     warped: u64,
+    moved: u64,
     tempos: usize,
     stops: usize,
     delays: usize,
@@ -176,7 +185,7 @@ pub fn put_lists(
           scrolls = scrolls;
           fakes = fakes;
         } in
-        ⌜ Wrote (listsText offset warped (frontLists counts (before lists))) at r page.entry.now page.exit.now ⌝ }
+        ⌜ Wrote (listsText offset warped moved (frontLists counts (before lists))) at r page.entry.now page.exit.now ⌝ }
 {
     let at = put_offset(page, at, offset);
     let at = put_pairs(page, at, b"bpm=", tempos, tempo_beats, tempo_values);
@@ -194,5 +203,6 @@ pub fn put_lists(
     );
     let at = put_pairs(page, at, b"scroll=", scrolls, scroll_beats, scroll_values);
     let at = put_pairs(page, at, b"fake=", fakes, fake_beats, fake_lengths);
-    put_warped(page, at, warped)
+    let at = put_warped(page, at, warped);
+    put_moved(page, at, moved)
 }

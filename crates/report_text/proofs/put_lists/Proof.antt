@@ -50,18 +50,22 @@ put-pairs-requires-6 c κs = search needs
 put-warped-requires : tie.Need-put-warped-requires
 put-warped-requires c κs = search needs
 
+put-moved-requires : tie.Need-put-moved-requires
+put-moved-requires c κs = search needs
+
 returns : tie.Need-returns
 unfolding listsText
 returns c =
-    wrote-join (c .before .before .before .before .before .before .before .before .before .before .before .before .before .before .before .before .before .before .before .before .before .before .before .before .before .before .before .before .before .before .before .before .before .before .before .before .before .before .before .before .put-offset .ensures)
-    (wrote-join (c .before .before .before .before .before .before .before .before .before .before .before .before .before .before .before .before .before .before .before .before .before .before .before .before .before .before .before .before .before .before .before .before .before .before .before .put-pairs .ensures)
-    (wrote-join (c .before .before .before .before .before .before .before .before .before .before .before .before .before .before .before .before .before .before .before .before .before .before .before .before .before .before .before .before .before .before .put-pairs2 .ensures)
-    (wrote-join (c .before .before .before .before .before .before .before .before .before .before .before .before .before .before .before .before .before .before .before .before .before .before .before .before .before .put-pairs3 .ensures)
-    (wrote-join (c .before .before .before .before .before .before .before .before .before .before .before .before .before .before .before .before .before .before .before .before .put-pairs4 .ensures)
-    (wrote-join (c .before .before .before .before .before .before .before .before .before .before .before .before .before .before .before .before .put-speeds .ensures)
-    (wrote-join (c .before .before .before .before .before .before .before .before .before .before .before .put-pairs5 .ensures)
-    (wrote-join (c .before .before .before .before .before .before .put-pairs6 .ensures)
-    (c .before .before .put-warped .ensures))))))))
+    wrote-join (c .before .before .before .before .before .before .before .before .before .before .before .before .before .before .before .before .before .before .before .before .before .before .before .before .before .before .before .before .before .before .before .before .before .before .before .before .before .before .before .before .before .before .before .before .put-offset .ensures)
+    (wrote-join (c .before .before .before .before .before .before .before .before .before .before .before .before .before .before .before .before .before .before .before .before .before .before .before .before .before .before .before .before .before .before .before .before .before .before .before .before .before .before .before .put-pairs .ensures)
+    (wrote-join (c .before .before .before .before .before .before .before .before .before .before .before .before .before .before .before .before .before .before .before .before .before .before .before .before .before .before .before .before .before .before .before .before .before .before .put-pairs2 .ensures)
+    (wrote-join (c .before .before .before .before .before .before .before .before .before .before .before .before .before .before .before .before .before .before .before .before .before .before .before .before .before .before .before .before .before .put-pairs3 .ensures)
+    (wrote-join (c .before .before .before .before .before .before .before .before .before .before .before .before .before .before .before .before .before .before .before .before .before .before .before .before .put-pairs4 .ensures)
+    (wrote-join (c .before .before .before .before .before .before .before .before .before .before .before .before .before .before .before .before .before .before .before .before .put-speeds .ensures)
+    (wrote-join (c .before .before .before .before .before .before .before .before .before .before .before .before .before .before .before .put-pairs5 .ensures)
+    (wrote-join (c .before .before .before .before .before .before .before .before .before .before .put-pairs6 .ensures)
+    (wrote-join (c .before .before .before .before .before .before .put-warped .ensures)
+    (c .before .before .put-moved .ensures)))))))))
 
 same-length : tie.Need-same-length
 same-length c = wrote-length (returns c)
@@ -85,5 +89,6 @@ put-lists-spec =
     slice-aggregate-put-pairs-6
     put-pairs-requires-6
     put-warped-requires
+    put-moved-requires
     same-length
     returns)
