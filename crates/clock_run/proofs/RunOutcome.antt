@@ -21,6 +21,7 @@ use Rattle.clock_walk.proofs.NumbersFit.{NumbersFit}
 use Rattle.clock.specs.Marked.{markOf, noMark, markedTimingNumber}
 use Rattle.clock.specs.declared.Cursor.{Cursor}
 use Rattle.clock.proofs.OwnMark.{taken-mark}
+use Rattle.clock_run.specs.declared.Ran.{Ran}
 use Rattle.clock_run.specs.Run.{runOf, runRoomNumber, runNumber, RunColumns, runColumns, HistoryLaid, checkedRunNumber, RunLaid, CheckedRunLaid}
 use Rattle.clock_run.specs.MarkedRun.{markedRunOf, markedRunNumber, MarkedRunLaid}
 use Rattle.clock_run.specs.inside.Asked.{eachAsked, lastAsked, AllAsked}
@@ -65,28 +66,9 @@ module _ (t : Timing) (offset global : Float) (c : Cursor) (beats : List Float) 
       let later = lower-none first _ h .1 in
       leb-true _ _ (has-room _ (lower-none _ (cursorRefusal t c) later .0))
 
-  pub room-for-all : runNumber t offset global c (length beats) (length numbers) (length times) (length counts) ≡ 0
-      → (length beats ≤ length numbers) × (length beats ≤ length times) × (length beats ≤ length counts)
-  unfolding runNumber
-  room-for-all h = let s = shortest (timingNumber t offset global) h in (omega arith, omega arith, omega arith)
-
   pub refused-run : (n : ℕ) → n ≡ runNumber t offset global c (length beats) (length numbers) (length times) (length counts) → (n ≡ 0 → ⊥)
       → RunLaid t offset global c beats (record { number = n; cursor = c }) (runColumns numbers times counts) (runColumns numbers times counts)
   refused-run n e h = refused-history _ runOf t offset global c beats old refl n e h
-
-  unmarked-run : (tests : ℕ) → tests ≡ 0 → (m : Mark) → m ≡ noMark → (last : Cursor) (numbersNew : List ℕ) (timesNew : List Float) (countsNew : List ℕ)
-      → AllAsked m t offset global c beats last old (runColumns numbersNew timesNew countsNew)
-      → HistoryLaid tests runOf t offset global c beats (record { number = 0; cursor = last }) old (runColumns numbersNew timesNew countsNew)
-  unmarked-run tests e m none last numbersNew timesNew countsNew all =
-      let each : eachAsked m t offset global c beats ≡ answers t offset global c (runOf beats) = rw none (unmarked-answers t offset global c beats) in
-      let end : lastAsked m t offset global c beats ≡ lastCursor t offset global c (runOf beats) = rw none (unmarked-last t offset global c beats) in
-      taken-history tests runOf t offset global c beats old m each end last (runColumns numbersNew timesNew countsNew) e all
-
-  pub taken-run : (m : Mark) → m ≡ noMark → (last : Cursor) (numbersNew : List ℕ) (timesNew : List Float) (countsNew : List ℕ)
-      → runNumber t offset global c (length beats) (length numbers) (length times) (length counts) ≡ 0
-      → AllAsked m t offset global c beats last (runColumns numbers times counts) (runColumns numbersNew timesNew countsNew)
-      → RunLaid t offset global c beats (record { number = 0; cursor = last }) (runColumns numbers times counts) (runColumns numbersNew timesNew countsNew)
-  taken-run m none last numbersNew timesNew countsNew e all = unmarked-run _ e m none last numbersNew timesNew countsNew all
 
   -- ---- one over a timing that was tested
   pub checked-room : checkedRunNumber t c (length beats) (length numbers) (length times) (length counts) ≡ 0
@@ -100,6 +82,10 @@ module _ (t : Timing) (offset global : Float) (c : Cursor) (beats : List Float) 
   unfolding runNumber checkedRunNumber
   checked-is-run taken = rw taken (sym (none-lower _))
 
+  pub run-as-checked : timingNumber t offset global ≡ 0 → {ran : Ran} {new : RunColumns}
+      → CheckedRunLaid t offset global c beats ran (runColumns numbers times counts) new → RunLaid t offset global c beats ran (runColumns numbers times counts) new
+  run-as-checked taken laid = rw (checked-is-run taken) at laid
+
   pub refused-checked-run : (n : ℕ) → n ≡ checkedRunNumber t c (length beats) (length numbers) (length times) (length counts) → (n ≡ 0 → ⊥)
       → CheckedRunLaid t offset global c beats (record { number = n; cursor = c }) (runColumns numbers times counts) (runColumns numbers times counts)
   refused-checked-run n e h = refused-history _ runOf t offset global c beats old refl n e h
@@ -108,7 +94,10 @@ module _ (t : Timing) (offset global : Float) (c : Cursor) (beats : List Float) 
       → checkedRunNumber t c (length beats) (length numbers) (length times) (length counts) ≡ 0
       → AllAsked m t offset global c beats last (runColumns numbers times counts) (runColumns numbersNew timesNew countsNew)
       → CheckedRunLaid t offset global c beats (record { number = 0; cursor = last }) (runColumns numbers times counts) (runColumns numbersNew timesNew countsNew)
-  taken-checked-run m none last numbersNew timesNew countsNew e all = unmarked-run _ e m none last numbersNew timesNew countsNew all
+  taken-checked-run m none last numbersNew timesNew countsNew e all =
+      let each : eachAsked m t offset global c beats ≡ answers t offset global c (runOf beats) = rw none (unmarked-answers t offset global c beats) in
+      let end : lastAsked m t offset global c beats ≡ lastCursor t offset global c (runOf beats) = rw none (unmarked-last t offset global c beats) in
+      taken-history _ runOf t offset global c beats old m each end last (runColumns numbersNew timesNew countsNew) e all
 
   -- ---- and one with a mark, which is then the timing's own
   module _ (m : Mark) where

@@ -355,15 +355,9 @@ pub fn run(
         offset,
         global,
     );
-    let room = room_number(beats.len(), numbers.len(), times.len(), counts.len());
-    let lent = cursor.refusal(tempo_beats, stop_beats, delay_beats, warp_beats);
-    let later = limits::lower_of(room, lent);
-    let number = limits::lower_of(timing, later);
-    if number == limits::TAKEN {
-        let none = clock::no_mark();
-        let last = ask_each(
+    if timing == limits::TAKEN {
+        return run_checked(
             cursor,
-            none,
             tempo_beats,
             tempo_values,
             stop_beats,
@@ -379,13 +373,12 @@ pub fn run(
             times,
             counts,
         );
-        return Ran {
-            number: limits::TAKEN,
-            cursor: last,
-        };
     }
+    let room = room_number(beats.len(), numbers.len(), times.len(), counts.len());
+    let lent = cursor.refusal(tempo_beats, stop_beats, delay_beats, warp_beats);
+    let later = limits::lower_of(room, lent);
     Ran {
-        number: number,
+        number: limits::lower_of(timing, later),
         cursor: cursor,
     }
 }

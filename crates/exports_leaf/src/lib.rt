@@ -2,7 +2,6 @@
 use rows::Quantized;
 ghost use mathlib.Core.Path.{_≡_};
 ghost use mathlib.Core.Bool.{not};
-ghost use Prim.Native.Nat.{min};
 ghost use lib.Ieee.{Float, binary32, binary64};
 ghost use Rattle.ieee.specs.Rounding.{rint, hold};
 ghost use Rattle.ieee.specs.Narrowing.{narrow};
@@ -97,12 +96,6 @@ pub extern "C" fn marrighentu_quantize_beat_f32(beat: f32) -> f32
     rows::quantize_beat_f32(beat)
 }
 
-fn lesser(a: usize, b: usize) -> usize
-    ensures { λ r. ⌜ r ≡ min a b ⌝ }
-{
-    if a < b { a } else { b }
-}
-
 // Each loop below writes the call's answer for entry i of its first list into entry i of its second, for every i that both have, and nothing else.
 
 // The nearest whole number of each f64.
@@ -110,7 +103,7 @@ fn lesser(a: usize, b: usize) -> usize
 pub extern "C" fn marrighentu_each_lrint_f64(from: &[f64], to: &mut [i32])
     ensures { λ _. ⌜ to.exit.now ≡ laidEach (λ (x : Float). hold (rint x)) from.entry.now to.entry.now ⌝ }
 {
-    let n = lesser(from.len(), to.len());
+    let n = columns::room_of(from.len(), to.len());
     let mut i = 0;
     while i < n {
         to[i] = ieee::lrint_f64(from[i]);
@@ -123,7 +116,7 @@ pub extern "C" fn marrighentu_each_lrint_f64(from: &[f64], to: &mut [i32])
 pub extern "C" fn marrighentu_each_lrint_f32(from: &[f32], to: &mut [i32])
     ensures { λ _. ⌜ to.exit.now ≡ laidEach (λ (x : Float). hold (rint x)) from.entry.now to.entry.now ⌝ }
 {
-    let n = lesser(from.len(), to.len());
+    let n = columns::room_of(from.len(), to.len());
     let mut i = 0;
     while i < n {
         to[i] = ieee::lrint_f32(from[i]);
@@ -144,7 +137,7 @@ pub extern "C" fn marrighentu_each_narrow_f64(from: &[f64], to: &mut [f32])
 pub extern "C" fn marrighentu_each_note_row_to_beat(rows: &[i32], beats: &mut [f64])
     ensures { λ _. ⌜ beats.exit.now ≡ laidEach (beatOf binary64) rows.entry.now beats.entry.now ⌝ }
 {
-    let n = lesser(rows.len(), beats.len());
+    let n = columns::room_of(rows.len(), beats.len());
     let mut i = 0;
     while i < n {
         beats[i] = rows::note_row_to_beat(rows[i]);
@@ -157,7 +150,7 @@ pub extern "C" fn marrighentu_each_note_row_to_beat(rows: &[i32], beats: &mut [f
 pub extern "C" fn marrighentu_each_note_row_to_beat_f32(rows: &[i32], beats: &mut [f32])
     ensures { λ _. ⌜ beats.exit.now ≡ laidEach (beatOf binary32) rows.entry.now beats.entry.now ⌝ }
 {
-    let n = lesser(rows.len(), beats.len());
+    let n = columns::room_of(rows.len(), beats.len());
     let mut i = 0;
     while i < n {
         beats[i] = rows::note_row_to_beat_f32(rows[i]);
@@ -170,7 +163,7 @@ pub extern "C" fn marrighentu_each_note_row_to_beat_f32(rows: &[i32], beats: &mu
 pub extern "C" fn marrighentu_each_beat_to_note_row(beats: &[f64], rows: &mut [i32])
     ensures { λ _. ⌜ rows.exit.now ≡ laidEach (row binary64) beats.entry.now rows.entry.now ⌝ }
 {
-    let n = lesser(beats.len(), rows.len());
+    let n = columns::room_of(beats.len(), rows.len());
     let mut i = 0;
     while i < n {
         rows[i] = rows::beat_to_note_row(beats[i]);
@@ -183,7 +176,7 @@ pub extern "C" fn marrighentu_each_beat_to_note_row(beats: &[f64], rows: &mut [i
 pub extern "C" fn marrighentu_each_beat_to_note_row_f32(beats: &[f32], rows: &mut [i32])
     ensures { λ _. ⌜ rows.exit.now ≡ laidEach (row binary32) beats.entry.now rows.entry.now ⌝ }
 {
-    let n = lesser(beats.len(), rows.len());
+    let n = columns::room_of(beats.len(), rows.len());
     let mut i = 0;
     while i < n {
         rows[i] = rows::beat_to_note_row_f32(beats[i]);
@@ -196,7 +189,7 @@ pub extern "C" fn marrighentu_each_beat_to_note_row_f32(beats: &[f32], rows: &mu
 pub extern "C" fn marrighentu_each_quantize_beat(beats: &[f64], quantised: &mut [f64])
     ensures { λ _. ⌜ quantised.exit.now ≡ laidEach quantized beats.entry.now quantised.entry.now ⌝ }
 {
-    let n = lesser(beats.len(), quantised.len());
+    let n = columns::room_of(beats.len(), quantised.len());
     let mut i = 0;
     while i < n {
         quantised[i] = rows::quantize_beat(beats[i]);
@@ -209,7 +202,7 @@ pub extern "C" fn marrighentu_each_quantize_beat(beats: &[f64], quantised: &mut 
 pub extern "C" fn marrighentu_each_quantize_beat_f32(beats: &[f32], quantised: &mut [f32])
     ensures { λ _. ⌜ quantised.exit.now ≡ laidEach quantized32 beats.entry.now quantised.entry.now ⌝ }
 {
-    let n = lesser(beats.len(), quantised.len());
+    let n = columns::room_of(beats.len(), quantised.len());
     let mut i = 0;
     while i < n {
         quantised[i] = rows::quantize_beat_f32(beats[i]);

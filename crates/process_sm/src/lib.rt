@@ -89,85 +89,7 @@ fn process_into(
     }
 }
 
-// Columns for as many tempos as a chart has.
-fn into_few(
-    tempo_beats: &[f64],
-    tempo_values: &[f64],
-    stop_beats: &[f64],
-    stop_values: &[f64],
-    out_tempo_beats: &mut [f64],
-    out_tempo_values: &mut [f64],
-    out_stop_beats: &mut [f64],
-    out_stop_values: &mut [f64],
-    out_warp_beats: &mut [f64],
-    out_warp_lengths: &mut [f64],
-) -> Processed
-    requires { ⌜ length «tempo_beats».now ≤ 64 ⌝ }
-    requires { let rooms = threeColumns «out_tempo_beats».now «out_tempo_values».now
-        «out_stop_beats».now «out_stop_values».now «out_warp_beats».now «out_warp_lengths».now in
-        ⌜ ResultRooms (length «tempo_beats».now) (length «stop_beats».now) rooms ⌝ }
-    ensures { λ r.
-        let raw = twoColumns «tempo_beats».entry.now «tempo_values».entry.now «stop_beats».entry.now «stop_values».entry.now in
-        let rooms = lentThree «out_tempo_beats» «out_tempo_values» «out_stop_beats» «out_stop_values» «out_warp_beats» «out_warp_lengths» in
-        ⌜ SmLaid raw r (threeBefore rooms) (threeAfter rooms) ⌝ }
-{
-    let mut walked_beats = [0.0; limits::FEW];
-    let mut walked_values = [0.0; limits::FEW];
-    process_into(
-        tempo_beats,
-        tempo_values,
-        stop_beats,
-        stop_values,
-        &mut walked_beats,
-        &mut walked_values,
-        out_tempo_beats,
-        out_tempo_values,
-        out_stop_beats,
-        out_stop_values,
-        out_warp_beats,
-        out_warp_lengths,
-    )
-}
-
-// Columns for as many as are taken.
-fn into_many(
-    tempo_beats: &[f64],
-    tempo_values: &[f64],
-    stop_beats: &[f64],
-    stop_values: &[f64],
-    out_tempo_beats: &mut [f64],
-    out_tempo_values: &mut [f64],
-    out_stop_beats: &mut [f64],
-    out_stop_values: &mut [f64],
-    out_warp_beats: &mut [f64],
-    out_warp_lengths: &mut [f64],
-) -> Processed
-    requires { let rooms = threeColumns «out_tempo_beats».now «out_tempo_values».now
-        «out_stop_beats».now «out_stop_values».now «out_warp_beats».now «out_warp_lengths».now in
-        ⌜ ResultRooms (length «tempo_beats».now) (length «stop_beats».now) rooms ⌝ }
-    ensures { λ r.
-        let raw = twoColumns «tempo_beats».entry.now «tempo_values».entry.now «stop_beats».entry.now «stop_values».entry.now in
-        let rooms = lentThree «out_tempo_beats» «out_tempo_values» «out_stop_beats» «out_stop_values» «out_warp_beats» «out_warp_lengths» in
-        ⌜ SmLaid raw r (threeBefore rooms) (threeAfter rooms) ⌝ }
-{
-    let mut walked_beats = [0.0; limits::MOST_ENTRIES];
-    let mut walked_values = [0.0; limits::MOST_ENTRIES];
-    process_into(
-        tempo_beats,
-        tempo_values,
-        stop_beats,
-        stop_values,
-        &mut walked_beats,
-        &mut walked_values,
-        out_tempo_beats,
-        out_tempo_values,
-        out_stop_beats,
-        out_stop_values,
-        out_warp_beats,
-        out_warp_lengths,
-    )
-}
-
+// Few tempos, as most charts have, go by way of columns that are short to clear.
 fn into_rooms(
     tempo_beats: &[f64],
     tempo_values: &[f64],
@@ -189,11 +111,15 @@ fn into_rooms(
         ⌜ SmLaid raw r (threeBefore rooms) (threeAfter rooms) ⌝ }
 {
     if tempo_beats.len() <= limits::FEW {
-        return into_few(
+        let mut walked_beats = [0.0; limits::FEW];
+        let mut walked_values = [0.0; limits::FEW];
+        return process_into(
             tempo_beats,
             tempo_values,
             stop_beats,
             stop_values,
+            &mut walked_beats,
+            &mut walked_values,
             out_tempo_beats,
             out_tempo_values,
             out_stop_beats,
@@ -202,11 +128,15 @@ fn into_rooms(
             out_warp_lengths,
         );
     }
-    into_many(
+    let mut walked_beats = [0.0; limits::MOST_ENTRIES];
+    let mut walked_values = [0.0; limits::MOST_ENTRIES];
+    process_into(
         tempo_beats,
         tempo_values,
         stop_beats,
         stop_values,
+        &mut walked_beats,
+        &mut walked_values,
         out_tempo_beats,
         out_tempo_values,
         out_stop_beats,
@@ -223,51 +153,7 @@ const FEW_MADE: usize = 2 * limits::FEW;
 
 const MOST_MADE: usize = 2 * limits::MOST_ENTRIES;
 
-// Columns for as many tempos and stops as a chart has.
-fn process_few(
-    tempo_beats: &[f64],
-    tempo_values: &[f64],
-    stop_beats: &[f64],
-    stop_values: &[f64],
-    out_tempo_beats: &mut [f64],
-    out_tempo_values: &mut [f64],
-    out_stop_beats: &mut [f64],
-    out_stop_values: &mut [f64],
-    out_warp_beats: &mut [f64],
-    out_warp_lengths: &mut [f64],
-) -> Processed
-    requires { ⌜ (length «tempo_beats».now ≤ 64) × (length «stop_beats».now ≤ 64) ⌝ }
-    ensures { λ r.
-        let raw = twoColumns «tempo_beats».entry.now «tempo_values».entry.now «stop_beats».entry.now «stop_values».entry.now in
-        let rooms = lentThree «out_tempo_beats» «out_tempo_values» «out_stop_beats» «out_stop_values» «out_warp_beats» «out_warp_lengths» in
-        ⌜ SmLaid raw r (threeBefore rooms) (threeAfter rooms) ⌝ }
-{
-    let mut walked_tempo_beats = [0.0; limits::FEW];
-    let mut walked_tempo_values = [0.0; limits::FEW];
-    let mut walked_stop_beats = [0.0; limits::FEW];
-    let mut walked_stop_values = [0.0; limits::FEW];
-    let mut walked_warp_beats = [0.0; FEW_MADE];
-    let mut walked_warp_lengths = [0.0; FEW_MADE];
-    process_sm_lent::process_lent(
-        tempo_beats,
-        tempo_values,
-        stop_beats,
-        stop_values,
-        &mut walked_tempo_beats,
-        &mut walked_tempo_values,
-        &mut walked_stop_beats,
-        &mut walked_stop_values,
-        &mut walked_warp_beats,
-        &mut walked_warp_lengths,
-        out_tempo_beats,
-        out_tempo_values,
-        out_stop_beats,
-        out_stop_values,
-        out_warp_beats,
-        out_warp_lengths,
-    )
-}
-
+// Few tempos and stops have short columns here too.
 fn process_by_columns(
     tempo_beats: &[f64],
     tempo_values: &[f64],
@@ -287,11 +173,23 @@ fn process_by_columns(
 {
     if tempo_beats.len() <= limits::FEW {
         if stop_beats.len() <= limits::FEW {
-            return process_few(
+            let mut walked_tempo_beats = [0.0; limits::FEW];
+            let mut walked_tempo_values = [0.0; limits::FEW];
+            let mut walked_stop_beats = [0.0; limits::FEW];
+            let mut walked_stop_values = [0.0; limits::FEW];
+            let mut walked_warp_beats = [0.0; FEW_MADE];
+            let mut walked_warp_lengths = [0.0; FEW_MADE];
+            return process_sm_lent::process_lent(
                 tempo_beats,
                 tempo_values,
                 stop_beats,
                 stop_values,
+                &mut walked_tempo_beats,
+                &mut walked_tempo_values,
+                &mut walked_stop_beats,
+                &mut walked_stop_values,
+                &mut walked_warp_beats,
+                &mut walked_warp_lengths,
                 out_tempo_beats,
                 out_tempo_values,
                 out_stop_beats,
@@ -301,7 +199,6 @@ fn process_by_columns(
             );
         }
     }
-    // as many as are taken
     let mut walked_tempo_beats = [0.0; limits::MOST_ENTRIES];
     let mut walked_tempo_values = [0.0; limits::MOST_ENTRIES];
     let mut walked_stop_beats = [0.0; limits::MOST_ENTRIES];

@@ -1,6 +1,8 @@
 // SM timing as a state machine. The arrows are calls on values: each takes a state and gives the next one with what it writes.
 ghost use mathlib.Core.Path.{_≡_};
-ghost use Rattle.process_sm_machine.specs.Machine.{fits, entryAt, warpOver, tempoAfter, still, openChart, owedAt, keepWarp, closeByTime, passInWarp, pass, tempoOutside, meetTempo, stopOutside, closeByStop, beginAgain, stopInWarp, meetStop, beatAt, meet, warpEndOf, finishWarp, finish};
+ghost use Rattle.process_sm_machine.specs.Machine.{fits, entryAt, warpOver, tempoAfter, still, openChart, owedAt, keepWarp, closeByTime, passInWarp, pass};
+ghost use Rattle.process_sm_machine.specs.Machine.{tempoOutside, meetTempo, stopOutside, closeByStop, beginAgain, stopInWarp, meetStop, beatAt, meet};
+ghost use Rattle.process_sm_machine.specs.Machine.{warpEndOf, finishWarp, finish};
 
 // A change, or what is written: a beat and a value.
 pub struct Entry {

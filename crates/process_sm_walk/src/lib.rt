@@ -224,78 +224,6 @@ fn take_change(
     }
 }
 
-// ---- the walk over the changes, from a place and a state on
-
-fn run(
-    tempo_beats: &[f32],
-    tempo_values: &[f32],
-    stop_beats: &[f32],
-    stop_values: &[f32],
-    out_tempo_beats: &mut [f64],
-    out_tempo_values: &mut [f64],
-    out_stop_beats: &mut [f64],
-    out_stop_values: &mut [f64],
-    out_warp_beats: &mut [f64],
-    out_warp_lengths: &mut [f64],
-    first: Places,
-    opening: State,
-    so_far: Counts,
-) -> Counts
-    requires { ⌜ Chart «tempo_beats».now «tempo_values».now «stop_beats».now «stop_values».now ⌝ }
-    requires { ⌜ Reached (length «tempo_beats».now) (length «stop_beats».now) first ⌝ }
-    requires { ⌜ WrittenWithin first opening «so_far» ⌝ }
-    requires { let rooms = columns «out_tempo_beats».now «out_tempo_values».now
-        «out_stop_beats».now «out_stop_values».now «out_warp_beats».now «out_warp_lengths».now in
-        ⌜ Room (mostWritten (length «tempo_beats».now) (length «stop_beats».now)) rooms ⌝ }
-    ensures { λ r.
-        let tempos = entries «tempo_beats».entry.now «tempo_values».entry.now in
-        let stops = entries «stop_beats».entry.now «stop_values».entry.now in
-        ⌜ r ≡ counted «so_far» (walkChanges (changesLeft tempos stops first) opening) ⌝ }
-    ensures { λ r.
-        let tempos = entries «tempo_beats».entry.now «tempo_values».entry.now in
-        let stops = entries «stop_beats».entry.now «stop_values».entry.now in
-        let rooms = lentThree «out_tempo_beats» «out_tempo_values» «out_stop_beats» «out_stop_values» «out_warp_beats» «out_warp_lengths» in
-        ⌜ columnsAfter rooms ≡ writtenInto «so_far» (walkChanges (changesLeft tempos stops first) opening) (columnsBefore rooms) ⌝ }
-{
-    let mut places = first;
-    let mut state = opening;
-    let mut counts = so_far;
-    loop {
-        let next = next_change(tempo_beats, tempo_values, stop_beats, stop_values, places);
-        match next {
-            Next::End => {
-                let ending = process_sm_machine::finish(state);
-                return write(
-                    out_tempo_beats,
-                    out_tempo_values,
-                    out_stop_beats,
-                    out_stop_values,
-                    out_warp_beats,
-                    out_warp_lengths,
-                    counts,
-                    ending,
-                );
-            }
-            Next::Here(change) => {
-                let standing = take_change(
-                    out_tempo_beats,
-                    out_tempo_values,
-                    out_stop_beats,
-                    out_stop_values,
-                    out_warp_beats,
-                    out_warp_lengths,
-                    state,
-                    counts,
-                    change,
-                );
-                state = standing.state;
-                counts = standing.counts;
-                places = advance(places, change);
-            }
-        }
-    }
-}
-
 // ---- where no warp opens: each list by itself, in loops that a machine does for several entries at a time
 
 fn both(one: bool, other: bool) -> bool
@@ -376,7 +304,8 @@ fn lay_on_rows(
     count
 }
 
-// The walk from a place and a state on, change by change only where a warp may open.
+// ---- the walk from a place and a state on, change by change only where a warp may open
+
 fn walk_on(
     tempo_beats: &[f32],
     tempo_values: &[f32],
@@ -431,21 +360,43 @@ fn walk_on(
             warps: so_far.warps,
         };
     }
-    run(
-        tempo_beats,
-        tempo_values,
-        stop_beats,
-        stop_values,
-        out_tempo_beats,
-        out_tempo_values,
-        out_stop_beats,
-        out_stop_values,
-        out_warp_beats,
-        out_warp_lengths,
-        first,
-        opening,
-        so_far,
-    )
+    let mut places = first;
+    let mut state = opening;
+    let mut counts = so_far;
+    loop {
+        let next = next_change(tempo_beats, tempo_values, stop_beats, stop_values, places);
+        match next {
+            Next::End => {
+                let ending = process_sm_machine::finish(state);
+                return write(
+                    out_tempo_beats,
+                    out_tempo_values,
+                    out_stop_beats,
+                    out_stop_values,
+                    out_warp_beats,
+                    out_warp_lengths,
+                    counts,
+                    ending,
+                );
+            }
+            Next::Here(change) => {
+                let standing = take_change(
+                    out_tempo_beats,
+                    out_tempo_values,
+                    out_stop_beats,
+                    out_stop_values,
+                    out_warp_beats,
+                    out_warp_lengths,
+                    state,
+                    counts,
+                    change,
+                );
+                state = standing.state;
+                counts = standing.counts;
+                places = advance(places, change);
+            }
+        }
+    }
 }
 
 // ---- the opening

@@ -590,91 +590,13 @@ fn same_looked(words: &[u64], at: usize, looked: Looked) -> bool {
     )
 }
 
-// The six checked lookups, where the test of the lists takes them: what the tested ones answer.
-fn same_when_checked(words: &[u64], floats: &[f32], at: usize) -> bool {
-    let stop_beats_at = further(at, 1);
-    let stop_values_at = behind(words, stop_beats_at);
-    let delay_beats_at = behind(words, stop_values_at);
-    let delay_values_at = behind(words, delay_beats_at);
-    let warp_beats_at = behind(words, delay_values_at);
-    let warp_lengths_at = behind(words, warp_beats_at);
-    let fake_beats_at = behind(words, warp_lengths_at);
-    let fake_lengths_at = behind(words, fake_beats_at);
-    let answer_at = behind(words, fake_lengths_at);
-    let row = row_of_word(word_at(words, answer_at));
-    let beat = ieee_patterns::f64_of_bits(word_at(words, further(answer_at, 1)));
-    let number = lookup_checked::check_lookups(
-        f32_column(floats, words, stop_beats_at),
-        f32_column(floats, words, stop_values_at),
-        f32_column(floats, words, delay_beats_at),
-        f32_column(floats, words, delay_values_at),
-        f32_column(floats, words, warp_beats_at),
-        f32_column(floats, words, warp_lengths_at),
-        f32_column(floats, words, fake_beats_at),
-        f32_column(floats, words, fake_lengths_at),
-    );
+// One lookup twice: the tested one, and where the test of the lists takes them the checked one too.
+fn same_twice(words: &[u64], at: usize, number: u32, tested: Looked, checked: Looked) -> bool {
+    let same = same_looked(words, at, tested);
     if number != 0 {
-        return true;
+        return same;
     }
-    let warped = lookup_checked::is_warp_at_row_checked(
-        f32_column(floats, words, stop_beats_at),
-        f32_column(floats, words, stop_values_at),
-        f32_column(floats, words, delay_beats_at),
-        f32_column(floats, words, delay_values_at),
-        f32_column(floats, words, warp_beats_at),
-        f32_column(floats, words, warp_lengths_at),
-        row,
-    );
-    let warped_beat = lookup_checked::is_warp_at_beat_checked(
-        f32_column(floats, words, stop_beats_at),
-        f32_column(floats, words, stop_values_at),
-        f32_column(floats, words, delay_beats_at),
-        f32_column(floats, words, delay_values_at),
-        f32_column(floats, words, warp_beats_at),
-        f32_column(floats, words, warp_lengths_at),
-        beat,
-    );
-    let fake = lookup_checked::is_fake_at_row_checked(
-        f32_column(floats, words, fake_beats_at),
-        f32_column(floats, words, fake_lengths_at),
-        row,
-    );
-    let fake_beat = lookup_checked::is_fake_at_beat_checked(
-        f32_column(floats, words, fake_beats_at),
-        f32_column(floats, words, fake_lengths_at),
-        beat,
-    );
-    let judgable = lookup_checked::is_judgable_at_row_checked(
-        f32_column(floats, words, stop_beats_at),
-        f32_column(floats, words, stop_values_at),
-        f32_column(floats, words, delay_beats_at),
-        f32_column(floats, words, delay_values_at),
-        f32_column(floats, words, warp_beats_at),
-        f32_column(floats, words, warp_lengths_at),
-        f32_column(floats, words, fake_beats_at),
-        f32_column(floats, words, fake_lengths_at),
-        row,
-    );
-    let judgable_beat = lookup_checked::is_judgable_at_beat_checked(
-        f32_column(floats, words, stop_beats_at),
-        f32_column(floats, words, stop_values_at),
-        f32_column(floats, words, delay_beats_at),
-        f32_column(floats, words, delay_values_at),
-        f32_column(floats, words, warp_beats_at),
-        f32_column(floats, words, warp_lengths_at),
-        f32_column(floats, words, fake_beats_at),
-        f32_column(floats, words, fake_lengths_at),
-        beat,
-    );
-    let same = same_looked(words, further(answer_at, 2), warped);
-    let same = both(same, same_looked(words, further(answer_at, 4), warped_beat));
-    let same = both(same, same_looked(words, further(answer_at, 6), fake));
-    let same = both(same, same_looked(words, further(answer_at, 8), fake_beat));
-    let same = both(same, same_looked(words, further(answer_at, 10), judgable));
-    both(
-        same,
-        same_looked(words, further(answer_at, 12), judgable_beat),
-    )
+    both(same, same_looked(words, at, checked))
 }
 
 // All six lookups, of a row and of a beat, and their checked twins.
@@ -688,68 +610,131 @@ fn replay_lookups(words: &[u64], floats: &[f32], at: usize) -> Replayed {
     let fake_beats_at = behind(words, warp_lengths_at);
     let fake_lengths_at = behind(words, fake_beats_at);
     let answer_at = behind(words, fake_lengths_at);
+    let stop_beats = f32_column(floats, words, stop_beats_at);
+    let stop_values = f32_column(floats, words, stop_values_at);
+    let delay_beats = f32_column(floats, words, delay_beats_at);
+    let delay_values = f32_column(floats, words, delay_values_at);
+    let warp_beats = f32_column(floats, words, warp_beats_at);
+    let warp_lengths = f32_column(floats, words, warp_lengths_at);
+    let fake_beats = f32_column(floats, words, fake_beats_at);
+    let fake_lengths = f32_column(floats, words, fake_lengths_at);
     let row = row_of_word(word_at(words, answer_at));
     let beat = ieee_patterns::f64_of_bits(word_at(words, further(answer_at, 1)));
-    let warped = lookup::is_warp_at_row(
-        f32_column(floats, words, stop_beats_at),
-        f32_column(floats, words, stop_values_at),
-        f32_column(floats, words, delay_beats_at),
-        f32_column(floats, words, delay_values_at),
-        f32_column(floats, words, warp_beats_at),
-        f32_column(floats, words, warp_lengths_at),
+    let number = lookup_checked::check_lookups(
+        stop_beats,
+        stop_values,
+        delay_beats,
+        delay_values,
+        warp_beats,
+        warp_lengths,
+        fake_beats,
+        fake_lengths,
+    );
+    let tested = lookup::is_warp_at_row(
+        stop_beats,
+        stop_values,
+        delay_beats,
+        delay_values,
+        warp_beats,
+        warp_lengths,
         row,
     );
-    let warped_beat = lookup::is_warp_at_beat(
-        f32_column(floats, words, stop_beats_at),
-        f32_column(floats, words, stop_values_at),
-        f32_column(floats, words, delay_beats_at),
-        f32_column(floats, words, delay_values_at),
-        f32_column(floats, words, warp_beats_at),
-        f32_column(floats, words, warp_lengths_at),
-        beat,
-    );
-    let fake = lookup::is_fake_at_row(
-        f32_column(floats, words, fake_beats_at),
-        f32_column(floats, words, fake_lengths_at),
+    let checked = lookup_checked::is_warp_at_row_checked(
+        stop_beats,
+        stop_values,
+        delay_beats,
+        delay_values,
+        warp_beats,
+        warp_lengths,
         row,
     );
-    let fake_beat = lookup::is_fake_at_beat(
-        f32_column(floats, words, fake_beats_at),
-        f32_column(floats, words, fake_lengths_at),
+    let same = same_twice(words, further(answer_at, 2), number, tested, checked);
+    let tested = lookup::is_warp_at_beat(
+        stop_beats,
+        stop_values,
+        delay_beats,
+        delay_values,
+        warp_beats,
+        warp_lengths,
         beat,
     );
-    let judgable = lookup::is_judgable_at_row(
-        f32_column(floats, words, stop_beats_at),
-        f32_column(floats, words, stop_values_at),
-        f32_column(floats, words, delay_beats_at),
-        f32_column(floats, words, delay_values_at),
-        f32_column(floats, words, warp_beats_at),
-        f32_column(floats, words, warp_lengths_at),
-        f32_column(floats, words, fake_beats_at),
-        f32_column(floats, words, fake_lengths_at),
-        row,
-    );
-    let judgable_beat = lookup::is_judgable_at_beat(
-        f32_column(floats, words, stop_beats_at),
-        f32_column(floats, words, stop_values_at),
-        f32_column(floats, words, delay_beats_at),
-        f32_column(floats, words, delay_values_at),
-        f32_column(floats, words, warp_beats_at),
-        f32_column(floats, words, warp_lengths_at),
-        f32_column(floats, words, fake_beats_at),
-        f32_column(floats, words, fake_lengths_at),
+    let checked = lookup_checked::is_warp_at_beat_checked(
+        stop_beats,
+        stop_values,
+        delay_beats,
+        delay_values,
+        warp_beats,
+        warp_lengths,
         beat,
     );
-    let same = same_looked(words, further(answer_at, 2), warped);
-    let same = both(same, same_looked(words, further(answer_at, 4), warped_beat));
-    let same = both(same, same_looked(words, further(answer_at, 6), fake));
-    let same = both(same, same_looked(words, further(answer_at, 8), fake_beat));
-    let same = both(same, same_looked(words, further(answer_at, 10), judgable));
     let same = both(
         same,
-        same_looked(words, further(answer_at, 12), judgable_beat),
+        same_twice(words, further(answer_at, 4), number, tested, checked),
     );
-    let same = both(same, same_when_checked(words, floats, at));
+    let tested = lookup::is_fake_at_row(fake_beats, fake_lengths, row);
+    let checked = lookup_checked::is_fake_at_row_checked(fake_beats, fake_lengths, row);
+    let same = both(
+        same,
+        same_twice(words, further(answer_at, 6), number, tested, checked),
+    );
+    let tested = lookup::is_fake_at_beat(fake_beats, fake_lengths, beat);
+    let checked = lookup_checked::is_fake_at_beat_checked(fake_beats, fake_lengths, beat);
+    let same = both(
+        same,
+        same_twice(words, further(answer_at, 8), number, tested, checked),
+    );
+    let tested = lookup::is_judgable_at_row(
+        stop_beats,
+        stop_values,
+        delay_beats,
+        delay_values,
+        warp_beats,
+        warp_lengths,
+        fake_beats,
+        fake_lengths,
+        row,
+    );
+    let checked = lookup_checked::is_judgable_at_row_checked(
+        stop_beats,
+        stop_values,
+        delay_beats,
+        delay_values,
+        warp_beats,
+        warp_lengths,
+        fake_beats,
+        fake_lengths,
+        row,
+    );
+    let same = both(
+        same,
+        same_twice(words, further(answer_at, 10), number, tested, checked),
+    );
+    let tested = lookup::is_judgable_at_beat(
+        stop_beats,
+        stop_values,
+        delay_beats,
+        delay_values,
+        warp_beats,
+        warp_lengths,
+        fake_beats,
+        fake_lengths,
+        beat,
+    );
+    let checked = lookup_checked::is_judgable_at_beat_checked(
+        stop_beats,
+        stop_values,
+        delay_beats,
+        delay_values,
+        warp_beats,
+        warp_lengths,
+        fake_beats,
+        fake_lengths,
+        beat,
+    );
+    let same = both(
+        same,
+        same_twice(words, further(answer_at, 12), number, tested, checked),
+    );
     Replayed {
         same: same,
         next: further(answer_at, 14),

@@ -75,36 +75,24 @@ pub fn write_answer(
     if number != 0 {
         return at;
     }
-    report_text::put_lists(
+    let at = report_text::put_offset(page, at, offset);
+    let at = report_text::put_pairs(page, at, b"bpm=", tempos, tempo_beats, tempo_values);
+    let at = report_text::put_pairs(page, at, b"stop=", stops, stop_beats, stop_values);
+    let at = report_text::put_pairs(page, at, b"delay=", delays, delay_beats, delay_values);
+    let at = report_text::put_pairs(page, at, b"warp=", warps, warp_beats, warp_lengths);
+    let at = report_text::put_speeds(
         page,
         at,
-        offset,
-        warped,
-        moved,
-        tempos,
-        stops,
-        delays,
-        warps,
         speeds,
-        scrolls,
-        fakes,
-        tempo_beats,
-        tempo_values,
-        stop_beats,
-        stop_values,
-        delay_beats,
-        delay_values,
-        warp_beats,
-        warp_lengths,
         speed_beats,
         speed_ratios,
         speed_delays,
         speed_units,
-        scroll_beats,
-        scroll_values,
-        fake_beats,
-        fake_lengths,
-    )
+    );
+    let at = report_text::put_pairs(page, at, b"scroll=", scrolls, scroll_beats, scroll_values);
+    let at = report_text::put_pairs(page, at, b"fake=", fakes, fake_beats, fake_lengths);
+    let at = report_text::put_warped(page, at, warped);
+    report_text::put_moved(page, at, moved)
 }
 
 // Writes the answer line of a refusal, from the page's first byte on, and answers how many bytes it has.

@@ -47,65 +47,6 @@ fn answered(got: isize, reading: Reading) -> Piece
     }
 }
 
-fn read_piece(
-    reading: Reading,
-    counts: &mut [u64],
-    tempo_beats: &mut [f64],
-    tempo_values: &mut [f64],
-    stop_beats: &mut [f64],
-    stop_values: &mut [f64],
-    delay_beats: &mut [f64],
-    delay_values: &mut [f64],
-    warp_beats: &mut [f64],
-    warp_lengths: &mut [f64],
-    speed_beats: &mut [f64],
-    speed_ratios: &mut [f64],
-    speed_delays: &mut [f64],
-    speed_units: &mut [u8],
-    scroll_beats: &mut [f64],
-    scroll_values: &mut [f64],
-    fake_beats: &mut [f64],
-    fake_lengths: &mut [f64],
-) -> Piece
-    ensures { λ r.
-        let lists : LentChart = record {
-          tempos = lentColumns «tempo_beats» «tempo_values»;
-          stops = lentColumns «stop_beats» «stop_values»;
-          delays = lentColumns «delay_beats» «delay_values»;
-          warps = lentColumns «warp_beats» «warp_lengths»;
-          speeds = lentSpeeds «speed_beats» «speed_ratios» «speed_delays» «speed_units»;
-          scrolls = lentColumns «scroll_beats» «scroll_values»;
-          fakes = lentColumns «fake_beats» «fake_lengths»;
-        } in
-        ⌜ Fed reading (r .reading) counts.entry.now counts.exit.now (before lists) (after lists) ⌝ }
-{
-    let mut piece = [0u8; PIECE];
-    let got = libc::read(STDIN_FILENO, &mut piece);
-    let count = io::count(got, &piece);
-    let next = report_feed::feed(
-        reading,
-        &piece[..count],
-        counts,
-        tempo_beats,
-        tempo_values,
-        stop_beats,
-        stop_values,
-        delay_beats,
-        delay_values,
-        warp_beats,
-        warp_lengths,
-        speed_beats,
-        speed_ratios,
-        speed_delays,
-        speed_units,
-        scroll_beats,
-        scroll_values,
-        fake_beats,
-        fake_lengths,
-    );
-    answered(got, next)
-}
-
 // All of standard input, fed from the first byte on, and a byte that no form has where a read failed. A proved loop has to end, and nothing
 // says that the input does: the turns are counted down from a number that no run uses up.
 pub fn read_all(
@@ -142,8 +83,12 @@ pub fn read_all(
     let mut reading = report_form::begin();
     let mut turns = u64::MAX;
     while turns > 0 {
-        let piece = read_piece(
+        let mut piece = [0u8; PIECE];
+        let got = libc::read(STDIN_FILENO, &mut piece);
+        let count = io::count(got, &piece);
+        let fed = report_feed::feed(
             reading,
+            &piece[..count],
             counts,
             tempo_beats,
             tempo_values,
@@ -162,8 +107,9 @@ pub fn read_all(
             fake_beats,
             fake_lengths,
         );
-        reading = piece.reading;
-        if !piece.more {
+        let after = answered(got, fed);
+        reading = after.reading;
+        if !after.more {
             return reading;
         }
         turns -= 1;

@@ -5,8 +5,7 @@ ghost use lib.ListN.{take};
 ghost use lib.Ieee.{toBits, binary32};
 ghost use Rattle.text_page.specs.Page.{Wrote};
 ghost use Rattle.text_page.specs.Digits.{decimalText};
-ghost use Rattle.chart.specs.ChartColumns.{lentColumns, lentSpeeds, LentChart, ChartRoom, before};
-ghost use Rattle.report_text.specs.Output.{number, answerLine, offsetLine, pairLine, pairLines, speedLine, speedLines, warpedLine, movedLine, listsText, frontLists};
+ghost use Rattle.report_text.specs.Output.{number, answerLine, offsetLine, pairLine, pairLines, speedLine, speedLines, warpedLine, movedLine};
 
 // A number by its pattern, and the byte that ends it.
 fn put_number(page: &mut [u8], at: usize, x: f32, end: u8) -> usize
@@ -33,7 +32,8 @@ pub fn put_answer(page: &mut [u8], at: usize, number: u32) -> usize
     put_decimal(page, at, number as u64)
 }
 
-fn put_offset(page: &mut [u8], at: usize, offset: f32) -> usize
+// The line of the offset.
+pub fn put_offset(page: &mut [u8], at: usize, offset: f32) -> usize
     ensures { λ r. ⌜ Wrote (offsetLine offset) at r page.entry.now page.exit.now ⌝ }
 {
     let at = text_page::put_bytes(page, at, b"offset=");
@@ -48,8 +48,8 @@ fn put_pair(page: &mut [u8], at: usize, word: &[u8], beat: f32, value: f32) -> u
     put_number(page, at, value, b'\n')
 }
 
-// A line for each of the first entries, as far as both columns go.
-fn put_pairs(
+// A line for each of the first entries of a list, as far as both columns go: its word, which ends with the equals sign, the beat and the value.
+pub fn put_pairs(
     page: &mut [u8],
     at: usize,
     word: &[u8],
@@ -86,7 +86,8 @@ fn put_speed(page: &mut [u8], at: usize, beat: f32, ratio: f32, delay: f32, unit
     text_page::put_byte(page, at, b'\n')
 }
 
-fn put_speeds(
+// The same of speeds.
+pub fn put_speeds(
     page: &mut [u8],
     at: usize,
     count: usize,
@@ -120,89 +121,18 @@ fn put_speeds(
     place
 }
 
-fn put_warped(page: &mut [u8], at: usize, rows: u64) -> usize
+// The line of how many rows are warped.
+pub fn put_warped(page: &mut [u8], at: usize, rows: u64) -> usize
     ensures { λ r. ⌜ Wrote (warpedLine rows) at r page.entry.now page.exit.now ⌝ }
 {
     let at = text_page::put_bytes(page, at, b"warped=");
     put_decimal(page, at, rows)
 }
 
-fn put_moved(page: &mut [u8], at: usize, moved: u64) -> usize
+// The line of how many entries were off the grid.
+pub fn put_moved(page: &mut [u8], at: usize, moved: u64) -> usize
     ensures { λ r. ⌜ Wrote (movedLine moved) at r page.entry.now page.exit.now ⌝ }
 {
     let at = text_page::put_bytes(page, at, b"moved=");
     put_decimal(page, at, moved)
-}
-
-// What stands behind the answer line of a taken input: offset, the first entries of the seven lists in their order, the rows that are warped, and how many
-// entries were off the grid.
-pub fn put_lists(
-    page: &mut [u8],
-    at: usize,
-    offset: f32,
-    warped: u64,
-    moved: u64,
-    tempos: usize,
-    stops: usize,
-    delays: usize,
-    warps: usize,
-    speeds: usize,
-    scrolls: usize,
-    fakes: usize,
-    tempo_beats: &[f32],
-    tempo_values: &[f32],
-    stop_beats: &[f32],
-    stop_values: &[f32],
-    delay_beats: &[f32],
-    delay_values: &[f32],
-    warp_beats: &[f32],
-    warp_lengths: &[f32],
-    speed_beats: &[f32],
-    speed_ratios: &[f32],
-    speed_delays: &[f32],
-    speed_units: &[u8],
-    scroll_beats: &[f32],
-    scroll_values: &[f32],
-    fake_beats: &[f32],
-    fake_lengths: &[f32],
-) -> usize
-    ensures { λ r.
-        let lists : LentChart = record {
-          tempos = lentColumns «tempo_beats» «tempo_values»;
-          stops = lentColumns «stop_beats» «stop_values»;
-          delays = lentColumns «delay_beats» «delay_values»;
-          warps = lentColumns «warp_beats» «warp_lengths»;
-          speeds = lentSpeeds «speed_beats» «speed_ratios» «speed_delays» «speed_units»;
-          scrolls = lentColumns «scroll_beats» «scroll_values»;
-          fakes = lentColumns «fake_beats» «fake_lengths»;
-        } in
-        let counts : ChartRoom = record {
-          tempos = tempos;
-          stops = stops;
-          delays = delays;
-          warps = warps;
-          speeds = speeds;
-          scrolls = scrolls;
-          fakes = fakes;
-        } in
-        ⌜ Wrote (listsText offset warped moved (frontLists counts (before lists))) at r page.entry.now page.exit.now ⌝ }
-{
-    let at = put_offset(page, at, offset);
-    let at = put_pairs(page, at, b"bpm=", tempos, tempo_beats, tempo_values);
-    let at = put_pairs(page, at, b"stop=", stops, stop_beats, stop_values);
-    let at = put_pairs(page, at, b"delay=", delays, delay_beats, delay_values);
-    let at = put_pairs(page, at, b"warp=", warps, warp_beats, warp_lengths);
-    let at = put_speeds(
-        page,
-        at,
-        speeds,
-        speed_beats,
-        speed_ratios,
-        speed_delays,
-        speed_units,
-    );
-    let at = put_pairs(page, at, b"scroll=", scrolls, scroll_beats, scroll_values);
-    let at = put_pairs(page, at, b"fake=", fakes, fake_beats, fake_lengths);
-    let at = put_warped(page, at, warped);
-    put_moved(page, at, moved)
 }

@@ -7,8 +7,6 @@ ghost use Rattle.io.specs.Counts.{Counts};
 ghost use Rattle.order.specs.Entries.{entries};
 ghost use Rattle.chart.specs.ChartColumns.{lentColumns, lentSpeeds, LentChart, before};
 ghost use Rattle.lookup_warped.specs.OnePass.{onePass};
-ghost use Rattle.text_page.specs.Page.{Wrote};
-ghost use Rattle.report_whole.specs.Taken.{takenText};
 ghost use Rattle.report_whole.specs.Whole.{formatRead, entriesCounted, reportText, Reported};
 
 fn format_of(ssc: bool) -> TimingFormat
@@ -57,10 +55,12 @@ fn warped_of(beats: &[f32], lengths: &[f32], count: usize) -> u64
     lookup_warped::warped_rows(front_f32(beats, count), front_f32(lengths, count))
 }
 
-// The answer to lists of an input that is taken: assembled in columns of 256 numbers, and written from the page's first byte on.
-fn write_assembled(
+// Writes the report of an input that is read, from the page's first byte on, and answers how many bytes it has. Columns and counts are as
+// `report_feed::feed` leaves them; lists of an input that is taken are assembled in columns of 256 numbers. A page of 45,400 bytes holds every report; a shorter one holds its beginning.
+pub fn write_report(
     page: &mut [u8],
-    format: TimingFormat,
+    reading: Reading,
+    counts: &[u64],
     tempo_beats: &[f64],
     tempo_values: &[f64],
     stop_beats: &[f64],
@@ -79,7 +79,7 @@ fn write_assembled(
     fake_lengths: &[f64],
 ) -> usize
     ensures { λ r.
-        let raw : LentChart = record {
+        let lists : LentChart = record {
           tempos = lentColumns «tempo_beats» «tempo_values»;
           stops = lentColumns «stop_beats» «stop_values»;
           delays = lentColumns «delay_beats» «delay_values»;
@@ -88,9 +88,20 @@ fn write_assembled(
           scrolls = lentColumns «scroll_beats» «scroll_values»;
           fakes = lentColumns «fake_beats» «fake_lengths»;
         } in
-        ⌜ Wrote (takenText format (before raw)) 0 r page.entry.now page.exit.now ⌝ }
+        ⌜ Reported (reportText reading counts.entry.now (before lists)) r page.entry.now page.exit.now ⌝ }
     ensures { λ r. ⌜ Counts r page.exit.now ⌝ }
 {
+    let number = report_form::answer(reading, counts);
+    if number != limits::TAKEN {
+        return report_answer::write_refusal(page, number);
+    }
+    let tempos = count_of(counts, 2);
+    let stops = count_of(counts, 3);
+    let delays = count_of(counts, 4);
+    let warps = count_of(counts, 5);
+    let speeds = count_of(counts, 6);
+    let scrolls = count_of(counts, 7);
+    let fakes = count_of(counts, 8);
     let mut out_tempo_beats = [0.0f32; report_form::MOST_REPORTED];
     let mut out_tempo_values = [0.0f32; report_form::MOST_REPORTED];
     let mut out_stop_beats = [0.0f32; report_form::MOST_REPORTED];
@@ -109,23 +120,23 @@ fn write_assembled(
     let mut out_fake_lengths = [0.0f32; report_form::MOST_REPORTED];
     let done = assembly::compute_timing_segments(
         report_form::MOST_REPORTED,
-        format,
-        tempo_beats,
-        tempo_values,
-        stop_beats,
-        stop_values,
-        delay_beats,
-        delay_values,
-        warp_beats,
-        warp_lengths,
-        speed_beats,
-        speed_ratios,
-        speed_delays,
-        speed_units,
-        scroll_beats,
-        scroll_values,
-        fake_beats,
-        fake_lengths,
+        format_of(reading.ssc),
+        front(tempo_beats, tempos),
+        front(tempo_values, tempos),
+        front(stop_beats, stops),
+        front(stop_values, stops),
+        front(delay_beats, delays),
+        front(delay_values, delays),
+        front(warp_beats, warps),
+        front(warp_lengths, warps),
+        front(speed_beats, speeds),
+        front(speed_ratios, speeds),
+        front(speed_delays, speeds),
+        report_answer::front_units(speed_units, speeds),
+        front(scroll_beats, scrolls),
+        front(scroll_values, scrolls),
+        front(fake_beats, fakes),
+        front(fake_lengths, fakes),
         &mut out_tempo_beats,
         &mut out_tempo_values,
         &mut out_stop_beats,
@@ -175,74 +186,5 @@ fn write_assembled(
         &out_scroll_values,
         &out_fake_beats,
         &out_fake_lengths,
-    )
-}
-
-// Writes the report of an input that is read, from the page's first byte on, and answers how many bytes it has. Columns and counts are as
-// `report_feed::feed` leaves them. A page of 45,400 bytes holds every report; a shorter one holds its beginning.
-pub fn write_report(
-    page: &mut [u8],
-    reading: Reading,
-    counts: &[u64],
-    tempo_beats: &[f64],
-    tempo_values: &[f64],
-    stop_beats: &[f64],
-    stop_values: &[f64],
-    delay_beats: &[f64],
-    delay_values: &[f64],
-    warp_beats: &[f64],
-    warp_lengths: &[f64],
-    speed_beats: &[f64],
-    speed_ratios: &[f64],
-    speed_delays: &[f64],
-    speed_units: &[u8],
-    scroll_beats: &[f64],
-    scroll_values: &[f64],
-    fake_beats: &[f64],
-    fake_lengths: &[f64],
-) -> usize
-    ensures { λ r.
-        let lists : LentChart = record {
-          tempos = lentColumns «tempo_beats» «tempo_values»;
-          stops = lentColumns «stop_beats» «stop_values»;
-          delays = lentColumns «delay_beats» «delay_values»;
-          warps = lentColumns «warp_beats» «warp_lengths»;
-          speeds = lentSpeeds «speed_beats» «speed_ratios» «speed_delays» «speed_units»;
-          scrolls = lentColumns «scroll_beats» «scroll_values»;
-          fakes = lentColumns «fake_beats» «fake_lengths»;
-        } in
-        ⌜ Reported (reportText reading counts.entry.now (before lists)) r page.entry.now page.exit.now ⌝ }
-    ensures { λ r. ⌜ Counts r page.exit.now ⌝ }
-{
-    let number = report_form::answer(reading, counts);
-    if number != limits::TAKEN {
-        return report_answer::write_refusal(page, number);
-    }
-    let tempos = count_of(counts, 2);
-    let stops = count_of(counts, 3);
-    let delays = count_of(counts, 4);
-    let warps = count_of(counts, 5);
-    let speeds = count_of(counts, 6);
-    let scrolls = count_of(counts, 7);
-    let fakes = count_of(counts, 8);
-    write_assembled(
-        page,
-        format_of(reading.ssc),
-        front(tempo_beats, tempos),
-        front(tempo_values, tempos),
-        front(stop_beats, stops),
-        front(stop_values, stops),
-        front(delay_beats, delays),
-        front(delay_values, delays),
-        front(warp_beats, warps),
-        front(warp_lengths, warps),
-        front(speed_beats, speeds),
-        front(speed_ratios, speeds),
-        front(speed_delays, speeds),
-        report_answer::front_units(speed_units, speeds),
-        front(scroll_beats, scrolls),
-        front(scroll_values, scrolls),
-        front(fake_beats, fakes),
-        front(fake_lengths, fakes),
     )
 }

@@ -25,7 +25,7 @@ marrighentu-each-beat-to-note-row-f32-spec =
     Inv-loop
     μ-loop
     (λ c κs. search needs)
-    (λ c. begun (c .lesser .ensures))
+    (λ c. begun (c .room-of .ensures))
     (λ c. search needs)
     shared-slice-read-beat-to-note-row-f32
     (λ c κs. search needs)

@@ -38,10 +38,6 @@ apart beat next = pick (lt next beat) false (not (eq beat next))
 abbrev pub noRiseTo : Float → Float → Bool
 noRiseTo beat next = not (lt beat next)
 
--- the next beat is below
-abbrev pub fallsTo : Float → Float → Bool
-fallsTo beat next = lt next beat
-
 -- the next tempo is another
 abbrev pub changesTo : Float → Float → Bool
 changesTo tempo next = ne next tempo
