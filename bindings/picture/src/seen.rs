@@ -1,9 +1,10 @@
 //! What a machine sees of one chart: worked out once, and told as words, JSON or a picture.
 
 use marrighentu::{
-    BeatInfo, Chart, Event, Fate, Refusal, Snap, Speed, Timing, beat_to_note_row, mend_scrolls, mend_speeds, note_row_to_beat,
+    BeatInfo, Chart, Event, Fate, Refusal, Snap, Speed, Timing, beat_to_note_row, mend_scrolls, mend_speeds,
+    note_row_to_beat,
 };
-use marrighentu_charts::{ChartFile, ChartText, ChartTiming, Fault, Note};
+use marrighentu_charts::{ChartFile, ChartText, ChartTiming, Fault, MovedEntry, Note};
 
 /// A beat that was asked.
 pub struct Asked {
@@ -46,6 +47,8 @@ pub struct Seen {
     pub chart: Option<usize>,
     pub own: bool,
     pub timing: Timing,
+    /// The entries that were off the grid.
+    pub moved: Vec<MovedEntry>,
     pub asked: Vec<Asked>,
     /// The seconds that were asked, each with which beat it is then.
     pub at: Vec<(f64, BeatInfo)>,
@@ -161,6 +164,7 @@ pub fn see(file: &ChartFile, question: &Question<'_>) -> Result<Seen, String> {
     Ok(Seen {
         chart: question.chart.map(|chart| chart.number()),
         own: read.is_own(),
+        moved: read.moved(),
         asked: asked(&timing, question.beats).map_err(|why| format!(" {why}"))?,
         at: at(&timing, question.times).map_err(|why| format!(" {why}"))?,
         timing,

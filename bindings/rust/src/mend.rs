@@ -87,7 +87,8 @@ pub fn mend_scrolls(scrolls: &[(f64, f64)]) -> Result<Mended<(f64, f64)>, Refusa
 /// As [`mend_scrolls`].
 pub fn mend_speeds(speeds: &[Speed<f64>]) -> Result<Mended<Speed<f64>>, Refusal> {
     let column = |field: fn(&Speed<f64>) -> f64| -> Vec<f64> { speeds.iter().map(field).collect() };
-    let [beats, ratios, delays] = [column(|speed| speed.beat), column(|speed| speed.ratio), column(|speed| speed.delay)];
+    let [beats, ratios, delays] =
+        [column(|speed| speed.beat), column(|speed| speed.ratio), column(|speed| speed.delay)];
     let units: Vec<u8> = speeds.iter().map(|speed| speed.unit.number()).collect();
     let [mut out_beats, mut out_ratios, mut out_delays] = [beats.clone(), ratios.clone(), delays.clone()];
     let (mut out_units, mut fates) = (units.clone(), vec![0; speeds.len()]);
