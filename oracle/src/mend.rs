@@ -65,7 +65,9 @@ impl List {
             2
         } else if beyond(&numbers[0], 65_536.0) {
             3
-        } else if numbers[1..].iter().any(|column| beyond(column, power(30))) || self.units().iter().any(|unit| *unit > 1) {
+        } else if numbers[1..].iter().any(|column| beyond(column, power(30)))
+            || self.units().iter().any(|unit| *unit > 1)
+        {
             4
         } else {
             0
@@ -171,7 +173,8 @@ pub fn answer(input: &[u8]) -> String {
     if input.lists.iter().any(|list| list.len() > MOST) {
         return refused(1);
     }
-    let column = |entries: &[Entry], part: usize| entries.iter().map(|entry| f64::from_bits(entry.numbers[part])).collect();
+    let column =
+        |entries: &[Entry], part: usize| entries.iter().map(|entry| f64::from_bits(entry.numbers[part])).collect();
     let (scrolls, speeds) = (&input.lists[SCROLL], &input.lists[SPEED]);
     let units = speeds.iter().map(|entry| entry.unit).collect();
     let lists = [

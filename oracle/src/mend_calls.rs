@@ -73,7 +73,10 @@ pub fn port(list: &List, rooms: &mut Rooms, lent: &[usize]) -> Outcome {
                 fates.len(),
             )
         },
-        (List::Speeds([beats, ratios, delays], units), List::Speeds([out_beats, out_ratios, out_delays], out_units)) => unsafe {
+        (
+            List::Speeds([beats, ratios, delays], units),
+            List::Speeds([out_beats, out_ratios, out_delays], out_units),
+        ) => unsafe {
             let (out_beats, out_ratios) = (&mut out_beats[..lent[0]], &mut out_ratios[..lent[1]]);
             let (out_delays, out_units) = (&mut out_delays[..lent[2]], &mut out_units[..lent[3]]);
             marrighentu_mend_speeds(
@@ -262,7 +265,8 @@ pub fn compare(work: Work, speeds: bool, port: Port) -> Found {
             fates.iter().for_each(|fate| found.fates[usize::from(*fate)] += 1);
             // what is written, mended again, stays as it is
             let again = Asked { list: asked.list.at(&places), lent: vec![places.len(); asked.lent.len()] };
-            let all_kept = again.list.mended() == Mended { places: (0..places.len()).collect(), fates: vec![KEPT; places.len()] };
+            let all_kept =
+                again.list.mended() == Mended { places: (0..places.len()).collect(), fates: vec![KEPT; places.len()] };
             differs = differs || !all_kept || again.differs(port);
         }
         if differs {

@@ -9,9 +9,9 @@ use oracle::charts;
 use oracle::clock::{self, Columns, Cursor};
 use oracle::lookups::{self, Lists};
 use oracle::marked;
-use oracle::notes::{self, Scrolls as ScrollList};
 use oracle::mend::List;
 use oracle::mend_calls::{self, Rooms as MendRooms};
+use oracle::notes::{self, Scrolls as ScrollList};
 use oracle::processing::{self, Format, Rooms, Sm, Ssc};
 use oracle::random::Random;
 use oracle::sheet::{self, Song};
@@ -123,7 +123,9 @@ fn main() {
     ] {
         bench.bench_clock(name, &chart(entries));
     }
-    println!("nanoseconds a call of the port's own: lists in no order, all values apart, mended, and placed one by one");
+    println!(
+        "nanoseconds a call of the port's own: lists in no order, all values apart, mended, and placed one by one"
+    );
     for entries in [16, 256, 1_024] {
         bench.mend(entries);
     }
@@ -776,7 +778,8 @@ impl Bench {
             },
         );
         let speeds = List::Speeds([beats.clone(), order.clone(), room()], vec![0; entries]);
-        let mut rooms = MendRooms { list: List::Speeds([room(), room(), room()], vec![0; entries]), fates: vec![0; entries] };
+        let mut rooms =
+            MendRooms { list: List::Speeds([room(), room(), room()], vec![0; entries]), fates: vec![0; entries] };
         assert_eq!(mend_calls::port(&speeds, &mut rooms, &[entries; 5]).count, entries);
         let list = SpeedColumns { numbers: [beats, order, room()], units: vec![0; entries] };
         let (mut numbers, mut units) = ([room(), room(), room()], vec![0; entries]);

@@ -73,7 +73,9 @@ fn mend_inputs() -> Vec<Vec<u8>> {
     let mut inputs = report::written_out();
     let speed = b"format=ssc\nspeed=4010000000000000,3FF8000000000000,0000000000000000,1\nscroll=0000000000000000,3FF0000000000000\n";
     inputs.extend(report::damaged(speed, random).into_iter().step_by(5));
-    inputs.extend((0..MENDED).map(|turn| report::text(&mend::by_chance(turn, random))).filter(|text| text.len() <= MOST_BYTES));
+    inputs.extend(
+        (0..MENDED).map(|turn| report::text(&mend::by_chance(turn, random))).filter(|text| text.len() <= MOST_BYTES),
+    );
     inputs.extend((0..BY_CHANCE).step_by(5).map(|turn| report::text(&report::by_chance(turn, random))));
     inputs.extend(report::about_the_limit().iter().map(report::text));
     inputs.extend(report::out_of_order().iter().map(report::text));
