@@ -34,7 +34,7 @@ use Rattle.chart.specs.declared.TimingFormat.{TimingFormat}
 use Rattle.chart.specs.ChartColumns.{ListColumns, SpeedColumns, ChartColumns}
 use Rattle.assembly.specs.declared.Assembled.{Assembled}
 use Rattle.assembly.specs.inside.ProcessedPart.{processedPart}
-use Rattle.assembly.specs.Assembly.{listTests, assembledDelays, assembledFakes, othersNumber, othersLater, sevenNumber, processedTogether, processedChart, roomOf, SpeedsWritten, Assembles}
+use Rattle.assembly.specs.Assembly.{listTests, assembledDelays, assembledFakes, othersNumber, othersLater, sevenNumber, processedTogether, processedChart, roomOf, movedBeats, noneMoved, SpeedsWritten, Assembles}
 use Rattle.assembly_rows.specs.declared.Meaning.{Meaning}
 use Rattle.assembly_rows.specs.declared.Meaning.the-variants.{Lengths, Values}
 
@@ -71,7 +71,7 @@ pub same-later : {raw later later′ most : ℕ} {lists : ThreeLists} {outcome :
     → ThreeLaid raw later′ most lists outcome old new
 unfolding verdict
 same-later {raw} {later} {later′} {most} {lists} {outcome} {old} h p =
-    record { number = p .number ∙ go (eqb raw 0) (eqb-true raw 0); temposLaid = p .temposLaid; stopsLaid = p .stopsLaid; warpsLaid = p .warpsLaid; offsetIs = p .offsetIs }
+    record { number = p .number ∙ go (eqb raw 0) (eqb-true raw 0); temposLaid = p .temposLaid; stopsLaid = p .stopsLaid; warpsLaid = p .warpsLaid; offsetIs = p .offsetIs; warpsMoved = p .warpsMoved }
   where
     go : (t : Bool) → (t ≡ true → raw ≡ 0)
         → pick t (pick (leb (length (lists .warps)) (min most 1024)) (lower later (roomsNumber lists old)) 1) raw
@@ -130,12 +130,20 @@ module _ (delay : ListColumns) (speed : SpeedColumns) (scroll fake : ListColumns
         record { delaysFit = three .0; speedsFit = three .1; scrollsFit = two .1; fakesFit = one .1 }
 
 -- a row list that is taken and fits
+rows-pair : (meaning : Meaning) (beats values : List Float) {outcome : Outcome} {beatsOld beatsNew valuesOld valuesNew : List Float} → listTests beats values ≡ 0
+    → RowsUntested meaning beats values outcome beatsOld beatsNew valuesOld valuesNew
+    → LaidPair 0 (assembledRows (changeBy meaning) beats values) outcome beatsOld beatsNew valuesOld valuesNew
+rows-pair meaning beats values taken q = rw (quantized-taken beats values meaning taken) at (untested-taken beats values meaning taken q)
+
+pub rows-number : (meaning : Meaning) (beats values : List Float) {outcome : Outcome} {beatsOld beatsNew valuesOld valuesNew : List Float} → listTests beats values ≡ 0 → fitNumber (assembledRows (changeBy meaning) beats values) (roomFor beatsOld valuesOld) ≡ 0
+    → RowsUntested meaning beats values outcome beatsOld beatsNew valuesOld valuesNew
+    → outcome .number ≡ 0
+rows-number meaning beats values taken fit q = rows-pair meaning beats values taken q .number ∙ fit
+
 pub rows-laid : (meaning : Meaning) (beats values : List Float) {outcome : Outcome} {beatsOld beatsNew valuesOld valuesNew : List Float} → listTests beats values ≡ 0 → fitNumber (assembledRows (changeBy meaning) beats values) (roomFor beatsOld valuesOld) ≡ 0
     → RowsUntested meaning beats values outcome beatsOld beatsNew valuesOld valuesNew
     → LaidList 0 (assembledRows (changeBy meaning) beats values) (outcome .count) beatsOld beatsNew valuesOld valuesNew
-rows-laid meaning beats values {outcome} {beatsOld} {beatsNew} {valuesOld} {valuesNew} taken fit q =
-    let q′ : LaidPair 0 (assembledRows (changeBy meaning) beats values) outcome beatsOld beatsNew valuesOld valuesNew = rw (quantized-taken beats values meaning taken) at (untested-taken beats values meaning taken q) in
-    list-of-pair q′ (q′ .number ∙ fit)
+rows-laid meaning beats values taken fit q = list-of-pair (rows-pair meaning beats values taken q) (rows-number meaning beats values taken fit q)
 
 -- ---- what tempos, stops and warps answer is the number of all
 
@@ -147,13 +155,14 @@ module _ (three other′ later′ : ℕ) {other later most : ℕ} {lists : Three
 
 module _ {raw later most : ℕ} {lists : ThreeLists} {outcome : AssembledTempos} {old new : ThreeColumns}
     (p : ThreeLaid raw later most lists outcome old new) (taken : outcome .number ≡ 0) where
-  pub taken-part : ThreeLaid raw later most lists (record { number = 0; tempos = outcome .tempos; stops = outcome .stops; warps = outcome .warps; offset = outcome .offset }) old new
+  pub taken-part : ThreeLaid raw later most lists (record { number = 0; tempos = outcome .tempos; stops = outcome .stops; warps = outcome .warps; offset = outcome .offset; moved = outcome .moved }) old new
   taken-part = record {
     number = sym taken ∙ p .number;
     temposLaid = rw taken at (p .temposLaid);
     stopsLaid = rw taken at (p .stopsLaid);
     warpsLaid = rw taken at (p .warpsLaid);
     offsetIs = rw taken at (p .offsetIs);
+    warpsMoved = rw taken at (p .warpsMoved);
   }
 
   pub all-passed : (raw ≡ 0) × (later ≡ 0)
@@ -172,8 +181,9 @@ pub assembles : {most : ℕ} {format : TimingFormat} {raw : ChartColumns} {outco
     → SpeedsWritten (outcome .number) (assembledSpeeds (raw .speeds)) (outcome .speeds) (old .speeds) (new .speeds)
     → ListWritten (outcome .number) (assembledScrolls (raw .scrolls .beats) (raw .scrolls .values)) (outcome .scrolls) (old .scrolls) (new .scrolls)
     → ListWritten (outcome .number) (assembledFakes (raw .fakes .beats) (raw .fakes .values)) (outcome .fakes) (old .fakes) (new .fakes)
+    → outcome .moved ≡ pick (eqb (outcome .number) 0) (movedBeats format raw) noneMoved
     → Assembles most format raw outcome old new
-assembles three delays speeds scrolls fakes = record {
+assembles three delays speeds scrolls fakes moved = record {
   numberIs = three .number;
   temposAre = three .temposLaid;
   stopsAre = three .stopsLaid;
@@ -183,4 +193,5 @@ assembles three delays speeds scrolls fakes = record {
   scrollsAre = scrolls;
   fakesAre = fakes;
   offsetIs = three .offsetIs;
+  movedAre = moved;
 }

@@ -1,4 +1,4 @@
--- What is said of an assembled chart leaves one outcome: the number, the seven counts and the offset, and all rooms to their last place. Assumes nothing.
+-- What is said of an assembled chart leaves one outcome: the number, the seven counts, the offset and the entries off the grid, and all rooms to their last place. Assumes nothing.
 use Prim.Native.Nat.{ℕ}
 use mathlib.Core.Path.{_≡_, sym, _∙_}
 use mathlib.Core.List.{List}
@@ -25,7 +25,8 @@ one-outcome {a = a} {b = b} x y =
     let speeds = one-speeds (x .speedsAre) (rw (sym number) at (y .speedsAre)) in
     let scrolls = one-list (x .scrollsAre) (rw (sym number) at (y .scrollsAre)) in
     let fakes = one-list (x .fakesAre) (rw (sym number) at (y .fakesAre)) in
-    let offset = x .offsetIs ∙ sym (rw (sym number) at (y .offsetIs)) in (
+    let offset = x .offsetIs ∙ sym (rw (sym number) at (y .offsetIs)) in
+    let moved = x .movedAre ∙ sym (rw (sym number) at (y .movedAre)) in (
       λ i. record {
         number = number i;
         tempos = tempos .0 i;
@@ -36,6 +37,7 @@ one-outcome {a = a} {b = b} x y =
         scrolls = scrolls .0 i;
         fakes = fakes .0 i;
         offset = offset i;
+        moved = moved i;
       },
       λ i. record {
         tempos = record { beats = tempos .1 i; values = tempos .2 i };

@@ -1,5 +1,5 @@
 -- Assembly of the seven lists. Definitions only.
-use Prim.Native.Nat.{ℕ}
+use Prim.Native.Nat.{ℕ, _+_}
 use mathlib.Core.Bool.{true, false}
 use mathlib.Core.List.{List}
 use mathlib.Core.Path.{_≡_}
@@ -12,14 +12,16 @@ use Rattle.ieee.specs.Narrowing.{narrow}
 use Rattle.limits.specs.declared.Kind.the-variants.{Beat, Value}
 use Rattle.limits.specs.Numbers.{rangeOf}
 use Rattle.limits.specs.Refusals.{lower, listNumber}
-use Rattle.order.specs.Entries.{first}
+use Rattle.order.specs.Entries.{entries, first}
 use Rattle.columns.specs.Laying.{given, columnLaid}
+use Rattle.columns_each.specs.OffGrid.{movedOf, always}
 use Rattle.chart.specs.declared.TimingFormat.{TimingFormat}
 use Rattle.chart.specs.ChartColumns.{ListColumns, SpeedColumns, ChartColumns, ChartRoom}
-use Rattle.tidy_speeds_entries.specs.Speed.{SpeedEntry}
+use Rattle.tidy_speeds_entries.specs.Speed.{SpeedEntry, speedEntries}
 use Rattle.tidy_speeds_entries.specs.LaidSpeeds.{ratioOf, delayOf, unitOf, leastOf}
 use Rattle.tidy_speeds.specs.SpeedTidying.{speedListNumber}
 use Rattle.process.specs.ByFormat.{ThreeLists}
+use Rattle.assembly_moved.specs.MovedRaw.{movedRaw}
 use Rattle.assembly_rows.specs.AssembledRows.{changeBy, assembledRows}
 use Rattle.assembly_scrolls.specs.AssembledScrolls.{assembledScrolls, scrollsRoomNumber}
 use Rattle.assembly_speeds.specs.AssembledSpeeds.{assembledSpeeds, speedsRoomNumber}
@@ -28,6 +30,7 @@ use Rattle.assembly_warps.specs.MergedWarps.{threeNumber, mergedLists}
 use Rattle.process_raw.specs.RawLists.{listRoom}
 use Rattle.assembly_tempos.specs.AssembledTempos.{assembledTempos, assembledStops, assembledWarps, fitNumber, verdict, threeRooms, ListWritten}
 use Rattle.assembly.specs.declared.Assembled.{Assembled}
+use Rattle.assembly.specs.declared.MovedBeats.{MovedBeats}
 use Rattle.assembly_rows.specs.declared.Meaning.the-variants.{Lengths, Values}
 
 -- ---- the lists
@@ -100,6 +103,32 @@ roomOf rooms = record {
   fakes = listRoom (rooms .fakes);
 }
 
+-- ---- entries off the grid, by their beats as they were given
+
+-- of a list of which every entry stays
+abbrev pub movedList : ListColumns → ℕ
+movedList list = movedOf always first (entries (list .beats) (list .values))
+
+-- Of tempos and stops what the format keeps counts, of the other lists every entry that is given. So warps that are made do not count, and entries that tidying
+-- loses do.
+abbrev pub movedBeats : TimingFormat → ChartColumns → MovedBeats
+movedBeats format raw = record {
+  tempos = movedRaw format (raw .tempos .beats) (raw .tempos .values);
+  stops = movedRaw format (raw .stops .beats) (raw .stops .values);
+  delays = movedList (raw .delays);
+  warps = movedList (raw .warps);
+  speeds = movedOf always first (speedEntries (raw .speeds .beats) (raw .speeds .ratios) (raw .speeds .delays) (raw .speeds .units));
+  scrolls = movedList (raw .scrolls);
+  fakes = movedList (raw .fakes);
+}
+
+abbrev pub noneMoved : MovedBeats
+noneMoved = record { tempos = 0; stops = 0; delays = 0; warps = 0; speeds = 0; scrolls = 0; fakes = 0 }
+
+-- of all lists together
+abbrev pub movedTotal : MovedBeats → ℕ
+movedTotal moved = moved .tempos + moved .stops + moved .delays + moved .warps + moved .speeds + moved .scrolls + moved .fakes
+
 -- ---- the outcome
 
 -- One list of four columns of a call that has several lists, under the call's one number: its count, and the four rooms to their last place.
@@ -110,7 +139,8 @@ pub record SpeedsWritten (number : ℕ) (result : List SpeedEntry) (count : ℕ)
   pub delaysAre : new .delays ≡ columnLaid delayOf number result (old .delays)
   pub unitsAre : new .units ≡ columnLaid unitOf number result (old .units)
 
--- THE CALL: of a raw chart and the rooms as they were, the one outcome and the rooms as they are left. After a refusal no list has an entry, and the offset is 0.
+-- THE CALL: of a raw chart and the rooms as they were, the one outcome and the rooms as they are left. After a refusal no list has an entry, the
+-- offset is 0, and nothing is counted.
 pub record Assembles (most : ℕ) (format : TimingFormat) (raw : ChartColumns) (outcome : Assembled) (old new : ChartColumns) : Type 0 where
   pub numberIs : outcome .number ≡ assemblyNumber most format raw (roomOf old)
   pub temposAre : ListWritten (outcome .number) (assembledTempos (processedChart format raw)) (outcome .tempos) (old .tempos) (new .tempos)
@@ -121,3 +151,4 @@ pub record Assembles (most : ℕ) (format : TimingFormat) (raw : ChartColumns) (
   pub scrollsAre : ListWritten (outcome .number) (assembledScrolls (raw .scrolls .beats) (raw .scrolls .values)) (outcome .scrolls) (old .scrolls) (new .scrolls)
   pub fakesAre : ListWritten (outcome .number) (assembledFakes (raw .fakes .beats) (raw .fakes .values)) (outcome .fakes) (old .fakes) (new .fakes)
   pub offsetIs : outcome .offset ≡ pick (eqb (outcome .number) 0) (narrow (processedChart format raw .offset)) plusZero
+  pub movedAre : outcome .moved ≡ pick (eqb (outcome .number) 0) (movedBeats format raw) noneMoved

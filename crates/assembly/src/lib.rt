@@ -4,9 +4,35 @@ use chart::TimingFormat;
 use limits::Kind;
 ghost use mathlib.Core.Path.{_≡_};
 ghost use Rattle.chart.specs.ChartColumns.{listColumns, speedColumns, lentColumns, lentSpeeds, LentChart, before, after};
-ghost use Rattle.assembly.specs.Assembly.{othersNumber, othersLater, Assembles};
+ghost use Rattle.assembly.specs.Assembly.{othersNumber, othersLater, movedTotal, Assembles};
 
-// The refusal number, 0 where all lists are taken, how many entries of each list were written, and the seconds that beat 0 is moved by.
+// Of each list, how many of its raw entries were off the grid.
+#[repr(C)]
+pub struct MovedBeats {
+    pub tempos: u32,
+    pub stops: u32,
+    pub delays: u32,
+    pub warps: u32,
+    pub speeds: u32,
+    pub scrolls: u32,
+    pub fakes: u32,
+}
+
+// Of all lists together.
+pub fn total_moved(moved: MovedBeats) -> u64
+    ensures { λ r. ⌜ r ≡ movedTotal moved ⌝ }
+{
+    (moved.tempos as u64)
+        + (moved.stops as u64)
+        + (moved.delays as u64)
+        + (moved.warps as u64)
+        + (moved.speeds as u64)
+        + (moved.scrolls as u64)
+        + (moved.fakes as u64)
+}
+
+// The refusal number, 0 where all lists are taken, how many entries of each list were written, the seconds that beat 0 is moved by, and how many raw entries
+// were off the grid.
 #[repr(C)]
 pub struct Assembled {
     pub number: u32,
@@ -18,6 +44,7 @@ pub struct Assembled {
     pub scrolls: usize,
     pub fakes: usize,
     pub offset: f32,
+    pub moved: MovedBeats,
 }
 
 // ---- the lists that are not processed
@@ -232,6 +259,15 @@ pub fn compute_timing_segments(
             scrolls: 0,
             fakes: 0,
             offset: processed.offset,
+            moved: MovedBeats {
+                tempos: 0,
+                stops: 0,
+                delays: 0,
+                warps: processed.moved,
+                speeds: 0,
+                scrolls: 0,
+                fakes: 0,
+            },
         };
     }
     let delays = assembly_rows::assemble_untested(
@@ -264,15 +300,26 @@ pub fn compute_timing_segments(
         out_fake_beats,
         out_fake_lengths,
     );
+    let tempos_moved = assembly_moved::count_moved(format, tempo_beats, tempo_values);
+    let stops_moved = assembly_moved::count_moved(format, stop_beats, stop_values);
     Assembled {
         number: limits::TAKEN,
         tempos: processed.tempos,
         stops: processed.stops,
-        delays: delays.count,
+        delays: delays.outcome.count,
         warps: processed.warps,
-        speeds: speeds.count,
-        scrolls: scrolls.count,
-        fakes: fakes.count,
+        speeds: speeds.outcome.count,
+        scrolls: scrolls.outcome.count,
+        fakes: fakes.outcome.count,
         offset: processed.offset,
+        moved: MovedBeats {
+            tempos: tempos_moved,
+            stops: stops_moved,
+            delays: delays.moved,
+            warps: processed.moved,
+            speeds: speeds.moved,
+            scrolls: scrolls.moved,
+            fakes: fakes.moved,
+        },
     }
 }

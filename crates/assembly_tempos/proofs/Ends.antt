@@ -2,12 +2,15 @@
 use Prim.Native.Nat.{ℕ, _≤_, _<_, min}
 use mathlib.Core.Path.{_≡_, refl, sym, ap, _∙_}
 use borrow.Author.Tests.{eq-eqb, ne-eqb, le-leb, lt-leb}
+use mathlib.Core.List.{map}
 use lib.ListN.{length}
 use lib.Ieee.{Float}
 use native.Mathlib.Omega.{arith}
 use Rattle.ieee.specs.Narrowing.{narrow}
 use Rattle.limits.specs.Refusals.{lower}
+use Rattle.order.specs.Entries.{first}
 use Rattle.columns.proofs.Rooms.{list-refused}
+use Rattle.columns_each.specs.OffGrid.{movedIn}
 use Rattle.process.specs.ByFormat.{ThreeLists}
 use Rattle.process_raw.specs.LentLists.{ThreeColumns}
 use Rattle.assembly_tempos.specs.AssembledTempos.{assembledTempos, assembledStops, assembledWarps, verdict, roomsNumber, ListWritten, ThreeLaid}
@@ -30,7 +33,7 @@ module _ (raw later most : ℕ) (lists : ThreeLists) {old : ThreeColumns} where
   refused : {number : ℕ} → (number ≡ 0 → ⊥)
       → number ≡ verdict raw (length (lists .warps)) most (lower later (roomsNumber lists old))
       → ThreeLaid raw later most lists (nothingAssembled number) old old
-  refused {number} h e = record { number = e; temposLaid = list-refused h; stopsLaid = list-refused h; warpsLaid = list-refused h; offsetIs = rw (ne-eqb number 0 h) }
+  refused {number} h e = record { number = e; temposLaid = list-refused h; stopsLaid = list-refused h; warpsLaid = list-refused h; offsetIs = rw (ne-eqb number 0 h); warpsMoved = rw (ne-eqb number 0 h) }
 
   pub raw-refused : (raw ≡ 0 → ⊥)
       → ThreeLaid raw later most lists (nothingAssembled raw) old old
@@ -46,11 +49,12 @@ module _ (raw later most : ℕ) (lists : ThreeLists) {old : ThreeColumns} where
   later-refused h l e some = refused some (e ∙ by-later raw _ most _ h l)
 
   module _ {new : ThreeColumns} where
-    pub all-laid : {tempos stops warps : ℕ} {offset : Float} → raw ≡ 0 → length (lists .warps) ≤ min most 1024
+    pub all-laid : {tempos stops warps moved : ℕ} {offset : Float} → raw ≡ 0 → length (lists .warps) ≤ min most 1024
         → lower later (roomsNumber lists old) ≡ 0
         → ListWritten 0 (assembledTempos lists) tempos (old .tempos) (new .tempos)
         → ListWritten 0 (assembledStops lists) stops (old .stops) (new .stops)
         → ListWritten 0 (assembledWarps lists) warps (old .warps) (new .warps)
         → offset ≡ narrow (lists .offset)
-        → ThreeLaid raw later most lists (record { number = 0; tempos = tempos; stops = stops; warps = warps; offset = offset }) old new
-    all-laid h l e t s w o = record { number = sym e ∙ by-later raw _ most _ h l; temposLaid = t; stopsLaid = s; warpsLaid = w; offsetIs = o }
+        → moved ≡ movedIn (map first (lists .warps))
+        → ThreeLaid raw later most lists (record { number = 0; tempos = tempos; stops = stops; warps = warps; offset = offset; moved = moved }) old new
+    all-laid h l e t s w o m = record { number = sym e ∙ by-later raw _ most _ h l; temposLaid = t; stopsLaid = s; warpsLaid = w; offsetIs = o; warpsMoved = m }

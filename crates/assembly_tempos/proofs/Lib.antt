@@ -3,4 +3,5 @@ pub mod RowsFit
 pub mod Ends
 pub mod ProcessedColumns
 pub mod WorkColumns
+pub mod MadeWarps
 pub mod OneOutcome

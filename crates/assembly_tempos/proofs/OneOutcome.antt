@@ -1,4 +1,4 @@
--- What is said of tempos, stops and warps assembled leaves one outcome: the number, of each list its count and its rooms, and the offset. Assumes nothing.
+-- What is said of tempos, stops and warps assembled leaves one outcome: the number, of each list its count and its rooms, the offset, and the warps off the grid. Assumes nothing.
 use Prim.Native.Nat.{ℕ}
 use mathlib.Core.Path.{_≡_, sym}
 use Rattle.columns.proofs.OneOutcome.{one-list}
@@ -15,6 +15,6 @@ one-outcome {a = a} {b = b} {newA = newA} {newB = newB} x y =
     let tempos = one-list (x .temposLaid) (rw (sym number) at (y .temposLaid)) in
     let stops = one-list (x .stopsLaid) (rw (sym number) at (y .stopsLaid)) in
     let warps = one-list (x .warpsLaid) (rw (sym number) at (y .warpsLaid)) in
-    let same : _≡_ {A = AssembledTempos} (record { number = a .number; tempos = a .tempos; stops = a .stops; warps = a .warps; offset = a .offset }) (record { number = b .number; tempos = b .tempos; stops = b .stops; warps = b .warps; offset = b .offset }) = cc in
+    let same : _≡_ {A = AssembledTempos} (record { number = a .number; tempos = a .tempos; stops = a .stops; warps = a .warps; offset = a .offset; moved = a .moved }) (record { number = b .number; tempos = b .tempos; stops = b .stops; warps = b .warps; offset = b .offset; moved = b .moved }) = cc in
     let rooms : eachColumn newA ≡ eachColumn newB = cc in
     (same, rooms)

@@ -21,6 +21,7 @@ use Rattle.columns.specs.Laying.{roomNumber, LaidPair, LaidList}
 use Rattle.columns.specs.Each.{laidEach}
 use Rattle.columns.proofs.Rooms.{list-laid, list-of-pair}
 use Rattle.columns.proofs.EachOverFront.{each-over-front}
+use Rattle.columns_each.specs.OffGrid.{movedIn, movedUnder}
 use Rattle.process_raw.specs.RawLists.{roomFor}
 use Rattle.process_raw.specs.LentLists.{ThreeColumns}
 use Rattle.assembly_rows.specs.AssembledRows.{narrowedEntry, changeBy, assembledRows, RowsUntested, rowsFit}
@@ -93,13 +94,18 @@ module _ (columns : ThreeColumns) (offset : Float) (p : Processed columns) where
         rw stops-are (rw (quantized-taken (columns .stops .beats) (columns .stops .values) Values (p .stops)) at (untested-taken (columns .stops .beats) (columns .stops .values) Values (p .stops) q)) in
         list-of-pair q′ (q′ .number ∙ fit)
 
-    pub warps-laid : {outcome : Outcome} → length (columns .warps .beats) ≤ 1024 → fitNumber (assembledWarps (listsOf columns offset)) (roomFor firstOld secondOld) ≡ 0
-        → RowsUntested Lengths (columns .warps .beats) (columns .warps .values) outcome firstOld firstNew secondOld secondNew
-        → LaidList 0 (assembledWarps (listsOf columns offset)) (outcome .count) firstOld firstNew secondOld secondNew
-    warps-laid {outcome} few fit q =
-        let q′ : LaidPair 0 (assembledWarps (listsOf columns offset)) outcome firstOld firstNew secondOld secondNew =
-        rw warps-are (rw (quantized-taken (columns .warps .beats) (columns .warps .values) Lengths (p .warps few)) at (untested-taken (columns .warps .beats) (columns .warps .values) Lengths (p .warps few) q)) in
-        list-of-pair q′ (q′ .number ∙ fit)
+    module _ {outcome : Outcome} (few : length (columns .warps .beats) ≤ 1024) (fit : fitNumber (assembledWarps (listsOf columns offset)) (roomFor firstOld secondOld) ≡ 0)
+        (q : RowsUntested Lengths (columns .warps .beats) (columns .warps .values) outcome firstOld firstNew secondOld secondNew) where
+      warps-pair : LaidPair 0 (assembledWarps (listsOf columns offset)) outcome firstOld firstNew secondOld secondNew
+      warps-pair = rw warps-are (rw (quantized-taken (columns .warps .beats) (columns .warps .values) Lengths (p .warps few)) at (untested-taken (columns .warps .beats) (columns .warps .values) Lengths (p .warps few) q))
+
+      pub warps-laid : LaidList 0 (assembledWarps (listsOf columns offset)) (outcome .count) firstOld firstNew secondOld secondNew
+      warps-laid = list-of-pair warps-pair (warps-pair .number ∙ fit)
+
+      pub warps-moved : {moved : ℕ} → moved ≡ movedUnder (outcome .number) (movedIn (columns .warps .beats)) → moved ≡ movedIn (map first (listsOf columns offset .warps))
+      warps-moved e =
+          e ∙ ap (λ (n : ℕ). movedUnder n (movedIn (columns .warps .beats))) (warps-pair .number ∙ fit)
+          ∙ ap movedIn (sym (first-entries (columns .warps .beats) (columns .warps .values) (p .even)))
 
 pub record AllFit (later tempos stops warps : ℕ) : Type 0 where
   pub tempoFit : tempos ≡ 0

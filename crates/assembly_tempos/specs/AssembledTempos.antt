@@ -13,6 +13,7 @@ use Rattle.ieee.specs.Narrowing.{narrow}
 use Rattle.limits.specs.Refusals.{lower}
 use Rattle.order.specs.Entries.{first, second}
 use Rattle.columns.specs.Laying.{roomNumber, LaidList}
+use Rattle.columns_each.specs.OffGrid.{movedIn, movedUnder}
 use Rattle.tidy_rows.specs.RowTidying.{tidyRows}
 use Rattle.chart.specs.ChartColumns.{ListColumns}
 use Rattle.process_raw.specs.RawLists.{listRoom}
@@ -60,10 +61,12 @@ roomsNumber lists rooms = threeRooms lists (listRoom (rooms .tempos)) (listRoom 
 abbrev pub ListWritten : (number : ℕ) (result : List (Float × Float)) (count : ℕ) (old new : ListColumns) → Type 0
 ListWritten number result count old new = LaidList number result count (old .beats) (new .beats) (old .values) (new .values)
 
--- The number of all lists, of which `raw` and `later` are known; under it the three lists, and the offset, which is 0 after a refusal.
+-- The number of all lists, of which `raw` and `later` are known; under it the three lists, the offset, which is 0 after a refusal, and how many warps were off the
+-- grid, which none is then.
 pub record ThreeLaid (raw later most : ℕ) (lists : ThreeLists) (outcome : AssembledTempos) (old new : ThreeColumns) : Type 0 where
   pub number : outcome .number ≡ verdict raw (length (lists .warps)) most (lower later (roomsNumber lists old))
   pub temposLaid : ListWritten (outcome .number) (assembledTempos lists) (outcome .tempos) (old .tempos) (new .tempos)
   pub stopsLaid : ListWritten (outcome .number) (assembledStops lists) (outcome .stops) (old .stops) (new .stops)
   pub warpsLaid : ListWritten (outcome .number) (assembledWarps lists) (outcome .warps) (old .warps) (new .warps)
   pub offsetIs : outcome .offset ≡ pick (eqb (outcome .number) 0) (narrow (lists .offset)) plusZero
+  pub warpsMoved : outcome .moved ≡ movedUnder (outcome .number) (movedIn (map first (lists .warps)))

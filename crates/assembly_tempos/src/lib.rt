@@ -21,7 +21,8 @@ ghost use Rattle.assembly_tempos.specs.AssembledTempos.{threeRooms, Thre
 ghost use Rattle.assembly_tempos.specs.inside.Refusal.{nothingAssembled};
 ghost use Rattle.assembly_tempos.specs.inside.ProcessedColumns.{heldF32, Held, Processed, listsOf, WorkRooms};
 
-// The refusal number of all lists, 0 where they are taken, how many entries of each list were written, and the seconds that beat 0 is moved by.
+// The refusal number of all lists, 0 where they are taken, how many entries of each list were written, the seconds that beat 0 is moved by, and how many warps
+// were off the grid.
 #[repr(C)]
 pub struct AssembledTempos {
     pub number: u32,
@@ -29,6 +30,7 @@ pub struct AssembledTempos {
     pub stops: usize,
     pub warps: usize,
     pub offset: f32,
+    pub moved: u32,
 }
 
 fn refused(number: u32) -> AssembledTempos
@@ -40,6 +42,7 @@ fn refused(number: u32) -> AssembledTempos
         stops: 0,
         warps: 0,
         offset: 0.0,
+        moved: 0,
     }
 }
 
@@ -129,7 +132,7 @@ fn assemble_stops(
             Meaning::Values,
             out_beats,
             out_values,
-        );
+        ).outcome;
     }
     if columns_order::rise(beats) {
         cast_column(beats, out_beats);
@@ -139,7 +142,7 @@ fn assemble_stops(
             count: beats.len(),
         };
     }
-    assembly_rows::assemble_untested(beats, values, Meaning::Values, out_beats, out_values)
+    assembly_rows::assemble_untested(beats, values, Meaning::Values, out_beats, out_values).outcome
 }
 
 // ---- the three lists
@@ -214,8 +217,9 @@ fn lay_lists(
         number: limits::TAKEN,
         tempos: tempo_beats.len(),
         stops: stops.count,
-        warps: warps.count,
+        warps: warps.outcome.count,
         offset: ieee::narrow_f64(offset),
+        moved: warps.moved,
     }
 }
 

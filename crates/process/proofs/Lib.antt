@@ -4,5 +4,6 @@ pub mod ChangesF32
 pub mod StopsOnRows
 pub mod TemposOnGrid
 pub mod TidiedOnGrid
+pub mod WarpsOnGrid
 pub mod ValuesF32
 pub mod ListsTaken

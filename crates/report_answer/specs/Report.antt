@@ -7,5 +7,5 @@ use Rattle.picks.specs.Pick.{pick}
 use Rattle.chart.specs.ChartColumns.{ChartColumns, ChartRoom}
 use Rattle.report_text.specs.Output.{answerLine, listsText, frontLists}
 
-unfoldable pub doneText : (number : ℕ) → Float → (warped : ℕ) → (counts : ChartRoom) → ChartColumns → List ℕ
-doneText number offset warped counts lists = answerLine number ++ pick (eqb number 0) (listsText offset warped (frontLists counts lists)) []
+unfoldable pub doneText : (number : ℕ) → Float → (warped moved : ℕ) → (counts : ChartRoom) → ChartColumns → List ℕ
+doneText number offset warped moved counts lists = answerLine number ++ pick (eqb number 0) (listsText offset warped moved (frontLists counts lists)) []

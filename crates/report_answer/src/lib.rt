@@ -18,12 +18,13 @@ pub fn front_units(column: &[u8], count: usize) -> &[u8]
 }
 
 // Writes the answer from the page's first byte on: assembly's number, and where that is 0 the offset, the first entries of each list, as
-// many as are counted, and the rows that are warped. Answers how many bytes it has. A page of 45,400 bytes holds every answer of lists of 256 entries.
+// many as are counted, the rows that are warped, and how many entries were off the grid. Answers how many bytes it has. A page of 45,400 bytes holds every answer of lists of 256 entries.
 pub fn write_answer(
     page: &mut [u8],
     number: u32,
     offset: f32,
     warped: u64,
+    moved: u64,
     tempos: usize,
     stops: usize,
     delays: usize,
@@ -67,7 +68,7 @@ pub fn write_answer(
           scrolls = scrolls;
           fakes = fakes;
         } in
-        ⌜ Wrote (doneText number offset warped counts (before lists)) 0 r page.entry.now page.exit.now ⌝ }
+        ⌜ Wrote (doneText number offset warped moved counts (before lists)) 0 r page.entry.now page.exit.now ⌝ }
     ensures { λ r. ⌜ Counts r page.exit.now ⌝ }
 {
     let at = report_text::put_answer(page, 0, number);
@@ -90,7 +91,8 @@ pub fn write_answer(
     );
     let at = report_text::put_pairs(page, at, b"scroll=", scrolls, scroll_beats, scroll_values);
     let at = report_text::put_pairs(page, at, b"fake=", fakes, fake_beats, fake_lengths);
-    report_text::put_warped(page, at, warped)
+    let at = report_text::put_warped(page, at, warped);
+    report_text::put_moved(page, at, moved)
 }
 
 // Writes the answer line of a refusal, from the page's first byte on, and answers how many bytes it has.

@@ -10,7 +10,7 @@ use Rattle.chart.specs.ChartColumns.{ChartColumns}
 use Rattle.report_form.specs.Text.{bpm, stop, delay, warp, scroll, fake}
 use Rattle.text_page.specs.Digits.{decimalText}
 use Rattle.text_page.proofs.DigitSizes.{decimal-size}
-use Rattle.report_text.specs.Output.{number, answerLine, offsetLine, named, pairLine, pairLines, speedLine, speedLines, warpedLine, listsText}
+use Rattle.report_text.specs.Output.{number, answerLine, offsetLine, named, pairLine, pairLines, speedLine, speedLines, warpedLine, movedLine, listsText}
 
 -- at most 256 entries in each list
 pub record FewEach (lists : ChartColumns) : Type 0 where
@@ -46,6 +46,10 @@ warped-size : (rows : ℕ) → length (warpedLine rows) ≤ 28
 unfolding warpedLine
 warped-size rows = omega (arith, line-size (119 ∷ 97 ∷ 114 ∷ 112 ∷ 101 ∷ 100 ∷ 61 ∷ []) (decimalText rows), decimal-size 20 rows)
 
+moved-size : (moved : ℕ) → length (movedLine moved) ≤ 27
+unfolding movedLine
+moved-size moved = omega (arith, line-size (109 ∷ 111 ∷ 118 ∷ 101 ∷ 100 ∷ 61 ∷ []) (decimalText moved), decimal-size 20 moved)
+
 pair-size : (word : List ℕ) (beat value : Float) → length (pairLine word beat value) ≡ length word + 18
 unfolding pairLine
 pair-size word beat value = simp length-append (omega (arith, number-size beat, number-size value))
@@ -71,9 +75,9 @@ speeds-size (beat ∷ beats) (ratio ∷ ratios) (wait ∷ waits) (unit ∷ units
     simp length-append (omega (arith, speed-size beat ratio wait unit, speeds-size beats ratios waits units))
 
 -- lists of 256 entries at most
-pub lists-size : (offset : Float) (warped : ℕ) (lists : ChartColumns) → FewEach lists → length (listsText offset warped lists) ≤ 44844
+pub lists-size : (offset : Float) (warped moved : ℕ) (lists : ChartColumns) → FewEach lists → length (listsText offset warped moved lists) ≤ 44871
 unfolding listsText
-lists-size offset warped lists few =
+lists-size offset warped moved lists few =
     simp length-append
     (omega (
       arith,
@@ -93,4 +97,5 @@ lists-size offset warped lists few =
       pairs-size (named scroll) (lists .scrolls .beats) (lists .scrolls .values),
       pairs-size (named fake) (lists .fakes .beats) (lists .fakes .values),
       warped-size warped,
+      moved-size moved,
     ))

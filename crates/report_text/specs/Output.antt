@@ -50,6 +50,10 @@ speedLines (beat ∷ beats) (ratio ∷ ratios) (wait ∷ waits) (unit ∷ units)
 unfoldable pub warpedLine : ℕ → List ℕ
 warpedLine rows = (119 ∷ 97 ∷ 114 ∷ 112 ∷ 101 ∷ 100 ∷ 61 ∷ []) ++ (decimalText rows ++ (10 ∷ []))
 
+-- moved=, the entries that were off the grid
+unfoldable pub movedLine : ℕ → List ℕ
+movedLine moved = (109 ∷ 111 ∷ 118 ∷ 101 ∷ 100 ∷ 61 ∷ []) ++ (decimalText moved ++ (10 ∷ []))
+
 -- the lines of a list of two columns, and of the speeds
 abbrev pub listLines : Pair → ListColumns → List ℕ
 listLines kind list = pairLines (named kind) (list .beats) (list .values)
@@ -57,9 +61,9 @@ listLines kind list = pairLines (named kind) (list .beats) (list .values)
 abbrev pub allSpeeds : SpeedColumns → List ℕ
 allSpeeds speeds = speedLines (speeds .beats) (speeds .ratios) (speeds .delays) (speeds .units)
 
--- THE LISTS: offset, the seven lists in order, warped rows
-unfoldable pub listsText : Float → (warped : ℕ) → ChartColumns → List ℕ
-listsText offset warped lists =
+-- THE LISTS: offset, the seven lists in order, warped rows, entries off the grid
+unfoldable pub listsText : Float → (warped moved : ℕ) → ChartColumns → List ℕ
+listsText offset warped moved lists =
     offsetLine offset
     ++ (listLines bpm (lists .tempos)
     ++ (listLines stop (lists .stops)
@@ -68,7 +72,8 @@ listsText offset warped lists =
     ++ (allSpeeds (lists .speeds)
     ++ (listLines scroll (lists .scrolls)
     ++ (listLines fake (lists .fakes)
-    ++ warpedLine warped)))))))
+    ++ (warpedLine warped
+    ++ movedLine moved))))))))
 
 -- ---- the first entries of a list, and of each list as many as are counted
 abbrev pub frontList : ℕ → ListColumns → ListColumns

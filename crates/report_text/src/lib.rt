@@ -5,7 +5,7 @@ ghost use lib.ListN.{take};
 ghost use lib.Ieee.{toBits, binary32};
 ghost use Rattle.text_page.specs.Page.{Wrote};
 ghost use Rattle.text_page.specs.Digits.{decimalText};
-ghost use Rattle.report_text.specs.Output.{number, answerLine, offsetLine, pairLine, pairLines, speedLine, speedLines, warpedLine};
+ghost use Rattle.report_text.specs.Output.{number, answerLine, offsetLine, pairLine, pairLines, speedLine, speedLines, warpedLine, movedLine};
 
 // A number by its pattern, and the byte that ends it.
 fn put_number(page: &mut [u8], at: usize, x: f32, end: u8) -> usize
@@ -127,4 +127,12 @@ pub fn put_warped(page: &mut [u8], at: usize, rows: u64) -> usize
 {
     let at = text_page::put_bytes(page, at, b"warped=");
     put_decimal(page, at, rows)
+}
+
+// The line of how many entries were off the grid.
+pub fn put_moved(page: &mut [u8], at: usize, moved: u64) -> usize
+    ensures { λ r. ⌜ Wrote (movedLine moved) at r page.entry.now page.exit.now ⌝ }
+{
+    let at = text_page::put_bytes(page, at, b"moved=");
+    put_decimal(page, at, moved)
 }

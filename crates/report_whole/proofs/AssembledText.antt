@@ -8,7 +8,7 @@ use Rattle.order.specs.Entries.{entries}
 use Rattle.chart.specs.declared.TimingFormat.{TimingFormat}
 use Rattle.assembly.specs.declared.Assembled.{Assembled}
 use Rattle.chart.specs.ChartColumns.{ChartColumns, listColumns, speedColumns, chartColumns}
-use Rattle.assembly.specs.Assembly.{Assembles}
+use Rattle.assembly.specs.Assembly.{movedTotal, Assembles}
 use Rattle.lookup_warped.specs.OnePass.{onePass}
 use Rattle.report_answer.specs.Report.{doneText}
 use Rattle.report_whole.specs.Taken.{takenText}
@@ -20,8 +20,9 @@ allRooms room units =
     chartColumns (listColumns room room) (listColumns room room) (listColumns room room) (listColumns room room)
     (speedColumns room room room units) (listColumns room room) (listColumns room room)
 
-module _ (format : TimingFormat) (raw : ChartColumns) {done : Assembled} {room : List Float} {units : List ℕ} {new : ChartColumns} {warped : ℕ} where
+module _ (format : TimingFormat) (raw : ChartColumns) {done : Assembled} {room : List Float} {units : List ℕ} {new : ChartColumns} {warped moved : ℕ} where
   pub assembled-text : length room ≡ 256 → length units ≡ 256 → Assembles 256 format raw done (allRooms room units) new
       → warped ≡ onePass (entries (take (done .warps) (new .warps .beats)) (take (done .warps) (new .warps .values)))
-      → doneText (done .number) (done .offset) warped (written done) new ≡ takenText format raw
-  assembled-text r u made pass = done-is-taken format raw done _ new made pass (rw (r, u) at (made .numberIs))
+      → moved ≡ movedTotal (done .moved)
+      → doneText (done .number) (done .offset) warped moved (written done) new ≡ takenText format raw
+  assembled-text r u made pass total = done-is-taken format raw done _ new made pass total (rw (r, u) at (made .numberIs))

@@ -33,7 +33,7 @@ use Rattle.report_whole.specs.Taken.{timingLists, takenNumber, takenList
 few-of : {A B : Type 0} (field : A → B) (tests : ℕ) (list : List A) → roomNumber tests (length list) 256 ≡ 0 → length (map field list) ≤ 256
 few-of field tests list h = omega (arith, length-map list field, taken-fits (sym h) .1)
 
-both-few : (line rest : List ℕ) → length line ≤ 28 → length rest ≤ 44844 → length (line ++ rest) ≤ 45400
+both-few : (line rest : List ℕ) → length line ≤ 28 → length rest ≤ 44871 → length (line ++ rest) ≤ 45400
 both-few line rest l r = simp length-append (omega arith)
 
 module _ (format : TimingFormat) (raw : ChartColumns) where
@@ -62,4 +62,4 @@ module _ (format : TimingFormat) (raw : ChartColumns) where
     where
       by-case : (t : Bool) → eqb number 0 ≡ t → length (answerLine number ++ pick t (takenLists format raw) []) ≤ 45400
       by-case false e = both-few (answerLine number) [] (answer-size number) (omega arith)
-      by-case true e = both-few (answerLine number) (takenLists format raw) (answer-size number) (lists-size _ _ _ (few-each (eqb-true number 0 e)))
+      by-case true e = both-few (answerLine number) (takenLists format raw) (answer-size number) (lists-size _ _ _ _ (few-each (eqb-true number 0 e)))

@@ -18,7 +18,7 @@ use Rattle.tidy_speeds_entries.specs.LaidSpeeds.{ratioOf, delayOf, unitOf}
 use Rattle.chart.specs.declared.TimingFormat.{TimingFormat}
 use Rattle.chart.specs.ChartColumns.{ListColumns, ChartColumns, ChartRoom, roomForEach}
 use Rattle.assembly.specs.declared.Assembled.{Assembled}
-use Rattle.assembly.specs.Assembly.{processedChart, Assembles}
+use Rattle.assembly.specs.Assembly.{processedChart, movedBeats, movedTotal, Assembles}
 use Rattle.assembly_tempos.specs.AssembledTempos.{assembledWarps}
 use Rattle.lookup_warped.specs.WarpedRows.{warpedRows}
 use Rattle.lookup_warped.specs.OnePass.{onePass}
@@ -49,8 +49,8 @@ written done = record {
 abbrev pub passOf : ListColumns → ℕ
 passOf warps = onePass (entries (warps .beats) (warps .values))
 
-module _ (format : TimingFormat) (raw : ChartColumns) (done : Assembled) (old new : ChartColumns) (made : Assembles 256 format raw done old new) {warped : ℕ}
-    (pass : warped ≡ passOf (frontLists (written done) new .warps)) where
+module _ (format : TimingFormat) (raw : ChartColumns) (done : Assembled) (old new : ChartColumns) (made : Assembles 256 format raw done old new) {warped moved : ℕ}
+    (pass : warped ≡ passOf (frontLists (written done) new .warps)) (total : moved ≡ movedTotal (done .moved)) where
   -- the columns' fronts are the lists
   fronts-are : done .number ≡ 0 → frontLists (written done) new ≡ timingLists format raw
   fronts-are z =
@@ -74,7 +74,7 @@ module _ (format : TimingFormat) (raw : ChartColumns) (done : Assembled) (old ne
       })
 
   abbrev lists : List ℕ
-  lists = listsText (done .offset) warped (frontLists (written done) new)
+  lists = listsText (done .offset) warped moved (frontLists (written done) new)
 
   -- of the timing's warps the pass is the number of warped rows
   rows-are : takenNumber format raw ≡ 0 → frontLists (written done) new ≡ timingLists format raw → warped ≡ warpedRows (assembledWarps (processedChart format raw))
@@ -87,9 +87,10 @@ module _ (format : TimingFormat) (raw : ChartColumns) (done : Assembled) (old ne
       let fronts = fronts-are z in
       let rows = rows-are taken fronts in
       let offset : done .offset ≡ narrow (processedChart format raw .offset) = made .offsetIs ∙ rw z in
-      ap (listsText (done .offset) warped) fronts ∙ rw (rows, offset)
+      let counts : done .moved ≡ movedBeats format raw = made .movedAre ∙ rw z in
+      ap (listsText (done .offset) warped moved) fronts ∙ rw (rows, offset, total, counts)
 
-  pub done-is-taken : done .number ≡ takenNumber format raw → doneText (done .number) (done .offset) warped (written done) new ≡ takenText format raw
+  pub done-is-taken : done .number ≡ takenNumber format raw → doneText (done .number) (done .offset) warped moved (written done) new ≡ takenText format raw
   unfolding doneText takenText
   done-is-taken n = ap (λ (k : ℕ). answerLine k ++ pick (eqb k 0) lists []) n ∙ by-case (eqb number 0) refl
     where

@@ -13,7 +13,7 @@ use Rattle.chart.specs.ChartColumns.{ListColumns, listColumns, SpeedColumns, sp
 use Rattle.assembly_tempos.specs.AssembledTempos.{assembledTempos, assembledStops, assembledWarps}
 use Rattle.assembly_scrolls.specs.AssembledScrolls.{assembledScrolls}
 use Rattle.assembly_speeds.specs.AssembledSpeeds.{assembledSpeeds}
-use Rattle.assembly.specs.Assembly.{assembledDelays, assembledFakes, processedChart, assemblyNumber}
+use Rattle.assembly.specs.Assembly.{assembledDelays, assembledFakes, processedChart, assemblyNumber, movedBeats, movedTotal}
 use Rattle.lookup_warped.specs.WarpedRows.{warpedRows}
 use Rattle.report_text.specs.Output.{answerLine, listsText}
 
@@ -43,7 +43,8 @@ module _ (format : TimingFormat) (raw : ChartColumns) where
 
   -- the answer line, and behind it the lists where they are taken
   abbrev pub takenLists : List ℕ
-  takenLists = listsText (narrow (processedChart format raw .offset)) (warpedRows (assembledWarps (processedChart format raw))) timingLists
+  takenLists = listsText (narrow (processedChart format raw .offset)) (warpedRows (assembledWarps (processedChart format raw)))
+      (movedTotal (movedBeats format raw)) timingLists
 
   unfoldable pub takenText : List ℕ
   takenText = answerLine takenNumber ++ pick (eqb takenNumber 0) takenLists []

@@ -155,11 +155,14 @@ pub fn write_report(
         &mut out_fake_lengths,
     );
     let warped = warped_of(&out_warp_beats, &out_warp_lengths, done.warps);
+    let counted = done.moved;
+    let moved = assembly::total_moved(counted);
     report_answer::write_answer(
         page,
         done.number,
         done.offset,
         warped,
+        moved,
         done.tempos,
         done.stops,
         done.delays,

@@ -21,7 +21,7 @@ same-length-2 : tie.Need-same-length-2
 same-length-2 c = search needs
 
 returns : tie.Need-returns
-returns c = c .before .before .before .before .assemble-untested .ensures
+returns c = c .before .before .before .before .before .assemble-untested .ensures .0
 
 rise-requires : tie.Need-rise-requires
 rise-requires c κs = search needs
@@ -55,7 +55,7 @@ same-length-6 : tie.Need-same-length-6
 same-length-6 c = search needs
 
 returns-3 : tie.Need-returns-3
-returns-3 c = c .before .before .before .before .assemble-untested2 .ensures
+returns-3 c = c .before .before .before .before .before .assemble-untested2 .ensures .0
 
 pub assemble-stops-spec : {M : Type 1} → statement M
 assemble-stops-spec =

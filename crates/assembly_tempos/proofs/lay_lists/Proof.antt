@@ -11,7 +11,7 @@ use Rattle.assembly_tempos.specs.AssembledTempos.{assembledTempos, assem
 use Rattle.assembly_tempos.specs.inside.ProcessedColumns.{listsOf}
 use Rattle.assembly_tempos.proofs.Ends.{too-many, later-refused, all-laid}
 use Rattle.assembly_tempos.proofs.OnRows.{on-row-held}
-use Rattle.assembly_tempos.proofs.ProcessedColumns.{warps-count, tempos-laid, stops-laid, warps-laid, all-fit}
+use Rattle.assembly_tempos.proofs.ProcessedColumns.{warps-count, tempos-laid, stops-laid, warps-laid, warps-moved, all-fit}
 use borrow.Author.Needs.{needs}
 use Rattle.assembly_tempos.proofs.lay_lists.Statement.{statement}
 use Rattle.assembly_tempos.proofs.lay_lists.Tie as tie
@@ -99,8 +99,9 @@ returns-3 c =
     all-laid 0 (given .later) (given .most-warps) lists refl (omega (arith, warps-count columns (given .offset) (c .before .before .before .before .before .before .before .before .before .before .before .before .before .before .before .before .before .before .before .before .before .before .before .before .before .before .before .before .before .before .before .before .before .before .before .before .before .before .before .before .before .before .before .pre .0), c .before .before .before .before .before .before .before .before .before .before .before .before .before .before .before .before .before .before .before .before .before .before .before .before .before .before .before .before .before .before .room-of .ensures, c .before .before .before .before .before .before .before .before .before .before .before .before .before .before .before .before .before .before .before .before .before .before .before .before .before .before .before .before .before .if1 .left)) none
     (tempos-laid columns (given .offset) (c .before .before .before .before .before .before .before .before .before .before .before .before .before .before .before .before .before .before .before .before .before .before .before .before .before .before .before .before .before .before .before .before .before .before .before .before .before .before .before .before .before .before .before .pre .0) (fit .tempoFit) (c .before .before .before .before .before .before .before .before .before .before .before .before .before .before .before .before .before .before .before .before .before .cast-column .ensures) (c .before .before .before .before .before .before .before .before .before .before .before .before .before .before .before .before .before .narrow-values .ensures))
     (stops-laid columns (given .offset) (c .before .before .before .before .before .before .before .before .before .before .before .before .before .before .before .before .before .before .before .before .before .before .before .before .before .before .before .before .before .before .before .before .before .before .before .before .before .before .before .before .before .before .before .pre .0) (fit .stopFit) (c .before .before .before .before .before .before .before .before .before .before .before .before .assemble-stops .ensures))
-    (warps-laid columns (given .offset) (c .before .before .before .before .before .before .before .before .before .before .before .before .before .before .before .before .before .before .before .before .before .before .before .before .before .before .before .before .before .before .before .before .before .before .before .before .before .before .before .before .before .before .before .pre .0) few (fit .warpFit) (c .before .before .before .before .before .assemble-untested .ensures))
+    (warps-laid columns (given .offset) (c .before .before .before .before .before .before .before .before .before .before .before .before .before .before .before .before .before .before .before .before .before .before .before .before .before .before .before .before .before .before .before .before .before .before .before .before .before .before .before .before .before .before .before .pre .0) few (fit .warpFit) (c .before .before .before .before .before .assemble-untested .ensures .0))
     (c .narrow-f64 .ensures)
+    (warps-moved columns (given .offset) (c .before .before .before .before .before .before .before .before .before .before .before .before .before .before .before .before .before .before .before .before .before .before .before .before .before .before .before .before .before .before .before .before .before .before .before .before .before .before .before .before .before .before .before .pre .0) few (fit .warpFit) (c .before .before .before .before .before .assemble-untested .ensures .0) (c .before .before .before .before .before .assemble-untested .ensures .1))
 
 pub lay-lists-spec : {M : Type 1} → statement M
 lay-lists-spec =

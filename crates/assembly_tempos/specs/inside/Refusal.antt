@@ -5,4 +5,4 @@ use Rattle.assembly_tempos.specs.declared.AssembledTempos.{AssembledTemp
 
 -- the outcome of a refusal
 abbrev pub nothingAssembled : ℕ → AssembledTempos
-nothingAssembled number = record { number = number; tempos = 0; stops = 0; warps = 0; offset = plusZero }
+nothingAssembled number = record { number = number; tempos = 0; stops = 0; warps = 0; offset = plusZero; moved = 0 }
