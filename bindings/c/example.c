@@ -202,6 +202,16 @@ int main(void) {
         CLOCK_COLUMNS(t), t->fake_beats, t->made.fakes, t->fake_lengths, t->made.fakes, twice, 2, sheet_times, 4, sheet_judged, 4, snaps, 4);
     expect(sheet.number == MARRIGHENTU_NOT_RISING && sheet.count == 0 && sheet.steps == 0, "a row twice");
 
+    /* scrolls that lost their order are mended before they are assembled, and it is told what became of each */
+    const double fallen_beats[] = {4.0, 0.0, 4.0}, fallen_values[] = {2.0, 1.0, 1.0};
+    double mended_beats[3], mended_values[3];
+    uint8_t fates[3];
+    marrighentu_outcome mended = marrighentu_mend_scrolls(fallen_beats, 3, fallen_values, 3, mended_beats, 3, mended_values, 3, fates, 3);
+    expect(mended.number == MARRIGHENTU_TAKEN && mended.count == 1 && mended_beats[0] == 0.0 && mended_values[0] == 1.0, "scrolls mended");
+    expect(fates[0] == MARRIGHENTU_REPLACED && fates[1] == MARRIGHENTU_KEPT && fates[2] == MARRIGHENTU_MERGED, "the fate of each scroll");
+    mended = marrighentu_mend_scrolls(fallen_beats, 3, fallen_values, 3, mended_beats, 3, mended_values, 3, fates, 2);
+    expect(mended.number == MARRIGHENTU_NO_ROOM && mended.count == 0, "a room of fates that is too short");
+
     marrighentu_looked looked = marrighentu_is_judgable_at_beat(LOOKUP_COLUMNS(t), 6.0);
     expect(looked.number == MARRIGHENTU_TAKEN && !looked.yes, "a beat in the warp is not judged");
 

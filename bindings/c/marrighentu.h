@@ -67,6 +67,13 @@ enum marrighentu_format { MARRIGHENTU_SM = 0, MARRIGHENTU_SSC = 1 };
 /* What a speed's delay is counted in. */
 enum marrighentu_unit { MARRIGHENTU_BEATS = 0, MARRIGHENTU_SECONDS = 1 };
 
+/* What becomes of an entry when its list is mended. */
+enum marrighentu_fate {
+    MARRIGHENTU_KEPT = 0,
+    MARRIGHENTU_REPLACED = 1, /* a later entry is on its row */
+    MARRIGHENTU_MERGED = 2    /* the last of its row, and near the one kept before */
+};
+
 /* The kinds of event, in the order in which they come on one row. A note on that row comes after a delay and before a stop. */
 enum marrighentu_kind {
     MARRIGHENTU_WARP_ENDS = 0,
@@ -379,6 +386,31 @@ marrighentu_processed marrighentu_process_bpms_and_stops_sm(
     double *out_stop_values, size_t out_stop_values_length,
     double *out_warp_beats, size_t out_warp_beats_length,
     double *out_warp_lengths, size_t out_warp_lengths_length);
+
+/* ---- lists that lost their order */
+
+/* Scrolls, and speeds, mended: in the order of their f64 rows, beats as given, of each row the last entry, without those near the one kept before (values, or
+ * ratios and delays, less than a millionth apart, and of speeds the same unit). For each entry given, in the order given, its fate goes to out_fates:
+ * MARRIGHENTU_KEPT, MARRIGHENTU_REPLACED or MARRIGHENTU_MERGED. A row whose last entry is merged has no entry left. The count is that of the mended list; mended
+ * again, all its entries are kept, and assembly never refuses it with 6.
+ * Refused with 1 to 4 for the list, and last with 7 where the shortest room has fewer places than there are entries kept, or out_fates fewer than entries given.
+ */
+marrighentu_outcome marrighentu_mend_scrolls(
+    const double *beats, size_t beats_length,
+    const double *values, size_t values_length,
+    double *out_beats, size_t out_beats_length,
+    double *out_values, size_t out_values_length,
+    uint8_t *out_fates, size_t out_fates_length);
+marrighentu_outcome marrighentu_mend_speeds(
+    const double *beats, size_t beats_length,
+    const double *ratios, size_t ratios_length,
+    const double *delays, size_t delays_length,
+    const uint8_t *units, size_t units_length,
+    double *out_beats, size_t out_beats_length,
+    double *out_ratios, size_t out_ratios_length,
+    double *out_delays, size_t out_delays_length,
+    uint8_t *out_units, size_t out_units_length,
+    uint8_t *out_fates, size_t out_fates_length);
 
 /* ---- the clock
  *

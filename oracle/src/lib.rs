@@ -33,6 +33,9 @@ pub mod lists;
 pub mod lookups;
 #[cfg(feature = "port")]
 pub mod marked;
+pub mod mend;
+#[cfg(feature = "port")]
+pub mod mend_calls;
 #[cfg(feature = "port")]
 pub mod notes;
 pub mod numbers;

@@ -9,10 +9,10 @@ use crate::warped;
 
 /// The words of the lists, in their order, and the place of the one that has four numbers a line.
 const WORDS: [&str; 7] = ["bpm", "stop", "delay", "warp", "speed", "scroll", "fake"];
-const SPEED: usize = 4;
+pub const SPEED: usize = 4;
 
 /// The most entries of a list.
-const MOST: usize = 256;
+pub const MOST: usize = 256;
 
 /// An entry: a beat and a value, or of a speed the beat, the ratio, the delay and the unit.
 #[derive(Clone, Debug)]

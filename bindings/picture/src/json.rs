@@ -1,7 +1,7 @@
 //! What is seen, as JSON.
 
-use crate::seen::Seen;
-use marrighentu::{Columns, Event, EventKind, Format, SpeedUnit, note_row_to_beat};
+use crate::seen::{Mended, Seen};
+use marrighentu::{Columns, Event, EventKind, Fate, Format, Speed, SpeedUnit, note_row_to_beat};
 use marrighentu_charts::{ChartFile, Fault, MovedEntry};
 use std::fmt::{Display, Write};
 
@@ -182,16 +182,30 @@ fn moved(entry: &MovedEntry) -> Json {
     ])
 }
 
+fn speed_fields<Number: Display + Into<f64> + Copy>(speed: &Speed<Number>) -> Vec<(&'static str, Json)> {
+    vec![
+        ("beat", Json::number(speed.beat)),
+        ("ratio", Json::number(speed.ratio)),
+        ("delay", Json::number(speed.delay)),
+        ("unit", Json::text(if speed.unit == SpeedUnit::Beats { "beats" } else { "seconds" })),
+    ]
+}
+
+fn mended(mended: &Mended) -> Json {
+    let with_fate = |mut fields: Vec<(&'static str, Json)>, fate: &Fate| {
+        fields.push(("fate", Json::text(fate.to_string())));
+        Json::Fields(fields)
+    };
+    let scrolls = mended.scrolls.iter().map(|((beat, value), fate)| {
+        with_fate(vec![("beat", Json::number(*beat)), ("times", Json::number(*value))], fate)
+    });
+    let speeds = mended.speeds.iter().map(|(speed, fate)| with_fate(speed_fields(speed), fate));
+    Json::Fields(vec![("scrolls", Json::List(scrolls.collect())), ("speeds", Json::List(speeds.collect()))])
+}
+
 fn timing(seen: &Seen) -> Vec<(&'static str, Json)> {
     let timing = &seen.timing;
-    let speeds = timing.speeds().iter().map(|speed| {
-        Json::Fields(vec![
-            ("beat", Json::number(speed.beat)),
-            ("ratio", Json::number(speed.ratio)),
-            ("delay", Json::number(speed.delay)),
-            ("unit", Json::text(if speed.unit == SpeedUnit::Beats { "beats" } else { "seconds" })),
-        ])
-    });
+    let speeds = timing.speeds().iter().map(|speed| Json::Fields(speed_fields(speed)));
     let asked = seen.asked.iter().map(|asked| {
         Json::Fields(vec![
             ("beat", Json::number(asked.beat)),
@@ -221,6 +235,9 @@ fn timing(seen: &Seen) -> Vec<(&'static str, Json)> {
         ("moved", Json::List(seen.moved.iter().map(moved).collect())),
         ("beats", Json::List(asked.collect())),
     ];
+    if let Some(told) = &seen.mended {
+        fields.push(("mended", mended(told)));
+    }
     if !seen.at.is_empty() {
         let at = seen.at.iter().map(|(time, info)| {
             Json::Fields(vec![

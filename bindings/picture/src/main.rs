@@ -71,6 +71,7 @@ fn run(wanted: &Wanted) -> Result<String, String> {
         times: &wanted.times,
         events: wanted.events,
         notes: wanted.notes,
+        mend: wanted.mend,
         global: wanted.global,
         pass_over: wanted.pass_over,
     };

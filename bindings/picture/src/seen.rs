@@ -1,7 +1,10 @@
 //! What a machine sees of one chart: worked out once, and told as words, JSON or a picture.
 
-use marrighentu::{BeatInfo, Event, Refusal, Snap, Timing, beat_to_note_row, note_row_to_beat};
-use marrighentu_charts::{ChartFile, ChartText, Fault, MovedEntry, Note};
+use marrighentu::{
+    BeatInfo, Chart, Event, Fate, Refusal, Snap, Speed, Timing, beat_to_note_row, mend_scrolls, mend_speeds,
+    note_row_to_beat,
+};
+use marrighentu_charts::{ChartFile, ChartText, ChartTiming, Fault, MovedEntry, Note};
 
 /// A beat that was asked.
 pub struct Asked {
@@ -32,6 +35,12 @@ pub struct NoteRow {
     pub notes: Vec<Note>,
 }
 
+/// The entries of the lists that were mended, as the chart has them, each with what became of it.
+pub struct Mended {
+    pub scrolls: Vec<((f64, f64), Fate)>,
+    pub speeds: Vec<(Speed<f64>, Fate)>,
+}
+
 /// A chart's timing with what was asked of it.
 pub struct Seen {
     /// The chart's number, none for the whole file.
@@ -43,6 +52,8 @@ pub struct Seen {
     pub asked: Vec<Asked>,
     /// The seconds that were asked, each with which beat it is then.
     pub at: Vec<(f64, BeatInfo)>,
+    /// Where scrolls and speeds were to be mended first.
+    pub mended: Option<Mended>,
     /// Where events were asked for.
     pub events: Option<Vec<Event>>,
     /// Where notes were asked for.
@@ -99,6 +110,19 @@ fn note_rows(timing: &Timing, notes: &[Note]) -> Result<Vec<NoteRow>, String> {
     Ok(found.collect())
 }
 
+/// The timing of lists whose scrolls and speeds are mended first; none where a list is refused, which the lists as they are then are too.
+fn mended(read: &ChartTiming, global: f64) -> Option<(Timing, Mended)> {
+    let raw = read.chart();
+    let (scrolls, speeds) = (mend_scrolls(&raw.scrolls).ok()?, mend_speeds(&raw.speeds).ok()?);
+    let chart = Chart { scrolls: scrolls.list, speeds: speeds.list, ..raw.clone() };
+    let timing = Timing::assemble(read.format(), &chart, read.offset(), global).ok()?;
+    let told = Mended {
+        scrolls: raw.scrolls.iter().copied().zip(scrolls.fates).collect(),
+        speeds: raw.speeds.iter().copied().zip(speeds.fates).collect(),
+    };
+    Some((timing, told))
+}
+
 /// What is asked of a chart, or of the whole file where there is none.
 pub struct Question<'a> {
     pub chart: Option<ChartText<'a>>,
@@ -106,6 +130,7 @@ pub struct Question<'a> {
     pub times: &'a [f64],
     pub events: bool,
     pub notes: bool,
+    pub mend: bool,
     pub global: f64,
     pub pass_over: bool,
 }
@@ -119,7 +144,10 @@ pub fn see(file: &ChartFile, question: &Question<'_>) -> Result<Seen, String> {
     if let Some(fault) = passed_over.first().filter(|_| !question.pass_over) {
         return Err(fault.to_string());
     }
-    let timing = read.assemble(question.global).map_err(|refused| format!(" {refused}"))?;
+    let (timing, mended) = match mended(&read, question.global).filter(|_| question.mend) {
+        Some((timing, told)) => (timing, Some(told)),
+        None => (read.assemble(question.global).map_err(|refused| format!(" {refused}"))?, None),
+    };
     let own_notes = question.chart.map(|chart| chart.notes());
     let last_row = match &own_notes {
         Some(Ok(notes)) => notes.last().map(|note| note.row),
@@ -140,6 +168,7 @@ pub fn see(file: &ChartFile, question: &Question<'_>) -> Result<Seen, String> {
         asked: asked(&timing, question.beats).map_err(|why| format!(" {why}"))?,
         at: at(&timing, question.times).map_err(|why| format!(" {why}"))?,
         timing,
+        mended,
         events,
         notes,
         last_row,

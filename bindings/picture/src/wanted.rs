@@ -3,7 +3,7 @@
 use marrighentu::Format;
 
 pub const HELP: &str = "\
-chart-picture FILE [--list] [--chart N | --header] [--beats B,B,...] [--at S,S,...] [--events] [--notes] [--json]
+chart-picture FILE [--list] [--chart N | --header] [--beats B,B,...] [--at S,S,...] [--events] [--notes] [--mend] [--json]
               [--svg OUT] [--from B] [--to B] [--global SECONDS] [--format sm|ssc] [--pass-over]
 
 What a machine sees of an .sm or .ssc file: the timing lists of a chart as they are timed, and which of its entries were off the grid (moved), by how much
@@ -16,6 +16,8 @@ and in which line. FILE may be - for standard input.
   --at S,..    for each second which beat it is then, whether a stop or a delay runs, and the steps to it
   --events     all events of the timing in the order in which they fall, the ends of warps among them; rows may fall too
   --notes      as --beats for each row with notes, its colour (4th to 192nd), and the notes themselves, lane by lane
+  --mend       scrolls and speeds are put in the order of their rows first, and for each of their entries it is said what became of it: the last of a row
+               is kept unless it is as the one kept before it. With it a list that lost its order is timed and drawn
   --json       all of it as JSON. Numbers of lists are f32 in few digits, times are f64
   --svg OUT    a picture: time against beat, tempos, pauses, warps and fakes, scrolls and speeds
   --from B     the picture's first beat
@@ -36,6 +38,7 @@ pub struct Wanted {
     pub times: Vec<f64>,
     pub events: bool,
     pub notes: bool,
+    pub mend: bool,
     pub json: bool,
     pub svg: Option<String>,
     pub from: Option<f64>,
@@ -70,6 +73,7 @@ pub fn wanted(words: Vec<String>) -> Result<Option<Wanted>, String> {
         times: Vec::new(),
         events: false,
         notes: false,
+        mend: false,
         json: false,
         svg: None,
         from: None,
@@ -94,6 +98,7 @@ pub fn wanted(words: Vec<String>) -> Result<Option<Wanted>, String> {
             "--at" => wanted.times = behind()?.split(',').map(number).collect::<Result<_, _>>()?,
             "--events" => wanted.events = true,
             "--notes" => wanted.notes = true,
+            "--mend" => wanted.mend = true,
             "--json" => wanted.json = true,
             "--svg" => wanted.svg = Some(behind()?),
             "--from" => wanted.from = Some(beat(&behind()?)?),

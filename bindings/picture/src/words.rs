@@ -1,13 +1,37 @@
 //! What is seen, in lines of words.
 
-use crate::seen::{NoteRow, Seen};
-use marrighentu::{BeatInfo, Columns, Event, EventKind, SpeedUnit, Timing, note_row_to_beat};
+use crate::seen::{Mended, NoteRow, Seen};
+use marrighentu::{BeatInfo, Columns, Event, EventKind, Fate, Speed, SpeedUnit, Timing, note_row_to_beat};
 use marrighentu_charts::{ChartFile, ChartText};
-use std::fmt::Write;
+use std::fmt::{Display, Write};
 
 fn list(out: &mut String, name: &str, columns: &Columns<f32>, unit: &str) {
     for (beat, value) in columns.iter() {
         let _ = writeln!(out, "{name:<7} beat {beat} {value} {unit}");
+    }
+}
+
+fn speed_words<Number: Display>(speed: &Speed<Number>) -> String {
+    let unit = if speed.unit == SpeedUnit::Beats { "beats" } else { "s" };
+    format!("beat {} ratio {} over {} {unit}", speed.beat, speed.ratio, speed.delay)
+}
+
+/// What became of an entry, and why.
+fn fate_words(fate: Fate) -> &'static str {
+    match fate {
+        Fate::Kept => "kept",
+        Fate::Replaced => "replaced, a later entry is on its row",
+        Fate::Merged => "merged, it is as the one kept before it",
+    }
+}
+
+/// A line for each entry of a list that was mended, as the chart has them.
+fn mended(out: &mut String, mended: &Mended) {
+    for ((beat, value), fate) in &mended.scrolls {
+        let _ = writeln!(out, "mended  scroll beat {beat} {value} times: {}", fate_words(*fate));
+    }
+    for (speed, fate) in &mended.speeds {
+        let _ = writeln!(out, "mended  speed {}: {}", speed_words(speed), fate_words(*fate));
     }
 }
 
@@ -24,8 +48,7 @@ fn lists(out: &mut String, timing: &Timing) {
         let _ = writeln!(out, "warped  {} rows", timing.warped_rows());
     }
     for speed in timing.speeds() {
-        let unit = if speed.unit == SpeedUnit::Beats { "beats" } else { "s" };
-        let _ = writeln!(out, "speed   beat {} ratio {} over {} {unit}", speed.beat, speed.ratio, speed.delay);
+        let _ = writeln!(out, "speed   {}", speed_words(speed));
     }
     list(out, "scroll", timing.scrolls(), "times");
     list(out, "fake", timing.fakes(), "beats");
@@ -71,6 +94,9 @@ fn running(info: &BeatInfo) -> &'static str {
 /// The lists, the entries off the grid, the events, the asked beats and seconds, and the notes.
 pub fn seen(seen: &Seen) -> String {
     let mut out = String::new();
+    if let Some(told) = &seen.mended {
+        mended(&mut out, told);
+    }
     lists(&mut out, &seen.timing);
     for entry in &seen.moved {
         let _ = writeln!(out, "moved   {entry}");

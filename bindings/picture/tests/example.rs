@@ -92,6 +92,35 @@ fn entries_off_the_grid_are_told() {
 }
 
 #[test]
+fn lists_out_of_order_are_mended() {
+    let speeds = "8=2=0.5=0,4=2=0.5=0,0=1=0=1";
+    let text = format!("#VERSION:0.83;#BPMS:0=120;#SCROLLS:4=1,8=2,0=2,0=3,12=2;#SPEEDS:{speeds};");
+    let fallen = written("mended.ssc", &text);
+    let plain = run(&[&fallen, "--header"]);
+    assert!(!plain.status.success() || !String::from_utf8_lossy(&plain.stdout).contains("mended"));
+    let lines = said(&[&fallen, "--header", "--mend", "--beats", "6"]);
+    let told = "\
+mended  scroll beat 4 1 times: kept
+mended  scroll beat 8 2 times: kept
+mended  scroll beat 0 2 times: replaced, a later entry is on its row
+mended  scroll beat 0 3 times: kept
+mended  scroll beat 12 2 times: merged, it is as the one kept before it
+mended  speed beat 8 ratio 2 over 0.5 beats: merged, it is as the one kept before it
+mended  speed beat 4 ratio 2 over 0.5 beats: kept
+mended  speed beat 0 ratio 1 over 0 s: kept
+";
+    assert!(lines.starts_with(told), "{lines}");
+    assert!(lines.ends_with("at      beat 6 row 288 3 s, judged, drawn at 14\n"), "{lines}");
+    let json = said(&[&fallen, "--header", "--mend", "--json"]);
+    assert!(json.contains("{\"beat\": 0, \"times\": 2, \"fate\": \"replaced\"}"), "{json}");
+    assert!(json.contains("\"unit\": \"beats\", \"fate\": \"merged\"}"), "{json}");
+    // what no mending takes is told as without it
+    let far = written("mended-far.ssc", "#VERSION:0.83;#BPMS:0=120;#SCROLLS:4=1,70000=2;");
+    let done = run(&[&far, "--header", "--mend"]);
+    assert!(!done.status.success() && String::from_utf8_lossy(&done.stderr).contains("scroll 2, line 1"));
+}
+
+#[test]
 fn the_whole_file() {
     let done = run(&["example.ssc", "--header", "--beats", "1"]);
     assert_eq!(

@@ -293,6 +293,18 @@ calls! {
         room judged: u8,
         room snaps: u8,
     ) -> Sheet = "marrighentu_note_sheet";
+    fn mend_scrolls(list scrolls: f64, rooms out_scrolls: f64, room out_fates: u8) -> Outcome = "marrighentu_mend_scrolls";
+    fn mend_speeds(
+        slice beats: f64,
+        slice ratios: f64,
+        slice delays: f64,
+        slice units: u8,
+        room out_beats: f64,
+        room out_ratios: f64,
+        room out_delays: f64,
+        room out_units: u8,
+        room out_fates: u8,
+    ) -> Outcome = "marrighentu_mend_speeds";
     fn lay_out_events(
         list tempos: f32,
         list stops: f32,

@@ -2,3 +2,4 @@ pub mod Form
 pub mod Stores
 pub mod Text
 pub mod Orderly
+pub mod ReadColumns

@@ -1,9 +1,11 @@
 // The report program's input as an automaton: one step a byte over a small state, and what each byte completes.
 ghost use mathlib.Core.Path.{_≡_};
 ghost use Prim.Native.Nat.{_<_};
+ghost use lib.ListN.{take};
 ghost use Rattle.report_form.specs.Form.{start, broken, grown, letterOf, hexOf, unitRead, characterOf, listNamed, follows, opened, namedOf};
 ghost use Rattle.report_form.specs.Form.{widthOf, lastDigits, commaOf, more, closed, formatEnded, entryEnded, endedOf, stepOf, whole, over, answerOf};
 ghost use Rattle.report_form.specs.Stores.{nothing, complete, storeOf};
+ghost use Rattle.report_form.specs.ReadColumns.{entriesCounted};
 
 // How far the input is read: whether it is of the form so far, its format, the list of the last line, the part of the line that is being
 // read (0: the word before the equals sign), that part's characters and what they make, and how many entries of the list stand before.
@@ -432,4 +434,26 @@ pub fn answer(reading: Reading, counts: &[u64]) -> u32
         return limits::TOO_LONG;
     }
     limits::TAKEN
+}
+
+// ---- what was read
+
+// How many entries a list has; none where the counts end before it.
+pub fn count_of(counts: &[u64], list: usize) -> usize
+    ensures { λ r. ⌜ r ≡ entriesCounted counts.entry.now list ⌝ }
+{
+    if list < counts.len() {
+        return counts[list] as usize;
+    }
+    0
+}
+
+// The first entries of a column.
+pub fn front(column: &[f64], count: usize) -> &[f64]
+    ensures { λ r. ⌜ now r ≡ take count column.entry.now ⌝ }
+{
+    if count < column.len() {
+        return &column[..count];
+    }
+    column
 }

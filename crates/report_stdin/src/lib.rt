@@ -25,7 +25,7 @@ fn cut_short(reading: Reading) -> Reading
 {
     io::write_all(
         STDERR_FILENO,
-        b"report: standard input was not read to its end: a read failed\n",
+        b"standard input was not read to its end: a read failed\n",
     );
     report_form::step(reading, 0)
 }

@@ -11,7 +11,8 @@ use Rattle.report_form.specs.declared.Reading.{Reading}
 use Rattle.report_form.specs.Form.{answerOf}
 use Rattle.report_text.specs.Output.{answerLine}
 use Rattle.report_whole.specs.Taken.{takenText}
-use Rattle.report_whole.specs.Whole.{formatRead, entriesCounted, reportText}
+use Rattle.report_form.specs.ReadColumns.{entriesCounted}
+use Rattle.report_whole.specs.Whole.{formatRead, reportText}
 
 module _ (reading : Reading) (counts : List ℕ) where
   pub refused-text : (columns : ChartColumns) {number : ℕ} → number ≡ answerOf reading counts → (number ≡ 0 → ⊥) → answerLine number ≡ reportText reading counts columns

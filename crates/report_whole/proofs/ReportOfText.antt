@@ -26,7 +26,8 @@ use Rattle.report_form.proofs.WholeIsText.{whole-is-text}
 use Rattle.report_form.proofs.TextCounts.{text-counts, format-counts, counts-length}
 use Rattle.report_text.specs.Output.{answerLine, frontLists}
 use Rattle.report_whole.specs.Taken.{takenText}
-use Rattle.report_whole.specs.Whole.{formatRead, entriesCounted, listsCounted, reportText, numbersRead, countsRead, chartRead, reportOf}
+use Rattle.report_form.specs.ReadColumns.{entriesCounted, numbersRead, countsRead, chartRead}
+use Rattle.report_whole.specs.Whole.{formatRead, listsCounted, reportText, reportOf}
 use Rattle.report_whole.specs.OfText.{floatsOf, entriesChart, entriesReport, Told, of-text, of-no-text}
 use Rattle.report_whole.proofs.SameColumns.{SameColumns, same-chart}
 

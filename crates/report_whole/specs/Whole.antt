@@ -3,26 +3,20 @@ use Prim.Native.Nat.{ℕ, _≤_}
 use mathlib.Core.Bool.{Bool}
 use mathlib.Core.List.{List}
 use lib.Dec.{eqb}
-use lib.ListN.{length, getD, replicate}
-use lib.Ieee.{Float}
-use Rattle.ieee.specs.Constants.{plusZero}
+use lib.ListN.{length}
 use Rattle.picks.specs.Pick.{pick}
 use Rattle.chart.specs.declared.TimingFormat.{TimingFormat}
 use Rattle.chart.specs.declared.TimingFormat.the-variants.{Sm, Ssc}
-use Rattle.chart.specs.ChartColumns.{ListColumns, listColumns, speedColumns, ChartColumns, ChartRoom}
+use Rattle.chart.specs.ChartColumns.{ChartColumns, ChartRoom}
 use Rattle.report_form.specs.declared.Reading.{Reading}
 use Rattle.report_form.specs.Form.{start, readOn, answerOf}
-use Rattle.report_form.specs.Stores.{numberIn, unitIn, countIn, columnAfter}
+use Rattle.report_form.specs.ReadColumns.{entriesCounted, countsRead, chartRead}
 use Rattle.text_page.specs.Page.{Wrote, WroteWhole}
 use Rattle.report_text.specs.Output.{answerLine, frontLists}
 use Rattle.report_whole.specs.Taken.{takenText}
 
 abbrev pub formatRead : Bool → TimingFormat
 formatRead ssc = pick ssc Ssc Sm
-
--- how many entries a list has, by its number (2 bpm .. 8 fake)
-abbrev pub entriesCounted : List ℕ → ℕ → ℕ
-entriesCounted counts list = getD counts list 0
 
 abbrev pub listsCounted : List ℕ → ChartRoom
 listsCounted counts = record {
@@ -42,31 +36,7 @@ reportText reading counts columns =
     (takenText (formatRead (reading .ssc)) (frontLists (listsCounted counts) columns))
     (answerLine (answerOf reading counts))
 
--- ---- of an input's bytes, which are read into columns of 256 zeros
-abbrev pub numbersRead : ℕ → ℕ → List ℕ → List Float
-numbersRead list part input = columnAfter (numberIn list part) start input (replicate 256 plusZero)
-
-abbrev pub unitsRead : List ℕ → List ℕ
-unitsRead input = columnAfter (unitIn 6 4) start input (replicate 256 0)
-
-abbrev pub countsRead : List ℕ → List ℕ
-countsRead input = columnAfter countIn start input (replicate 9 0)
-
--- a list of two columns, by its number
-abbrev pub listRead : ℕ → List ℕ → ListColumns
-listRead list input = listColumns (numbersRead list 1 input) (numbersRead list 2 input)
-
-abbrev pub chartRead : List ℕ → ChartColumns
-chartRead input = record {
-  tempos = listRead 2 input;
-  stops = listRead 3 input;
-  delays = listRead 4 input;
-  warps = listRead 5 input;
-  speeds = speedColumns (numbersRead 6 1 input) (numbersRead 6 2 input) (numbersRead 6 3 input) (unitsRead input);
-  scrolls = listRead 7 input;
-  fakes = listRead 8 input;
-}
-
+-- of an input's bytes
 unfoldable pub reportOf : List ℕ → List ℕ
 reportOf input = reportText (readOn start input) (countsRead input) (chartRead input)
 

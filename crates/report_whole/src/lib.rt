@@ -7,7 +7,7 @@ ghost use Rattle.io.specs.Counts.{Counts};
 ghost use Rattle.order.specs.Entries.{entries};
 ghost use Rattle.chart.specs.ChartColumns.{lentColumns, lentSpeeds, LentChart, before};
 ghost use Rattle.lookup_warped.specs.OnePass.{onePass};
-ghost use Rattle.report_whole.specs.Whole.{formatRead, entriesCounted, reportText, Reported};
+ghost use Rattle.report_whole.specs.Whole.{formatRead, reportText, Reported};
 
 fn format_of(ssc: bool) -> TimingFormat
     ensures { λ r. ⌜ r ≡ formatRead ssc ⌝ }
@@ -18,27 +18,7 @@ fn format_of(ssc: bool) -> TimingFormat
     TimingFormat::Sm
 }
 
-// How many entries a list has; none where the counts end before it.
-fn count_of(counts: &[u64], list: usize) -> usize
-    ensures { λ r. ⌜ r ≡ entriesCounted counts.entry.now list ⌝ }
-{
-    if list < counts.len() {
-        return counts[list] as usize;
-    }
-    0
-}
-
 // The first entries of a column.
-fn front(column: &[f64], count: usize) -> &[f64]
-    ensures { λ r. ⌜ now r ≡ take count column.entry.now ⌝ }
-{
-    if count < column.len() {
-        return &column[..count];
-    }
-    column
-}
-
-// The same of a column of f32s.
 fn front_f32(column: &[f32], count: usize) -> &[f32]
     ensures { λ r. ⌜ now r ≡ take count column.entry.now ⌝ }
 {
@@ -95,13 +75,13 @@ pub fn write_report(
     if number != limits::TAKEN {
         return report_answer::write_refusal(page, number);
     }
-    let tempos = count_of(counts, 2);
-    let stops = count_of(counts, 3);
-    let delays = count_of(counts, 4);
-    let warps = count_of(counts, 5);
-    let speeds = count_of(counts, 6);
-    let scrolls = count_of(counts, 7);
-    let fakes = count_of(counts, 8);
+    let tempos = report_form::count_of(counts, 2);
+    let stops = report_form::count_of(counts, 3);
+    let delays = report_form::count_of(counts, 4);
+    let warps = report_form::count_of(counts, 5);
+    let speeds = report_form::count_of(counts, 6);
+    let scrolls = report_form::count_of(counts, 7);
+    let fakes = report_form::count_of(counts, 8);
     let mut out_tempo_beats = [0.0f32; report_form::MOST_REPORTED];
     let mut out_tempo_values = [0.0f32; report_form::MOST_REPORTED];
     let mut out_stop_beats = [0.0f32; report_form::MOST_REPORTED];
@@ -121,22 +101,22 @@ pub fn write_report(
     let done = assembly::compute_timing_segments(
         report_form::MOST_REPORTED,
         format_of(reading.ssc),
-        front(tempo_beats, tempos),
-        front(tempo_values, tempos),
-        front(stop_beats, stops),
-        front(stop_values, stops),
-        front(delay_beats, delays),
-        front(delay_values, delays),
-        front(warp_beats, warps),
-        front(warp_lengths, warps),
-        front(speed_beats, speeds),
-        front(speed_ratios, speeds),
-        front(speed_delays, speeds),
+        report_form::front(tempo_beats, tempos),
+        report_form::front(tempo_values, tempos),
+        report_form::front(stop_beats, stops),
+        report_form::front(stop_values, stops),
+        report_form::front(delay_beats, delays),
+        report_form::front(delay_values, delays),
+        report_form::front(warp_beats, warps),
+        report_form::front(warp_lengths, warps),
+        report_form::front(speed_beats, speeds),
+        report_form::front(speed_ratios, speeds),
+        report_form::front(speed_delays, speeds),
         report_answer::front_units(speed_units, speeds),
-        front(scroll_beats, scrolls),
-        front(scroll_values, scrolls),
-        front(fake_beats, fakes),
-        front(fake_lengths, fakes),
+        report_form::front(scroll_beats, scrolls),
+        report_form::front(scroll_values, scrolls),
+        report_form::front(fake_beats, fakes),
+        report_form::front(fake_lengths, fakes),
         &mut out_tempo_beats,
         &mut out_tempo_values,
         &mut out_stop_beats,

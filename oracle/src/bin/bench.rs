@@ -9,6 +9,8 @@ use oracle::charts;
 use oracle::clock::{self, Columns, Cursor};
 use oracle::lookups::{self, Lists};
 use oracle::marked;
+use oracle::mend::List;
+use oracle::mend_calls::{self, Rooms as MendRooms};
 use oracle::notes::{self, Scrolls as ScrollList};
 use oracle::processing::{self, Format, Rooms, Sm, Ssc};
 use oracle::random::Random;
@@ -120,6 +122,12 @@ fn main() {
         ("1,000 tempos", [1_000, 0, 0, 0]),
     ] {
         bench.bench_clock(name, &chart(entries));
+    }
+    println!(
+        "nanoseconds a call of the port's own: lists in no order, all values apart, mended, and placed one by one"
+    );
+    for entries in [16, 256, 1_024] {
+        bench.mend(entries);
     }
     println!("nanoseconds a beat of 2,000 in no order, and a multiply-add; the original has the processor's own");
     for entries in [16, 256, 1_024] {
@@ -740,6 +748,51 @@ impl Bench {
                     *snap = sheet::snap_by_remainder(*row);
                 }
                 black_box(&theirs);
+            },
+        );
+    }
+}
+
+impl Bench {
+    /// Values are all apart: of others an entry is soon placed in a list that falls, and the list is refused at once.
+    fn mend(&mut self, entries: usize) {
+        let mut random = Random::new(1, "mend");
+        let mut order: Vec<f64> = (0..entries).map(|place| place as f64).collect();
+        (1..entries).rev().for_each(|place| order.swap(place, random.below(place as u64 + 1) as usize));
+        let beats: Vec<f64> = order.iter().map(|place| place / 4.0).collect();
+        let room = || vec![0.0; entries];
+        let mut tidied = [room(), room()];
+        let scrolls = List::Scrolls([beats.clone(), order.clone()]);
+        let mut rooms = MendRooms { list: List::Scrolls([room(), room()]), fates: vec![0; entries] };
+        assert_eq!(mend_calls::port(&scrolls, &mut rooms, &[entries; 3]).count, entries);
+        self.beside(
+            &format!("mend_scrolls of {entries} in no order"),
+            1,
+            || {
+                black_box(mend_calls::port(black_box(&scrolls), &mut rooms, &[entries; 3]));
+            },
+            "tidy_scroll_segments",
+            || {
+                let [out_beats, out_values] = &mut tidied;
+                black_box(Scrolls::port(black_box(&beats), black_box(&order), out_beats, out_values));
+            },
+        );
+        let speeds = List::Speeds([beats.clone(), order.clone(), room()], vec![0; entries]);
+        let mut rooms =
+            MendRooms { list: List::Speeds([room(), room(), room()], vec![0; entries]), fates: vec![0; entries] };
+        assert_eq!(mend_calls::port(&speeds, &mut rooms, &[entries; 5]).count, entries);
+        let list = SpeedColumns { numbers: [beats, order, room()], units: vec![0; entries] };
+        let (mut numbers, mut units) = ([room(), room(), room()], vec![0; entries]);
+        self.beside(
+            &format!("mend_speeds of {entries} in no order"),
+            1,
+            || {
+                black_box(mend_calls::port(black_box(&speeds), &mut rooms, &[entries; 5]));
+            },
+            "tidy_speed_segments",
+            || {
+                let lent = numbers.each_mut().map(|column| &mut column[..]);
+                black_box(speeds::port(black_box(&list), lent, &mut units));
             },
         );
     }

@@ -8,6 +8,7 @@ use oracle::clock;
 use oracle::edits;
 use oracle::lookups;
 use oracle::marked;
+use oracle::mend_calls;
 use oracle::numbers::Number;
 use oracle::processing;
 use oracle::random::Random;
@@ -41,6 +42,7 @@ fn main() -> ExitCode {
     assembly::compare_all(work, &mut total);
     notes::compare_all(work, &mut total);
     tempo_text::compare_all(work, &mut total);
+    mend_calls::compare_all(work, &mut total);
     if total.end() { ExitCode::SUCCESS } else { ExitCode::FAILURE }
 }
 

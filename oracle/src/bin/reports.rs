@@ -3,7 +3,9 @@
 //! A case is `NNNNNN MMMMMM`, the lengths of input and answer in six decimal digits, and a line feed; then the bytes of both, and a line feed.
 //! With `answer` as its word it answers one input from standard input, as the report program does. With `compare`, a number and a command it
 //! runs the command on every so manieth input and holds what it writes to the answer, byte for byte.
+//! With `mend` before all of these it is the same of the program mend, by a plain reading of its rule.
 
+use oracle::mend;
 use oracle::random::Random;
 use oracle::report;
 use std::io::{Read, Write};
@@ -12,19 +14,32 @@ use std::process::{Command, ExitCode, Stdio};
 /// How many inputs are made by chance.
 const BY_CHANCE: u64 = 170;
 
+/// A program: its name, what it is asked, and what it answers.
+struct Program {
+    name: &'static str,
+    inputs: fn() -> Vec<Vec<u8>>,
+    answer: fn(&[u8]) -> String,
+}
+
+const REPORT: Program = Program { name: "reports", inputs, answer: report::answer };
+const MEND: Program = Program { name: "mends", inputs: mend_inputs, answer: mend::answer };
+
 fn main() -> std::io::Result<ExitCode> {
     let mut out = std::io::stdout().lock();
-    let words: Vec<String> = std::env::args().skip(1).collect();
+    let mut words: Vec<String> = std::env::args().skip(1).collect();
+    let mends = words.first().is_some_and(|word| word == "mend");
+    let asked = if mends { MEND } else { REPORT };
+    words.drain(..usize::from(mends));
     match words.first().map(String::as_str) {
         Some("answer") => {
             let mut input = Vec::new();
             std::io::stdin().read_to_end(&mut input)?;
-            out.write_all(report::answer(&input).as_bytes())?;
+            out.write_all((asked.answer)(&input).as_bytes())?;
         }
-        Some("compare") => return compare(words[1].parse().expect("a number"), &words[2], &words[3..]),
+        Some("compare") => return compare(&asked, words[1].parse().expect("a number"), &words[2], &words[3..]),
         _ => {
-            for input in inputs() {
-                let answer = report::answer(&input);
+            for input in (asked.inputs)() {
+                let answer = (asked.answer)(&input);
                 writeln!(out, "{:06} {:06}", input.len(), answer.len())?;
                 out.write_all(&input)?;
                 out.write_all(answer.as_bytes())?;
@@ -49,9 +64,27 @@ fn inputs() -> Vec<Vec<u8>> {
     inputs
 }
 
-fn compare(step: usize, program: &str, words: &[String]) -> std::io::Result<ExitCode> {
+/// How many inputs of mend are made by chance, of which those that are long are left out.
+const MENDED: u64 = 300;
+const MOST_BYTES: usize = 1_500;
+
+fn mend_inputs() -> Vec<Vec<u8>> {
+    let random = &mut Random::new(1, "mends");
+    let mut inputs = report::written_out();
+    let speed = b"format=ssc\nspeed=4010000000000000,3FF8000000000000,0000000000000000,1\nscroll=0000000000000000,3FF0000000000000\n";
+    inputs.extend(report::damaged(speed, random).into_iter().step_by(5));
+    inputs.extend(
+        (0..MENDED).map(|turn| report::text(&mend::by_chance(turn, random))).filter(|text| text.len() <= MOST_BYTES),
+    );
+    inputs.extend((0..BY_CHANCE).step_by(5).map(|turn| report::text(&report::by_chance(turn, random))));
+    inputs.extend(report::about_the_limit().iter().map(report::text));
+    inputs.extend(report::out_of_order().iter().map(report::text));
+    inputs
+}
+
+fn compare(asked: &Program, step: usize, program: &str, words: &[String]) -> std::io::Result<ExitCode> {
     let (mut compared, mut different) = (0, 0);
-    for input in inputs().into_iter().step_by(step) {
+    for input in (asked.inputs)().into_iter().step_by(step) {
         let mut child = Command::new(program)
             .args(words)
             .stdin(Stdio::piped())
@@ -61,13 +94,13 @@ fn compare(step: usize, program: &str, words: &[String]) -> std::io::Result<Exit
         child.stdin.take().expect("a pipe").write_all(&input)?;
         let written = child.wait_with_output()?.stdout;
         compared += 1;
-        if written != report::answer(&input).as_bytes() {
+        if written != (asked.answer)(&input).as_bytes() {
             different += 1;
             if different <= 5 {
                 println!("{:?}\nwrote {:?}", String::from_utf8_lossy(&input), String::from_utf8_lossy(&written));
             }
         }
     }
-    println!("reports: {compared} compared, {different} different");
+    println!("{}: {compared} compared, {different} different", asked.name);
     Ok(if different == 0 { ExitCode::SUCCESS } else { ExitCode::FAILURE })
 }

@@ -1,10 +1,10 @@
--- `report_whole::front` meets its contract, within the column and past its end. Assumes nothing.
+-- `report_form::front` meets its contract, within the column and past its end. Assumes nothing.
 use mathlib.Core.Path.{sym}
 use native.Mathlib.Omega.{arith}
 use lib.Seq.{take-all, length-take-le}
 use borrow.Author.Needs.{needs}
-use Rattle.report_whole.proofs.front.Statement.{statement}
-use Rattle.report_whole.proofs.front.Tie as tie
+use Rattle.report_form.proofs.front.Statement.{statement}
+use Rattle.report_form.proofs.front.Tie as tie
 
 slice-aggregate-result : tie.Need-slice-aggregate-result
 slice-aggregate-result c = sym (length-take-le (c .before .before .args .count) (c .before .before .args .column .now) (omega arith))

@@ -1,10 +1,10 @@
--- `report_whole::count_of` meets its contract. Assumes nothing.
+-- `report_form::count_of` meets its contract. Assumes nothing.
 use mathlib.Core.Path.{sym}
 use native.Mathlib.Omega.{arith}
 use lib.ListN.{List·getD-eq-default}
 use borrow.Author.Needs.{needs}
-use Rattle.report_whole.proofs.count_of.Statement.{statement}
-use Rattle.report_whole.proofs.count_of.Tie as tie
+use Rattle.report_form.proofs.count_of.Statement.{statement}
+use Rattle.report_form.proofs.count_of.Tie as tie
 
 mul-result : tie.Need-mul-result
 mul-result c = search needs

@@ -1,0 +1,14 @@
+pub mod WrittenList
+pub mod EachMended
+pub mod KeptAreWritten
+pub mod MendedAgain
+pub mod OtherNames
+pub mod SmallLists
+pub mod NextOfRow
+pub mod SortedPlaces
+pub mod OneWalk
+pub mod ByPlaces
+pub mod FatesInPlace
+pub mod Turns
+pub mod BeatsWalked
+pub mod LaidByPlaces

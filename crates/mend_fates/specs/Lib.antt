@@ -1,0 +1,4 @@
+pub mod Mending
+pub mod MendedLists
+pub mod RowOrder
+pub mod inside

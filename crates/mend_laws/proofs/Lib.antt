@@ -1,0 +1,4 @@
+pub mod WrittenInOrder
+pub mod EachKept
+pub mod ScrollsDrawn
+pub mod SpeedsAssembled

@@ -1,0 +1,1 @@
+// A mended list on its way through assembly to where notes are drawn: laws.

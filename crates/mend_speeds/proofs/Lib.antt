@@ -1,0 +1,3 @@
+pub mod SpeedAtPlace
+pub mod Outcomes
+pub mod OneOutcome

@@ -1,0 +1,2 @@
+pub mod MendedSpeeds
+pub mod inside

@@ -1,0 +1,9 @@
+pub mod HexHalves
+pub mod LinesLeft
+pub mod LineForEach
+pub mod ListSizes
+pub mod FrontsMended
+pub mod TextSizes
+pub mod ByNumber
+pub mod ReadText
+pub mod OneOutcome
