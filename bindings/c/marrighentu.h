@@ -1055,7 +1055,7 @@ MARRIGHENTU_LAYOUT(sizeof(marrighentu_displayed) == 16 && offsetof(marrighentu_d
 MARRIGHENTU_LAYOUT(sizeof(marrighentu_stored) == 40 && offsetof(marrighentu_stored, fakes) == 32);
 MARRIGHENTU_LAYOUT(sizeof(marrighentu_filled) == 24 && offsetof(marrighentu_filled, own) == 16);
 MARRIGHENTU_LAYOUT(sizeof(marrighentu_processed) == 40 && offsetof(marrighentu_processed, warps) == 24 && offsetof(marrighentu_processed, offset) == 32);
-MARRIGHENTU_LAYOUT(sizeof(marrighentu_assembled) == 72 && offsetof(marrighentu_assembled, offset) == 64);
+MARRIGHENTU_LAYOUT(sizeof(marrighentu_assembled) == 96 && offsetof(marrighentu_assembled, offset) == 64 && offsetof(marrighentu_assembled, moved) == 68);
 
 #ifdef __cplusplus
 }

@@ -221,7 +221,8 @@ for (const name of chosen) {
     for (let round = 0; round < rounds; round++) {
         const given = question(name);
         const answer = engine[name.slice('marrighentu_'.length)](given);
-        if (functions[name].result === 'void' || typeof answer !== 'object' || answer.number === 0) own++;
+        // what has no number can't be refused
+        if (typeof answer !== 'object' || !(answer.number > 0)) own++;
         asked.push({ given, wanted: numbersIn(name, answer) });
     }
     if (spoiled >= 0) {
