@@ -70,7 +70,7 @@ fn entries_off_the_grid_are_told() {
             "moved   tempo 3, line 3: beat 4.002 is off the grid, moved by -0.002 to beat 4",
             "moved   stop 1, line 4: beat -0.01 is off the grid, moved by 0.01 to beat 0",
             "moved   delay 1, line 6: beat 0.333333 is off the grid, moved by 0.000000358 to beat 0.33333334",
-            "moved   delay 2, line 6: beat 16.02 is off the grid, moved by 0.000833 to beat 16.020834",
+            "moved   delay 2, line 6: beat 16.02 is off the grid, moved by 0.000834 to beat 16.020834",
             "moved   fake 1, line 7: beat 24.000002 is off the grid, moved by -0.00000191 to beat 24",
         ]
     );
