@@ -217,6 +217,13 @@ int main(void) {
     expect(looked.number == MARRIGHENTU_TAKEN && looked.yes, "a row in the warp");
     looked = marrighentu_is_warp_at_beat_checked(WARP_COLUMNS(t), 12.0);
     expect(looked.number == MARRIGHENTU_TAKEN && !looked.yes, "the beat where the warp ends");
+
+    /* how many rows the warp passes over; and of two that overlap, each row once */
+    uint64_t warped = marrighentu_warped_rows(t->warp_beats, t->made.warps, t->warp_lengths, t->made.warps);
+    printf("%u rows are warped\n", (unsigned)warped);
+    expect(warped == 8 * 48, "the rows of the warp");
+    const float overlapping_beats[] = {0, 4}, overlapping_lengths[] = {8, 1};
+    expect(marrighentu_warped_rows(overlapping_beats, 2, overlapping_lengths, 2) == 384, "two warps that overlap");
     looked = marrighentu_is_fake_at_row_checked(t->fake_beats, t->made.fakes, t->fake_lengths, t->made.fakes, 20 * 48 + 24);
     expect(looked.number == MARRIGHENTU_TAKEN && looked.yes, "a row in the fake");
     looked = marrighentu_is_fake_at_beat_checked(t->fake_beats, t->made.fakes, t->fake_lengths, t->made.fakes, 6.0);

@@ -881,6 +881,16 @@ marrighentu_stored marrighentu_build_segment_row_storage(
     const float *fake_lengths, size_t fake_lengths_length,
     int32_t *rows, size_t rows_length);
 
+/* How many rows warps pass over, each row once: the different rows r with start row <= r < start row + length in rows for some warp of a length above 0. Rows are
+ * those of the beats and lengths at double, the start and the length each held at the ends of int32_t, the end itself not; so a warp without an end counts
+ * 2,147,483,647 rows. It is meant for a timing's warps, whose rows rise, as marrighentu_compute_timing_segments writes them and marrighentu_check_timing takes them.
+ * It refuses nothing and tests nothing: over warps whose rows fall it goes along the list once, and of each warp counts only the rows that lie behind every
+ * earlier end, so that no row is counted twice and some may be left out; sort such a list by row first. Where one column is longer its last entries are not read.
+ */
+uint64_t marrighentu_warped_rows(
+    const float *warp_beats, size_t warp_beats_length,
+    const float *warp_lengths, size_t warp_lengths_length);
+
 /* ---- stops for SM */
 
 /* The stops that an SM file needs to play a timing without delays and warps. Stops and work list are flat: beat, seconds, beat, seconds.

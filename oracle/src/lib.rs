@@ -54,3 +54,4 @@ pub mod tempo_text;
 #[cfg(feature = "port")]
 pub mod tidying;
 pub mod timings;
+pub mod warped;

@@ -5,7 +5,7 @@ use crate::assembly::{DELAYS, FAKES, Lists, Raw, SCROLLS, SPEEDS, STOPS, TEMPOS,
 use crate::cases::power;
 use crate::charts;
 use crate::random::Random;
-use crate::timing::probe;
+use crate::warped;
 
 /// The words of the lists, in their order, and the place of the one that has four numbers a line.
 const WORDS: [&str; 7] = ["bpm", "stop", "delay", "warp", "speed", "scroll", "fake"];
@@ -113,8 +113,8 @@ fn written(lists: &Lists) -> String {
         .map(|(beat, ratio, delay, unit)| format!("speed={},{},{},{unit}\n", bits(*beat), bits(*ratio), bits(*delay)))
         .collect();
     let [tempos, stops, delays, warps, scrolls, fakes] = &lists.pairs;
-    let lengths = warps.iter().map(|(_, length)| f64::from(*length)).filter(|length| *length > 0.0);
-    let warped: u64 = lengths.map(|length| probe::beat_to_note_row(length) as u64).sum();
+    let (beats, lengths): (Vec<f32>, Vec<f32>) = warps.iter().copied().unzip();
+    let warped = warped::count(&warped::spans(&beats, &lengths));
     let front = format!("answer=0\noffset={}\n", bits(lists.offset));
     let before = pairs("bpm", tempos) + &pairs("stop", stops) + &pairs("delay", delays) + &pairs("warp", warps);
     front + &before + &speeds + &pairs("scroll", scrolls) + &pairs("fake", fakes) + &format!("warped={warped}\n")
@@ -309,6 +309,41 @@ pub fn about_the_limit() -> Vec<Input> {
         input.lists[1] = (0..owed).map(|place| entry(100.0 + 8.0 * place as f64, -0.5)).collect();
         input.lists[3] = (0..given).map(|place| entry(place as f64 * 0.25, 0.125)).collect();
         made.push(input);
+    }
+    made
+}
+
+/// Warps that share rows, touch, or lie apart, in either format; some of them made by SM out of what runs backward.
+pub fn overlapping_warps() -> Vec<Input> {
+    const ENDLESS: f64 = 99_999_999.0;
+    let lists: [&[(f64, f64)]; 16] = [
+        &[(0.0, 8.0), (4.0, 1.0)],
+        &[(0.0, 4.0), (2.0, 6.0)],
+        &[(0.0, 8.0), (4.0, 4.0)],
+        &[(0.0, 4.0), (4.0, 1.0)],
+        &[(0.0, 4.0), (4.0 + 1.0 / 48.0, 1.0)],
+        &[(0.0, 8.0), (1.0, 1.0), (4.0, 2.0)],
+        &[(0.0, 8.0), (1.0, 1.0), (4.0, 6.0)],
+        &[(-2.0, 4.0), (1.0, 1.0)],
+        &[(-8.0, 2.0), (-7.0, 9.0)],
+        &[(0.0, ENDLESS), (4.0, 1.0)],
+        &[(0.0, ENDLESS), (4.0, ENDLESS)],
+        &[(-4.0, ENDLESS), (4.0, ENDLESS), (8.0, 1.0)],
+        &[(0.0, 8.0), (4.0, -8.0), (6.0, 0.0), (7.0, 2.0)],
+        &[(0.0, 8.0), (4.0, 1.0 / 256.0), (8.0, 1.0 / 256.0)],
+        &[(4.0, 1.0), (0.0, 8.0)],
+        &[(4.0, 8.0), (0.0, 5.0), (4.0, 2.0)],
+    ];
+    let mut made = Vec::new();
+    for warps in lists {
+        let warps: Vec<Entry> = warps.iter().map(|(beat, length)| entry(*beat, *length)).collect();
+        for (ssc, stops) in [(true, vec![]), (false, vec![]), (false, vec![entry(5.0, -1.0)])] {
+            let mut input = Input { ssc, ..Input::default() };
+            input.lists[0] = vec![entry(0.0, 120.0)];
+            input.lists[1] = stops;
+            input.lists[3] = warps.clone();
+            made.push(input);
+        }
     }
     made
 }

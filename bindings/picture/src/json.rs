@@ -201,6 +201,7 @@ fn timing(seen: &Seen) -> Vec<(&'static str, Json)> {
         ("stops", columns(timing.stops(), "seconds")),
         ("delays", columns(timing.delays(), "seconds")),
         ("warps", columns(timing.warps(), "beats")),
+        ("warped_rows", Json::Number(timing.warped_rows().to_string())),
         ("speeds", Json::List(speeds.collect())),
         ("scrolls", columns(timing.scrolls(), "times")),
         ("fakes", columns(timing.fakes(), "beats")),

@@ -20,6 +20,9 @@ fn lists(out: &mut String, timing: &Timing) {
     list(out, "stop", timing.stops(), "s");
     list(out, "delay", timing.delays(), "s");
     list(out, "warp", timing.warps(), "beats");
+    if !timing.warps().is_empty() {
+        let _ = writeln!(out, "warped  {} rows", timing.warped_rows());
+    }
     for speed in timing.speeds() {
         let unit = if speed.unit == SpeedUnit::Beats { "beats" } else { "s" };
         let _ = writeln!(out, "speed   beat {} ratio {} over {} {unit}", speed.beat, speed.ratio, speed.delay);

@@ -247,6 +247,30 @@ fn events_are_told_in_the_order_in_which_they_fall() {
 }
 
 #[test]
+fn warped_rows_are_counted_once() {
+    // of two warps that overlap, one of negative length and one below 0
+    let lists = "#VERSION:0.83;#BPMS:0=120;#WARPS:-1=2,2=8,4=1,6=-1,9=2;";
+    let file = written("overlapping.ssc", lists);
+    let told = said(&[&file, "--header"]);
+    let warps: Vec<&str> = told.lines().filter(|line| line.starts_with("warp")).collect();
+    assert_eq!(
+        warps,
+        [
+            "warp    beat -1 2 beats",
+            "warp    beat 2 8 beats",
+            "warp    beat 4 1 beats",
+            "warp    beat 6 -1 beats",
+            "warp    beat 9 2 beats",
+            "warped  528 rows"
+        ]
+    );
+    assert_eq!(Json::read(&said(&[&file, "--header", "--json"])).field("warped_rows").number(), 528.0);
+    // of no warps only JSON says so
+    assert!(!said(&["example.ssc", "--header"]).contains("warped"));
+    assert_eq!(Json::read(&said(&["example.ssc", "--header", "--json"])).field("warped_rows").number(), 0.0);
+}
+
+#[test]
 fn seconds_have_their_beats() {
     let told = said(&["example.ssc", "--at", "1.75,2.25,2.75,5.5,11.75,1000", "--beats", "4"]);
     let seconds: Vec<&str> = told.lines().filter(|line| line.starts_with("second")).collect();

@@ -312,6 +312,7 @@ calls! {
         room rows: i32,
     ) -> Stored = "marrighentu_build_segment_row_storage";
     fn check_lookups(list stops: f32, list delays: f32, list warps: f32, list fakes: f32) -> u32 = "marrighentu_check_lookups";
+    fn warped_rows(list warps: f32) -> u64 = "marrighentu_warped_rows";
     fn is_warp_at_row_checked(
         list stops: f32,
         list delays: f32,

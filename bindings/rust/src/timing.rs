@@ -398,6 +398,23 @@ impl Timing {
         Ok(std::str::from_utf8(&page[..outcome.count]).expect("digits, signs, points and commas"))
     }
 
+    /// How many rows the warps pass over, each row once: the different rows from some warp's start on, before its end. A warp whose length is not
+    /// above 0 passes over none, and one without an end over 2,147,483,647.
+    ///
+    /// ```
+    /// use marrighentu::{Chart, Format, Timing};
+    ///
+    /// // the second warp lies within the first
+    /// let chart = Chart { warps: vec![(0.0, 8.0), (4.0, 1.0)], ..Chart::default() };
+    /// let timing = Timing::assemble(Format::Ssc, &chart, 0.0, 0.0)?;
+    /// assert_eq!(timing.warped_rows(), 8 * 48);
+    /// # Ok::<(), marrighentu::Refusal>(())
+    /// ```
+    #[must_use]
+    pub fn warped_rows(&self) -> u64 {
+        ffi::warped_rows(&self.warps)
+    }
+
     /// Whether a row is warped: the last warp that starts at or before it reaches beyond it, and no positive stop or delay is on the row.
     ///
     /// # Errors
@@ -534,6 +551,29 @@ mod tests {
         // two rows for the clock, one for the lookups
         let warps = vec![(41_666.74, 1.0), (41_666.75, 1.0)];
         assert_eq!(made(Lists { warps, ..Lists::default() }), Err(Refusal::NotRising));
+    }
+
+    #[test]
+    fn warped_rows_are_counted_once() {
+        let warped = |warps: &[(f32, f32)]| {
+            made(Lists { warps: warps.to_vec(), ..Lists::default() }).map(|timing| timing.warped_rows())
+        };
+        let held = 99_999_999.0;
+        for (warps, rows) in [
+            (&[][..], 0),
+            (&[(0.0, 8.0), (4.0, 1.0)], 384),
+            (&[(0.0, 4.0), (2.0, 6.0)], 384),
+            (&[(0.0, 4.0), (4.0, 1.0)], 240),
+            (&[(0.0, 8.0), (1.0, 1.0), (4.0, 6.0)], 480),
+            (&[(-2.0, 4.0), (1.0, 1.0)], 192),
+            (&[(0.0, -8.0), (1.0, 0.0), (2.0, 1.0 / 256.0)], 0),
+            (&[(0.0, held), (4.0, 1.0)], 2_147_483_647),
+            (&[(0.0, held), (4.0, held)], 2_147_483_839),
+        ] {
+            assert_eq!(warped(warps), Ok(rows), "{warps:?}");
+        }
+        // no timing has warps whose rows fall
+        assert_eq!(warped(&[(4.0, 1.0), (0.0, 8.0)]), Err(Refusal::NotRising));
     }
 
     /// Scrolls that can't be drawn make a timing all the same, and are refused when a note is to be drawn.

@@ -53,16 +53,17 @@ speeds-laid p h = record { counted = rw h at (p .count); beatsAre = rw h at (p .
 
 pub record Passed (raw warps most later : ℕ) : Type 0 where
   pub rawTaken : raw ≡ 0
+  pub fewWarps : warps ≤ min most 1024
   pub laterTaken : later ≡ 0
 
 pub none-refused : (raw warps most later : ℕ) → verdict raw warps most later ≡ 0 → Passed raw warps most later
 unfolding verdict
-none-refused raw warps most later h = go (eqb raw 0) (leb warps (min most 1024)) refl h
+none-refused raw warps most later h = go (eqb raw 0) (leb warps (min most 1024)) refl refl h
   where
-    go : (t u : Bool) → eqb raw 0 ≡ t → pick t (pick u later 1) raw ≡ 0 → Passed raw warps most later
-    go true true a k = record { rawTaken = eqb-true raw 0 a; laterTaken = k }
-    go true false a k = absurd (omega arith)
-    go false u a k = let z : _≡_ {A = Bool} true false = sym (eq-eqb raw 0 k) ∙ a in let w : _≡_ {A = ℕ} 0 1 = cc in absurd (omega arith)
+    go : (t u : Bool) → eqb raw 0 ≡ t → leb warps (min most 1024) ≡ u → pick t (pick u later 1) raw ≡ 0 → Passed raw warps most later
+    go true true a b k = record { rawTaken = eqb-true raw 0 a; fewWarps = leb-true warps (min most 1024) b; laterTaken = k }
+    go true false a b k = absurd (omega arith)
+    go false u a b k = let z : _≡_ {A = Bool} true false = sym (eq-eqb raw 0 k) ∙ a in let w : _≡_ {A = ℕ} 0 1 = cc in absurd (omega arith)
 
 -- what comes later counts only where the raw lists are taken
 pub same-later : {raw later later′ most : ℕ} {lists : ThreeLists} {outcome : AssembledTempos} {old new : ThreeColumns} → (raw ≡ 0 → later ≡ later′)

@@ -1,1 +1,2 @@
 pub mod WarpedRows
+pub mod OnePass

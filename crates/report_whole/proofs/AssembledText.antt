@@ -4,11 +4,12 @@ use mathlib.Core.Path.{_≡_, _∙_}
 use mathlib.Core.List.{List}
 use lib.ListN.{length, take}
 use lib.Ieee.{Float}
+use Rattle.order.specs.Entries.{entries}
 use Rattle.chart.specs.declared.TimingFormat.{TimingFormat}
 use Rattle.assembly.specs.declared.Assembled.{Assembled}
 use Rattle.chart.specs.ChartColumns.{ChartColumns, listColumns, speedColumns, chartColumns}
 use Rattle.assembly.specs.Assembly.{Assembles}
-use Rattle.lookup_warped.specs.WarpedRows.{warpedCount}
+use Rattle.lookup_warped.specs.OnePass.{onePass}
 use Rattle.report_answer.specs.Report.{doneText}
 use Rattle.report_whole.specs.Taken.{takenText}
 use Rattle.report_whole.proofs.TakenReport.{written, done-is-taken}
@@ -21,6 +22,6 @@ allRooms room units =
 
 module _ (format : TimingFormat) (raw : ChartColumns) {done : Assembled} {room : List Float} {units : List ℕ} {new : ChartColumns} {warped : ℕ} where
   pub assembled-text : length room ≡ 256 → length units ≡ 256 → Assembles 256 format raw done (allRooms room units) new
-      → warped ≡ warpedCount (take (done .warps) (new .warps .values))
+      → warped ≡ onePass (entries (take (done .warps) (new .warps .beats)) (take (done .warps) (new .warps .values)))
       → doneText (done .number) (done .offset) warped (written done) new ≡ takenText format raw
-  assembled-text r u made sum = done-is-taken format raw done _ new made sum (rw (r, u) at (made .numberIs))
+  assembled-text r u made pass = done-is-taken format raw done _ new made pass (rw (r, u) at (made .numberIs))

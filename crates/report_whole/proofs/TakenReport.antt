@@ -11,14 +11,18 @@ use lib.Ieee.{Float}
 use Rattle.picks.specs.Pick.{pick}
 use Rattle.ieee.specs.Narrowing.{narrow}
 use Rattle.order.specs.Order.{laid}
-use Rattle.order.specs.Entries.{first, second}
+use Rattle.order.specs.Entries.{entries, first, second}
+use Rattle.order.proofs.Columns.{entries-columns}
 use Rattle.columns.specs.Laying.{given, columnLaid}
 use Rattle.tidy_speeds_entries.specs.LaidSpeeds.{ratioOf, delayOf, unitOf}
 use Rattle.chart.specs.declared.TimingFormat.{TimingFormat}
-use Rattle.chart.specs.ChartColumns.{ChartColumns, ChartRoom}
+use Rattle.chart.specs.ChartColumns.{ListColumns, ChartColumns, ChartRoom, roomForEach}
 use Rattle.assembly.specs.declared.Assembled.{Assembled}
 use Rattle.assembly.specs.Assembly.{processedChart, Assembles}
-use Rattle.lookup_warped.specs.WarpedRows.{warpedCount}
+use Rattle.assembly_tempos.specs.AssembledTempos.{assembledWarps}
+use Rattle.lookup_warped.specs.WarpedRows.{warpedRows}
+use Rattle.lookup_warped.specs.OnePass.{onePass}
+use Rattle.lookup_warped_laws.proofs.AssembledOnce.{assembled-once}
 use Rattle.report_text.specs.Output.{answerLine, listsText, frontLists}
 use Rattle.report_answer.specs.Report.{doneText}
 use Rattle.report_whole.specs.Taken.{timingLists, takenNumber, takenLists, takenText}
@@ -41,8 +45,12 @@ written done = record {
   fakes = done .fakes;
 }
 
+-- the pass over two columns
+abbrev pub passOf : ListColumns → ℕ
+passOf warps = onePass (entries (warps .beats) (warps .values))
+
 module _ (format : TimingFormat) (raw : ChartColumns) (done : Assembled) (old new : ChartColumns) (made : Assembles 256 format raw done old new) {warped : ℕ}
-    (sum : warped ≡ warpedCount (take (done .warps) (new .warps .values))) where
+    (pass : warped ≡ passOf (frontLists (written done) new .warps)) where
   -- the columns' fronts are the lists
   fronts-are : done .number ≡ 0 → frontLists (written done) new ≡ timingLists format raw
   fronts-are z =
@@ -68,10 +76,16 @@ module _ (format : TimingFormat) (raw : ChartColumns) (done : Assembled) (old ne
   abbrev lists : List ℕ
   lists = listsText (done .offset) warped (frontLists (written done) new)
 
-  lists-are : done .number ≡ 0 → lists ≡ takenLists format raw
-  lists-are z =
+  -- of the timing's warps the pass is the number of warped rows
+  rows-are : takenNumber format raw ≡ 0 → frontLists (written done) new ≡ timingLists format raw → warped ≡ warpedRows (assembledWarps (processedChart format raw))
+  rows-are taken fronts =
+      pass ∙ ap (λ (c : ChartColumns). passOf (c .warps)) fronts ∙ ap onePass (entries-columns (assembledWarps (processedChart format raw)))
+      ∙ assembled-once 256 format raw (roomForEach 256) taken
+
+  lists-are : done .number ≡ 0 → takenNumber format raw ≡ 0 → lists ≡ takenLists format raw
+  lists-are z taken =
       let fronts = fronts-are z in
-      let rows : warped ≡ warpedCount (timingLists format raw .warps .values) = sum ∙ ap (λ (c : ChartColumns). warpedCount (c .warps .values)) fronts in
+      let rows = rows-are taken fronts in
       let offset : done .offset ≡ narrow (processedChart format raw .offset) = made .offsetIs ∙ rw z in
       ap (listsText (done .offset) warped) fronts ∙ rw (rows, offset)
 
@@ -84,4 +98,4 @@ module _ (format : TimingFormat) (raw : ChartColumns) (done : Assembled) (old ne
 
       by-case : (t : Bool) → eqb number 0 ≡ t → answerLine number ++ pick (eqb number 0) lists [] ≡ answerLine number ++ pick (eqb number 0) (takenLists format raw) []
       by-case false e = rw e
-      by-case true e = ap (λ (l : List ℕ). answerLine number ++ pick (eqb number 0) l []) (lists-are (n ∙ eqb-true number 0 e))
+      by-case true e = ap (λ (l : List ℕ). answerLine number ++ pick (eqb number 0) l []) (let taken = eqb-true number 0 e in lists-are (n ∙ taken) taken)

@@ -14,7 +14,7 @@ use Rattle.assembly_tempos.specs.AssembledTempos.{assembledTempos, assembledSto
 use Rattle.assembly_scrolls.specs.AssembledScrolls.{assembledScrolls}
 use Rattle.assembly_speeds.specs.AssembledSpeeds.{assembledSpeeds}
 use Rattle.assembly.specs.Assembly.{assembledDelays, assembledFakes, processedChart, assemblyNumber}
-use Rattle.lookup_warped.specs.WarpedRows.{warpedCount}
+use Rattle.lookup_warped.specs.WarpedRows.{warpedRows}
 use Rattle.report_text.specs.Output.{answerLine, listsText}
 
 -- entries as columns
@@ -43,7 +43,7 @@ module _ (format : TimingFormat) (raw : ChartColumns) where
 
   -- the answer line, and behind it the lists where they are taken
   abbrev pub takenLists : List ℕ
-  takenLists = listsText (narrow (processedChart format raw .offset)) (warpedCount (timingLists .warps .values)) timingLists
+  takenLists = listsText (narrow (processedChart format raw .offset)) (warpedRows (assembledWarps (processedChart format raw))) timingLists
 
   unfoldable pub takenText : List ℕ
   takenText = answerLine takenNumber ++ pick (eqb takenNumber 0) takenLists []

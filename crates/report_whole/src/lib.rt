@@ -4,7 +4,9 @@ use report_form::Reading;
 ghost use mathlib.Core.Path.{_≡_};
 ghost use lib.ListN.{take};
 ghost use Rattle.io.specs.Counts.{Counts};
+ghost use Rattle.order.specs.Entries.{entries};
 ghost use Rattle.chart.specs.ChartColumns.{lentColumns, lentSpeeds, LentChart, before};
+ghost use Rattle.lookup_warped.specs.OnePass.{onePass};
 ghost use Rattle.text_page.specs.Page.{Wrote};
 ghost use Rattle.report_whole.specs.Taken.{takenText};
 ghost use Rattle.report_whole.specs.Whole.{formatRead, entriesCounted, reportText, Reported};
@@ -46,6 +48,13 @@ fn front_f32(column: &[f32], count: usize) -> &[f32]
         return &column[..count];
     }
     column
+}
+
+// How many rows the first warps of two columns pass over.
+fn warped_of(beats: &[f32], lengths: &[f32], count: usize) -> u64
+    ensures { λ r. ⌜ r ≡ onePass (entries (take count beats.entry.now) (take count lengths.entry.now)) ⌝ }
+{
+    lookup_warped::warped_rows(front_f32(beats, count), front_f32(lengths, count))
 }
 
 // The answer to lists of an input that is taken: assembled in columns of 256 numbers, and written from the page's first byte on.
@@ -134,7 +143,7 @@ fn write_assembled(
         &mut out_fake_beats,
         &mut out_fake_lengths,
     );
-    let warped = lookup_warped::warped_rows(front_f32(&out_warp_lengths, done.warps));
+    let warped = warped_of(&out_warp_beats, &out_warp_lengths, done.warps);
     report_answer::write_answer(
         page,
         done.number,

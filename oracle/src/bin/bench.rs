@@ -22,6 +22,7 @@ use oracle::timing::{
     get_time_for_beat, probe,
 };
 use oracle::timings::{Chart, DELAYS, STOPS, TEMPOS, WARPS};
+use oracle::warped;
 use std::hint::black_box;
 use std::time::{Duration, Instant};
 
@@ -105,6 +106,10 @@ fn main() {
     for (name, chart) in [("a typical chart", chart([50, 30, 10, 10])), ("1,000 tempos", chart([1_000, 0, 0, 0]))] {
         [2_000, 200].iter().for_each(|rows| bench.note_sheet(name, &chart, *rows));
     }
+    println!(
+        "nanoseconds a warp; the original has no such call, and beside it stands one pass in Rust by the original's rows"
+    );
+    [16, 256, 1_024].iter().for_each(|warps| bench.warped_rows(*warps));
     println!(
         "nanoseconds a call of the port's two clocks; each call tests the timing, and a question to the bench clock lays all events out first"
     );
@@ -199,6 +204,23 @@ impl Bench {
                 black_box(speeds::port(black_box(&columns), [beats, ratios, delays], &mut rooms.units));
             },
             || drop(black_box(probe::tidy_speed_segments(black_box(&list).clone()))),
+        );
+    }
+
+    /// Warps a beat apart, every fourth of which reaches into the next.
+    fn warped_rows(&mut self, entries: usize) {
+        let beats: Vec<f32> = (0..entries).map(|place| place as f32).collect();
+        let lengths: Vec<f32> = (0..entries).map(|place| if place % 4 == 0 { 1.5 } else { 0.4 }).collect();
+        assert_eq!(warped::warped_rows(&beats, &lengths), warped::along_the_list(&beats, &lengths));
+        self.line(
+            &format!("warped_rows of {entries}"),
+            entries,
+            || {
+                black_box(warped::warped_rows(black_box(&beats), black_box(&lengths)));
+            },
+            || {
+                black_box(warped::along_the_list(black_box(&beats), black_box(&lengths)));
+            },
         );
     }
 

@@ -44,6 +44,7 @@ fn inputs() -> Vec<Vec<u8>> {
     inputs.extend((0..BY_CHANCE).map(|turn| report::text(&report::by_chance(turn, random))));
     inputs.extend(report::about_the_limit().iter().map(report::text));
     inputs.extend(report::out_of_order().iter().map(report::text));
+    inputs.extend(report::overlapping_warps().iter().map(report::text));
     inputs
 }
 

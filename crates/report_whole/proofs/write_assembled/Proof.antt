@@ -1,9 +1,8 @@
 -- `report_whole::write_assembled` meets its contract. Assumes nothing.
 use Prim.Native.Nat.{ℕ}
-use mathlib.Core.Path.{sym, ap, _∙_}
+use mathlib.Core.Path.{sym}
 use lib.ListN.{length-replicate}
 use lib.Ieee.{Float, binary32, ofBits}
-use Rattle.lookup_warped.specs.WarpedRows.{warpedCount}
 use Rattle.text_page.proofs.Joined.{wrote-as}
 use Rattle.report_whole.proofs.AssembledText.{assembled-text}
 use borrow.Author.Needs.{needs}
@@ -77,14 +76,14 @@ slice-aggregate-compute-timing-segments-16 c = search needs
 compute-timing-segments-requires : tie.Need-compute-timing-segments-requires
 compute-timing-segments-requires c κs = search needs
 
-slice-aggregate-front-f32 : tie.Need-slice-aggregate-front-f32
-slice-aggregate-front-f32 c = sym (c .before .before .before .before .before .before .before .before .before .before .before .before .before .before .before .before .before .compute-timing-segments .kept .1 .1 .1 .1 .1 .1 .1 .1 .1 .1 .1 .1 .1 .1 .1 .1 .1 .1 .1 .1 .1 .1 .1 .1 .1 .0)
+slice-aggregate-warped-of : tie.Need-slice-aggregate-warped-of
+slice-aggregate-warped-of c = sym (c .before .before .before .before .before .before .before .before .before .before .before .before .before .before .before .before .before .compute-timing-segments .kept .1 .1 .1 .1 .1 .1 .1 .1 .1 .1 .1 .1 .1 .1 .1 .1 .1 .1 .1 .1 .1 .1 .1 .1 .0)
 
-front-f32-requires : tie.Need-front-f32-requires
-front-f32-requires c κs = search needs
+slice-aggregate-warped-of-2 : tie.Need-slice-aggregate-warped-of-2
+slice-aggregate-warped-of-2 c = sym (c .before .before .before .before .before .before .before .before .before .before .before .before .before .before .before .before .before .before .compute-timing-segments .kept .1 .1 .1 .1 .1 .1 .1 .1 .1 .1 .1 .1 .1 .1 .1 .1 .1 .1 .1 .1 .1 .1 .1 .1 .1 .0)
 
-warped-rows-requires : tie.Need-warped-rows-requires
-warped-rows-requires c κs = search needs
+warped-of-requires : tie.Need-warped-of-requires
+warped-of-requires c κs = search needs
 
 slice-aggregate-write-answer : tie.Need-slice-aggregate-write-answer
 slice-aggregate-write-answer c = sym (c .before .before .before .before .before .before .before .before .before .before .before .before .before .before .before .before .before .before .before .before .before .compute-timing-segments .kept .1 .1 .1 .1 .1 .1 .1 .1 .1 .1 .1 .1 .1 .1 .1 .1 .1 .1 .0)
@@ -143,9 +142,9 @@ same-length c = c .before .before .write-answer .kept .0
 returns : tie.Need-returns
 returns c =
     let made = c .before .before .before .before .before .before .before .before .before .before .before .before .before .before .before .before .before .before .before .before .before .before .before .before .before .before .before .before .before .before .before .before .before .before .before .before .before .before .before .compute-timing-segments .ensures in
-    let sum = c .before .before .before .before .before .before .before .before .before .before .before .before .before .before .before .before .before .before .before .before .warped-rows .ensures ∙ ap warpedCount (c .before .before .before .before .before .before .before .before .before .before .before .before .before .before .before .before .before .before .before .before .before .front-f32 .ensures) in
+    let pass = c .before .before .before .before .before .before .before .before .before .before .before .before .before .before .before .before .before .before .before .before .warped-of .ensures in
     let put = c .before .before .write-answer .ensures in
-    let text = assembled-text _ _ (length-replicate {A = Float} 256 (ofBits binary32 0)) (length-replicate {A = ℕ} 256 0) made sum in
+    let text = assembled-text _ _ (length-replicate {A = Float} 256 (ofBits binary32 0)) (length-replicate {A = ℕ} 256 0) made pass in
     (wrote-as text (put .0), put .1)
 
 pub write-assembled-spec : {M : Type 1} → statement M
@@ -169,9 +168,9 @@ write-assembled-spec =
     slice-aggregate-compute-timing-segments-15
     slice-aggregate-compute-timing-segments-16
     compute-timing-segments-requires
-    slice-aggregate-front-f32
-    front-f32-requires
-    warped-rows-requires
+    slice-aggregate-warped-of
+    slice-aggregate-warped-of-2
+    warped-of-requires
     slice-aggregate-write-answer
     slice-aggregate-write-answer-2
     slice-aggregate-write-answer-3

@@ -1,0 +1,1 @@
+// The warps that assembly writes are counted by one pass: laws.
