@@ -195,7 +195,19 @@ typedef struct {
     double offset;
 } marrighentu_processed;
 
-/* A number, how many entries of each list were written, and the seconds to add to the song's offset. */
+/* Of each list, how many of its raw entries were off the grid: their beats, narrowed to float, were not the float beats of their rows. Entries that the format
+ * leaves out and warps that are made do not count, entries that others replace do. */
+typedef struct {
+    uint32_t tempos;
+    uint32_t stops;
+    uint32_t delays;
+    uint32_t warps;
+    uint32_t speeds;
+    uint32_t scrolls;
+    uint32_t fakes;
+} marrighentu_moved;
+
+/* A number, how many entries of each list were written, the seconds to add to the song's offset, and how many raw entries were off the grid. */
 typedef struct {
     uint32_t number;
     size_t tempos;
@@ -206,7 +218,14 @@ typedef struct {
     size_t scrolls;
     size_t fakes;
     float offset;
+    marrighentu_moved moved;
 } marrighentu_assembled;
+
+/* A beat on its row, and whether it was off the grid. */
+typedef struct {
+    double beat;
+    bool off;
+} marrighentu_quantized;
 
 /* ---- rows and beats */
 
@@ -220,7 +239,11 @@ int32_t marrighentu_beat_to_note_row(double beat);
 float marrighentu_note_row_to_beat_f32(int32_t row);
 int32_t marrighentu_beat_to_note_row_f32(float beat);
 
-/* A beat moved to its row and back, by way of float as charts are read; and the same of a float. */
+/* A beat moved to its row and back, by way of float as charts are read, and whether it was off the grid: whether its float was not, by value, the float beat of
+ * its row. The double nearest to 1/3 is on the grid, and so is -0. */
+marrighentu_quantized marrighentu_quantize(double beat);
+
+/* The beat alone; and the same of a float. */
 double marrighentu_quantize_beat(double beat);
 float marrighentu_quantize_beat_f32(float beat);
 

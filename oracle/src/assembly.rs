@@ -1,4 +1,5 @@
-//! Assembly of the seven lists: the rules read plainly over the original's functions; and the port, and their comparison.
+//! Assembly of the seven lists: the rules read plainly over the original's functions, and the entries off the grid, which the original does not count; and the
+//! port, and their comparison.
 
 use crate::cases::power;
 use crate::timing::{Segment, SpeedSegment, SpeedUnit, probe};
@@ -18,12 +19,61 @@ pub const SPEEDS: usize = 8;
 pub const SCROLLS: usize = 11;
 pub const FAKES: usize = 13;
 
-/// What assembly writes: tempos, stops, delays, warps, scrolls and fakes, and the speeds.
+/// What assembly writes: tempos, stops, delays, warps, scrolls and fakes, and the speeds; and how many raw entries were off the grid.
 #[derive(Clone, Debug, Default)]
 pub struct Lists {
     pub offset: f32,
     pub pairs: [Vec<(f32, f32)>; 6],
     pub speeds: Vec<(f32, f32, f32, u8)>,
+    pub moved: Moved,
+}
+
+/// Of each list, how many of its raw entries were off the grid.
+#[derive(Clone, Copy, Debug, Default, PartialEq)]
+#[repr(C)]
+pub struct Moved {
+    pub tempos: u32,
+    pub stops: u32,
+    pub delays: u32,
+    pub warps: u32,
+    pub speeds: u32,
+    pub scrolls: u32,
+    pub fakes: u32,
+}
+
+impl Moved {
+    pub fn total(&self) -> u32 {
+        self.tempos + self.stops + self.delays + self.warps + self.speeds + self.scrolls + self.fakes
+    }
+
+    /// Of the entries that the test keeps, those that another test says are off the grid.
+    pub fn by(raw: &Raw, stays: impl Fn(f64, f64) -> bool, off: impl Fn(f64) -> bool) -> Self {
+        let all = |list: usize| raw.numbers[list].iter().filter(|beat| off(**beat)).count() as u32;
+        let stayed = |list: usize| {
+            raw.segments(list).iter().filter(|entry| stays(entry.beat, entry.value) && off(entry.beat)).count() as u32
+        };
+        Self {
+            tempos: stayed(TEMPOS),
+            stops: stayed(STOPS),
+            delays: all(DELAYS),
+            warps: all(WARPS),
+            speeds: all(SPEEDS),
+            scrolls: all(SCROLLS),
+            fakes: all(FAKES),
+        }
+    }
+}
+
+/// Whether the format keeps a raw tempo or stop.
+pub fn stays(ssc: bool, beat: f64, value: f64) -> bool {
+    let finite = beat.is_finite() && value.is_finite();
+    finite && if ssc { beat >= 0.0 && value > 0.0 } else { value != 0.0 }
+}
+
+/// Whether a beat's f32 is not, by value, the f32 beat of its row.
+pub fn off_grid(beat: f64) -> bool {
+    let narrow = beat as f32;
+    narrow != (narrow * 48.0).round_ties_even() / 48.0
 }
 
 impl Raw {
@@ -151,6 +201,7 @@ fn laid(raw: &Raw, (tempos, stops, made, offset): Processed) -> Lists {
                 (entry.beat as f32, entry.ratio as f32, entry.delay as f32, unit)
             })
             .collect(),
+        moved: Moved::default(),
     }
 }
 
@@ -175,16 +226,18 @@ pub fn assembled(ssc: bool, raw: &Raw, most: usize) -> Result<Lists, u32> {
     {
         return Err(6);
     }
-    Ok(laid(raw, processed))
+    let moved = Moved::by(raw, |beat, value| stays(ssc, beat, value), off_grid);
+    Ok(Lists { moved, ..laid(raw, processed) })
 }
 
 #[cfg(feature = "port")]
-pub use port::{Rooms, assemble, compare_all, typical};
+pub use port::{Assembled, Call, Rooms, assemble, compare, compare_all, typical};
 
 #[cfg(feature = "port")]
 mod port {
     use super::*;
     use crate::cases::Work;
+    use crate::clock::Found;
     use crate::numbers::Number;
     use crate::random::Random;
     use crate::tally::Total;
@@ -202,7 +255,11 @@ mod port {
         pub scrolls: usize,
         pub fakes: usize,
         pub offset: f32,
+        pub moved: Moved,
     }
+
+    /// The call, so that others can be put in its place.
+    pub type Call = fn(bool, &Raw, &mut Rooms) -> Assembled;
 
     /// The columns of results, in the order of the raw ones, each with its length and what stands past it.
     #[derive(Clone, Debug)]
@@ -365,6 +422,7 @@ mod port {
             scrolls: 0,
             fakes: 0,
             offset: 0.0,
+            moved: Moved::default(),
         };
         let lists = match lists {
             Err(number) => return refused(*number),
@@ -382,8 +440,8 @@ mod port {
         rooms.lay(SPEEDS + 2, lists.speeds.iter().map(|entry| entry.2));
         lists.speeds.iter().enumerate().for_each(|(place, entry)| rooms.units[place] = entry.3);
         let [tempos, stops, delays, warps, scrolls, fakes] = lists.pairs.each_ref().map(Vec::len);
-        let offset = lists.offset;
-        Assembled { number: 0, tempos, stops, delays, warps, speeds: lists.speeds.len(), scrolls, fakes, offset }
+        let Lists { offset, moved, .. } = *lists;
+        Assembled { number: 0, tempos, stops, delays, warps, speeds: lists.speeds.len(), scrolls, fakes, offset, moved }
     }
 
     fn same(one: &Assembled, other: &Assembled) -> bool {
@@ -471,38 +529,41 @@ mod port {
         raw
     }
 
+    pub fn compare(ssc: bool, work: Work, call: Call) -> Found {
+        let mut random = Random::new(work.seed, name(ssc));
+        let mut found = Found::default();
+        for turn in 0..work.lists() {
+            let raw = Raw::by_chance(turn, &mut random);
+            let lists = assembled(ssc, &raw, 1_024);
+            let mut lengths = lists.as_ref().map_or([12; 16], counts);
+            match random.below(6) {
+                0 => {
+                    let column = random.below(16) as usize;
+                    lengths[column] = lengths[column].saturating_sub(1);
+                }
+                1 => lengths[random.below(16) as usize] = 0,
+                2 => lengths = lengths.map(|length| length + random.below(5) as usize),
+                3 => lengths = [1_030; 16],
+                _ => (),
+            }
+            let mut wanted = Rooms::new(lengths, &mut random);
+            let mut got = wanted.clone();
+            let answer = expected(&lists, &mut wanted);
+            let assembled = call(ssc, &raw, &mut got);
+            found.check(same(&answer, &assembled) && wanted.bits() == got.bits(), || {
+                format!("{raw:?}, rooms {lengths:?}: {answer:?}, port {assembled:?}")
+            });
+        }
+        found
+    }
+
+    fn name(ssc: bool) -> &'static str {
+        if ssc { "compute_timing_segments of SSC" } else { "compute_timing_segments of SM" }
+    }
+
     pub fn compare_all(work: Work, total: &mut Total) {
         for ssc in [true, false] {
-            let name = if ssc { "compute_timing_segments of SSC" } else { "compute_timing_segments of SM" };
-            let mut random = Random::new(work.seed, name);
-            let (mut compared, mut different, mut shown) = (0, 0, Vec::new());
-            for turn in 0..work.lists() {
-                let raw = Raw::by_chance(turn, &mut random);
-                let lists = assembled(ssc, &raw, 1_024);
-                let mut lengths = lists.as_ref().map_or([12; 16], counts);
-                match random.below(6) {
-                    0 => {
-                        let column = random.below(16) as usize;
-                        lengths[column] = lengths[column].saturating_sub(1);
-                    }
-                    1 => lengths[random.below(16) as usize] = 0,
-                    2 => lengths = lengths.map(|length| length + random.below(5) as usize),
-                    3 => lengths = [1_030; 16],
-                    _ => (),
-                }
-                let mut wanted = Rooms::new(lengths, &mut random);
-                let mut got = wanted.clone();
-                let answer = expected(&lists, &mut wanted);
-                let assembled = assemble(ssc, &raw, &mut got);
-                compared += 1;
-                if !same(&answer, &assembled) || wanted.bits() != got.bits() {
-                    different += 1;
-                    if shown.len() < 5 {
-                        shown.push(format!("{raw:?}, rooms {lengths:?}: {answer:?}, port {assembled:?}"));
-                    }
-                }
-            }
-            total.add(name, compared, different, shown);
+            compare(ssc, work, assemble).add(name(ssc), total);
         }
     }
 }

@@ -117,7 +117,7 @@ fn written(lists: &Lists) -> String {
     let warped = warped::count(&warped::spans(&beats, &lengths));
     let front = format!("answer=0\noffset={}\n", bits(lists.offset));
     let before = pairs("bpm", tempos) + &pairs("stop", stops) + &pairs("delay", delays) + &pairs("warp", warps);
-    front + &before + &speeds + &pairs("scroll", scrolls) + &pairs("fake", fakes) + &format!("warped={warped}\n")
+    front + &before + &speeds + &pairs("scroll", scrolls) + &pairs("fake", fakes) + &format!("warped={warped}\nmoved={}\n", lists.moved.total())
 }
 
 /// The text of an input.
@@ -378,6 +378,47 @@ pub fn out_of_order() -> Vec<Input> {
         }
         let mut input = about_the_limit().pop().expect("warps that are one too many");
         input.lists[list] = falling(list, 4);
+        made.push(input);
+    }
+    made
+}
+
+/// Entries off the grid: in each list, that tidying loses, that the format drops, before 0, at beats that only look off; and beside a warp that is made.
+pub fn off_the_grid() -> Vec<Input> {
+    let listed = |list: usize, beats: &[f64]| -> Vec<Entry> {
+        beats
+            .iter()
+            .enumerate()
+            .map(|(place, beat)| {
+                let mut made = entry(*beat, 1.0 + place as f64);
+                if list == SPEED {
+                    made.numbers.push(0.5_f64.to_bits());
+                }
+                made
+            })
+            .collect()
+    };
+    // each the beat of its row, by value, once it is narrowed
+    let on = [-0.0, f64::from_bits(1), 1.0 / 3.0, f64::from(1.0_f32 / 3.0), 5.0 / 48.0, 65_536.0];
+    let off = [0.001, 0.01, 4.01, 4.011, 8.0, 8.3, 65_535.99];
+    let mut made = Vec::new();
+    for list in 0..WORDS.len() {
+        for beats in [&on[..], &off] {
+            for ssc in [true, false] {
+                let mut input = Input { ssc, ..Input::default() };
+                input.lists[list] = listed(list, beats);
+                made.push(input);
+            }
+        }
+    }
+    for ssc in [true, false] {
+        let mut input = Input { ssc, ..Input::default() };
+        input.lists[0] = vec![entry(0.01, 120.0), entry(0.01, 130.0), entry(2.01, 0.0), entry(f64::NAN, 60.0)];
+        input.lists[1] = vec![entry(-0.01, 1.0), entry(3.01, 0.0), entry(4.01, f64::INFINITY), entry(5.01, -1.0)];
+        input.lists[3] = vec![entry(6.01, 1.0), entry(6.012, 2.0)];
+        made.push(input.clone());
+        // and refused: nothing is counted
+        input.lists[6] = vec![entry(0.01, power(31))];
         made.push(input);
     }
     made

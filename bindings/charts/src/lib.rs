@@ -56,6 +56,7 @@
 
 mod file;
 mod lists;
+mod moved;
 mod notes;
 mod places;
 mod refused;
@@ -63,6 +64,7 @@ mod tags;
 
 pub use file::{ChartFile, ChartText};
 pub use lists::ChartTiming;
+pub use moved::MovedEntry;
 pub use notes::{Note, NoteKind};
 pub use places::{Fault, Place};
 pub use refused::Refused;

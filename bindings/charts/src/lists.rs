@@ -1,5 +1,6 @@
 //! The lists of a chart, read as rssp reads them.
 
+use crate::moved::{self, MovedEntry};
 use crate::refused::{self, Refused};
 use marrighentu::{Chart, Format, Speed, SpeedUnit, Timing};
 use std::borrow::Cow;
@@ -58,6 +59,12 @@ impl ChartTiming {
     #[must_use]
     pub fn is_own(&self) -> bool {
         self.own
+    }
+
+    /// The entries off the grid, list by list in the order in which they are written: as many of each list as [`Timing::moved`] counts, where the lists are taken.
+    #[must_use]
+    pub fn moved(&self) -> Vec<MovedEntry> {
+        moved::moved(self)
     }
 
     /// The timing of these lists, by [`Timing::assemble`]. `global_offset` is the machine's, in seconds.

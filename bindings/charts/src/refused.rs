@@ -47,18 +47,18 @@ const MOST: Limit = Limit { number: 1_073_741_824.0, written: "2^30" };
 const MOST_OFFSET: Limit = Limit { number: 1_048_576.0, written: "2^20" };
 
 /// One list with its name, and for each entry the beat and the values by name and unit.
-struct Listed<'a> {
-    name: &'static str,
+pub(crate) struct Listed<'a> {
+    pub name: &'static str,
     plural: &'static str,
-    written: &'a [Written],
-    beats: Vec<f64>,
+    pub written: &'a [Written],
+    pub beats: Vec<f64>,
     /// A name before the number, the numbers and a unit behind them.
-    values: Vec<(&'static str, Vec<f64>, &'static str)>,
+    pub values: Vec<(&'static str, Vec<f64>, &'static str)>,
     /// Tempos and stops: a number that is not 0 has a least size, and one that is not finite is dropped.
-    raw: bool,
+    pub raw: bool,
 }
 
-fn listed(read: &ChartTiming) -> [Listed<'_>; 7] {
+pub(crate) fn listed(read: &ChartTiming) -> [Listed<'_>; 7] {
     let chart = &read.chart;
     let pairs = |place: usize, name, plural, list: &[(f64, f64)], unit, raw| Listed {
         name,
@@ -90,7 +90,7 @@ fn listed(read: &ChartTiming) -> [Listed<'_>; 7] {
 }
 
 /// A number that went through f32, in few digits.
-fn shown(number: f64) -> String {
+pub(crate) fn shown(number: f64) -> String {
     let number = number as f32;
     if number == 0.0 || (1e-5..1e16).contains(&number.abs()) { format!("{number}") } else { format!("{number:?}") }
 }

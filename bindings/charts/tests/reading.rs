@@ -127,6 +127,20 @@ fn faults_have_their_place() {
     );
 }
 
+#[test]
+fn as_many_entries_are_off_the_grid_as_the_timing_counts() {
+    let text = "#BPMS:0=120,0.01=130,4.01=0,8.3=-60;\n#STOPS:-0.01=1,2=1,5.001=0,6.01=-1,6.011=2;\n#DELAYS:1.01=1,1.012=1;\n#WARPS:9.01=1,10=0.01;\n#SPEEDS:0.3=1=0=0,16r=2=0=0;\n#SCROLLS:1.5=1,1.55=2,1.6=2;\n#FAKES:3.01=1,3.02=0,0.3333333333=1;";
+    for (format, counts) in [(Format::Sm, [2, 3, 2, 1, 1, 2, 1]), (Format::Ssc, [1, 1, 2, 1, 1, 2, 1])] {
+        let read = ChartFile::read_as(format, text.as_bytes()).timing().unwrap();
+        let (told, counted) = (read.moved(), read.assemble(0.0).unwrap().moved());
+        let lists = ["tempo", "stop", "delay", "warp", "speed", "scroll", "fake"];
+        assert_eq!(lists.map(|list| told.iter().filter(|entry| entry.list == list).count() as u32), counts);
+        let marrighentu::Moved { tempos, stops, delays, warps, speeds, scrolls, fakes } = counted;
+        assert_eq!([tempos, stops, delays, warps, speeds, scrolls, fakes], counts);
+        assert_eq!(counted.total() as usize, told.len());
+    }
+}
+
 fn refused(text: &str) -> String {
     ChartFile::read_as(Format::Ssc, text.as_bytes()).timing().unwrap().assemble(0.0).unwrap_err().to_string()
 }

@@ -2,7 +2,7 @@
 
 use crate::seen::Seen;
 use marrighentu::{Columns, Event, EventKind, Format, SpeedUnit, note_row_to_beat};
-use marrighentu_charts::{ChartFile, Fault};
+use marrighentu_charts::{ChartFile, Fault, MovedEntry};
 use std::fmt::{Display, Write};
 
 /// A value of JSON.
@@ -169,6 +169,19 @@ fn event(event: &Event) -> Json {
     ])
 }
 
+/// Beats are f32 but for those written as rows.
+fn moved(entry: &MovedEntry) -> Json {
+    let beat = |beat: f64| if f64::from(beat as f32) == beat { Json::number(beat as f32) } else { Json::number(beat) };
+    Json::Fields(vec![
+        ("list", Json::text(entry.list)),
+        ("entry", Json::count(entry.number)),
+        ("line", Json::count(entry.line)),
+        ("beat", beat(entry.beat)),
+        ("to", beat(entry.to)),
+        ("by", Json::number(entry.by())),
+    ])
+}
+
 fn timing(seen: &Seen) -> Vec<(&'static str, Json)> {
     let timing = &seen.timing;
     let speeds = timing.speeds().iter().map(|speed| {
@@ -205,6 +218,7 @@ fn timing(seen: &Seen) -> Vec<(&'static str, Json)> {
         ("speeds", Json::List(speeds.collect())),
         ("scrolls", columns(timing.scrolls(), "times")),
         ("fakes", columns(timing.fakes(), "beats")),
+        ("moved", Json::List(seen.moved.iter().map(moved).collect())),
         ("beats", Json::List(asked.collect())),
     ];
     if !seen.at.is_empty() {

@@ -1,7 +1,7 @@
 //! What a machine sees of one chart: worked out once, and told as words, JSON or a picture.
 
 use marrighentu::{BeatInfo, Event, Refusal, Snap, Timing, beat_to_note_row, note_row_to_beat};
-use marrighentu_charts::{ChartFile, ChartText, Fault, Note};
+use marrighentu_charts::{ChartFile, ChartText, Fault, MovedEntry, Note};
 
 /// A beat that was asked.
 pub struct Asked {
@@ -38,6 +38,8 @@ pub struct Seen {
     pub chart: Option<usize>,
     pub own: bool,
     pub timing: Timing,
+    /// The entries that were off the grid.
+    pub moved: Vec<MovedEntry>,
     pub asked: Vec<Asked>,
     /// The seconds that were asked, each with which beat it is then.
     pub at: Vec<(f64, BeatInfo)>,
@@ -134,6 +136,7 @@ pub fn see(file: &ChartFile, question: &Question<'_>) -> Result<Seen, String> {
     Ok(Seen {
         chart: question.chart.map(|chart| chart.number()),
         own: read.is_own(),
+        moved: read.moved(),
         asked: asked(&timing, question.beats).map_err(|why| format!(" {why}"))?,
         at: at(&timing, question.times).map_err(|why| format!(" {why}"))?,
         timing,

@@ -6,7 +6,8 @@ pub const HELP: &str = "\
 chart-picture FILE [--list] [--chart N | --header] [--beats B,B,...] [--at S,S,...] [--events] [--notes] [--json]
               [--svg OUT] [--from B] [--to B] [--global SECONDS] [--format sm|ssc] [--pass-over]
 
-What a machine sees of an .sm or .ssc file: the timing lists of a chart as they are timed. FILE may be - for standard input.
+What a machine sees of an .sm or .ssc file: the timing lists of a chart as they are timed, and which of its entries were off the grid (moved), by how much
+and in which line. FILE may be - for standard input.
 
   --list       the charts of the file, and nothing more
   --chart N    the chart with this number; else the first. It has its own timing, or else the whole file's

@@ -68,10 +68,13 @@ fn running(info: &BeatInfo) -> &'static str {
     }
 }
 
-/// The lists, the events, the asked beats and seconds, and the notes.
+/// The lists, the entries off the grid, the events, the asked beats and seconds, and the notes.
 pub fn seen(seen: &Seen) -> String {
     let mut out = String::new();
     lists(&mut out, &seen.timing);
+    for entry in &seen.moved {
+        let _ = writeln!(out, "moved   {entry}");
+    }
     for event in seen.events.as_deref().unwrap_or(&[]) {
         let _ = writeln!(out, "event   beat {} row {} {}", note_row_to_beat(event.row), event.row, happens(event));
     }

@@ -57,6 +57,41 @@ fn where_beats_are_drawn() {
 }
 
 #[test]
+fn entries_off_the_grid_are_told() {
+    let text = "#BPMS:0=120,\n8.01=60,\n4.002=90;\n#STOPS:-0.01=1,3.01=0,\n12.5=1;\n#DELAYS:0.333333=1,16.02=1,16=2;\n#FAKES:24.000001=0.01;";
+    let file = written("moved.sm", text);
+    let told = said(&[&file, "--header"]);
+    let moved: Vec<&str> = told.lines().filter(|line| line.starts_with("moved")).collect();
+    // a stop of no seconds is left out, thirds of a beat and what narrows to a row are on the grid, and of lengths nothing is said
+    assert_eq!(
+        moved,
+        [
+            "moved   tempo 2, line 2: beat 8.01 is off the grid, moved by -0.01 to beat 8",
+            "moved   tempo 3, line 3: beat 4.002 is off the grid, moved by -0.002 to beat 4",
+            "moved   stop 1, line 4: beat -0.01 is off the grid, moved by 0.01 to beat 0",
+            "moved   delay 1, line 6: beat 0.333333 is off the grid, moved by 0.000000358 to beat 0.33333334",
+            "moved   delay 2, line 6: beat 16.02 is off the grid, moved by 0.000833 to beat 16.020834",
+            "moved   fake 1, line 7: beat 24.000002 is off the grid, moved by -0.00000191 to beat 24",
+        ]
+    );
+    let json = Json::read(&said(&[&file, "--header", "--json"]));
+    let told: Vec<(&str, f64, f64, f64, f64)> = json
+        .field("moved")
+        .list()
+        .iter()
+        .map(|entry| {
+            let number = |name| entry.field(name).number();
+            (entry.field("list").text(), number("entry"), number("line"), number("beat"), number("to"))
+        })
+        .collect();
+    assert_eq!(told.len(), moved.len());
+    assert_eq!(told[2], ("stop", 1.0, 4.0, -0.01, 0.0));
+    assert_eq!(json.field("moved").list()[0].field("by").number(), 8.0 - f64::from(8.01_f32));
+    assert!(!said(&["example.ssc"]).contains("moved"));
+    assert!(Json::read(&said(&["example.ssc", "--json"])).field("moved").list().is_empty());
+}
+
+#[test]
 fn the_whole_file() {
     let done = run(&["example.ssc", "--header", "--beats", "1"]);
     assert_eq!(

@@ -1,6 +1,7 @@
 //! The port's functions by their C names. A slice crosses as its pointer and its length.
 
 use crate::lists::Columns;
+use crate::moved::Moved;
 
 /// How far a walk through a timing's events has come.
 #[derive(Clone, Copy, Debug, PartialEq)]
@@ -137,6 +138,14 @@ pub struct Assembled {
     pub scrolls: usize,
     pub fakes: usize,
     pub offset: f32,
+    pub moved: Moved,
+}
+
+#[derive(Clone, Copy, Debug)]
+#[repr(C)]
+pub struct Quantized {
+    pub beat: f64,
+    pub off: bool,
 }
 
 /// Safe calls: `slice` is a column that is read and `list` a list's two, `room` and `rooms` are columns that are written, `lent` a struct that is
@@ -190,6 +199,7 @@ calls! {
     fn version() -> u32 = "marrighentu_version";
     fn note_row_to_beat(value row: i32) -> f64 = "marrighentu_note_row_to_beat";
     fn beat_to_note_row(value beat: f64) -> i32 = "marrighentu_beat_to_note_row";
+    fn quantize(value beat: f64) -> Quantized = "marrighentu_quantize";
     fn compute_timing_segments(
         value format: u32,
         list tempos: f64,
@@ -395,5 +405,7 @@ const _: () = {
     assert!(size_of::<Displayed>() == 16 && offset_of!(Displayed, beat) == 8);
     assert!(size_of::<Stored>() == 40 && offset_of!(Stored, fakes) == 32);
     assert!(size_of::<Filled>() == 24 && offset_of!(Filled, own) == 16);
-    assert!(size_of::<Assembled>() == 72 && offset_of!(Assembled, offset) == 64);
+    assert!(size_of::<Assembled>() == 96 && offset_of!(Assembled, offset) == 64 && offset_of!(Assembled, moved) == 68);
+    assert!(size_of::<Moved>() == 28 && offset_of!(Moved, fakes) == 24);
+    assert!(size_of::<Quantized>() == 16 && offset_of!(Quantized, off) == 8);
 };

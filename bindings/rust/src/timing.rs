@@ -4,6 +4,7 @@ use crate::TEMPO_TEXT_BYTES;
 use crate::cursor::Cursor;
 use crate::ffi;
 use crate::lists::{Chart, Columns, Format, Lists, Speed, SpeedUnit};
+use crate::moved::Moved;
 use crate::refusal::{Refusal, taken};
 use std::sync::atomic::{AtomicU32, Ordering};
 
@@ -26,6 +27,8 @@ pub struct Timing {
     shown: Option<Vec<f64>>,
     pub(crate) offset: f64,
     pub(crate) global: f64,
+    /// how many raw entries were off the grid
+    moved: Moved,
     /// from which beats behind all events are answered
     pub(crate) mark: ffi::Mark,
     /// by which a cursor's state knows its timing; a clone has the same
@@ -173,6 +176,7 @@ impl Timing {
             shown: None,
             offset: song_offset + f64::from(made.offset),
             global: global_offset,
+            moved: made.moved,
             mark: NO_MARK,
             number: next_number(),
         }
@@ -196,6 +200,7 @@ impl Timing {
             shown: None,
             offset,
             global: global_offset,
+            moved: Moved::default(),
             mark: NO_MARK,
             number: next_number(),
         }
@@ -288,6 +293,24 @@ impl Timing {
     #[must_use]
     pub fn global_offset(&self) -> f64 {
         self.global
+    }
+
+    /// How many entries of the chart were off the grid, by list and [in all](Moved::total): an editor had put them a little beside a row, and they were moved to
+    /// it. Of a timing [from lists](Timing::from_lists), whose beats are as they were kept, none.
+    ///
+    /// ```
+    /// use marrighentu::{Chart, Format, Timing};
+    ///
+    /// // two delays on one row, of which the second counts: both were off
+    /// let chart = Chart { delays: vec![(4.01, 1.0), (4.0, 2.0), (4.005, 3.0)], fakes: vec![(8.001, 1.0)], ..Chart::default() };
+    /// let timing = Timing::assemble(Format::Ssc, &chart, 0.0, 0.0)?;
+    /// assert_eq!(timing.delays().iter().collect::<Vec<_>>(), [(4.0, 3.0)]);
+    /// assert_eq!((timing.moved().delays, timing.moved().fakes, timing.moved().total()), (2, 1, 3));
+    /// # Ok::<(), marrighentu::Refusal>(())
+    /// ```
+    #[must_use]
+    pub fn moved(&self) -> Moved {
+        self.moved
     }
 
     /// A cursor that was not asked yet.

@@ -1,19 +1,22 @@
 // Assembly of a list of beats and values: beats quantised, values too where they are lengths, tidied by row, and written as f32.
 use columns::Outcome;
+use columns_each::ListOutcome;
 use limits::Kind;
 ghost use mathlib.Core.Path.{_≡_};
 ghost use mathlib.Core.Bool.{false};
-ghost use mathlib.Core.List.{reverse};
+ghost use mathlib.Core.List.{map, reverse};
 ghost use Prim.Native.Nat.{_≤_, _<_};
 ghost use lib.Dec.{eqb};
 ghost use lib.ListN.{length};
 ghost use lib.Ieee.{Float};
 ghost use Rattle.ieee.specs.Narrowing.{narrow};
 ghost use Rattle.picks.specs.Pick.{pick};
+ghost use Rattle.rows.specs.Rows.{quantized};
 ghost use Rattle.columns.specs.Each.{laidEach};
 ghost use Rattle.columns.specs.Laying.{LaidPair};
 ghost use Rattle.tidy_rows.specs.RowTidying.{rowsNumber};
 ghost use Rattle.columns_order.specs.Falling.{falling};
+ghost use Rattle.columns_each.specs.OffGrid.{movedIn, movedUnder};
 ghost use Rattle.assembly_rows.specs.AssembledRows.{changeBy, narrowedFront, eachByItself, EachLaid, RowsAssembled, RowsUntested, rowsFit};
 ghost use Rattle.limits.specs.Neighbours.{everyTwo};
 
@@ -212,20 +215,19 @@ fn falls_and_taken(beats: &[f64], values: &[f64], quantised: &[f32]) -> bool
     false
 }
 
-fn assemble_even(
+fn assemble_quantised(
     beats: &[f64],
     values: &[f64],
     meaning: Meaning,
-    quantised: &mut [f32],
+    quantised: &[f32],
     out_beats: &mut [f32],
     out_values: &mut [f32],
 ) -> Outcome
-    requires { ⌜ (length values.now ≡ length beats.now) × (length beats.now ≤ 1024) × (length quantised.now ≡ length beats.now) ⌝ }
+    requires { ⌜ (length values.now ≡ length beats.now) × (length beats.now ≤ 1024) × (quantised.now ≡ map quantized beats.now) ⌝ }
     ensures { λ r.
         ⌜ RowsUntested meaning beats.entry.now values.entry.now r
         «out_beats».entry.now «out_beats».exit.now «out_values».entry.now «out_values».exit.now ⌝ }
 {
-    columns_each::quantize_column_f32(beats, quantised);
     if columns_order::rise_f32(quantised) {
         return lay_each(quantised, values, meaning, out_beats, out_values);
     }
@@ -235,23 +237,44 @@ fn assemble_even(
     assemble_any(beats, values, meaning, out_beats, out_values)
 }
 
+fn assemble_even(
+    beats: &[f64],
+    values: &[f64],
+    meaning: Meaning,
+    quantised: &mut [f32],
+    out_beats: &mut [f32],
+    out_values: &mut [f32],
+) -> ListOutcome
+    requires { ⌜ (length values.now ≡ length beats.now) × (length beats.now ≤ 1024) × (length quantised.now ≡ length beats.now) ⌝ }
+    ensures { λ r.
+        ⌜ RowsUntested meaning beats.entry.now values.entry.now (r .outcome)
+        «out_beats».entry.now «out_beats».exit.now «out_values».entry.now «out_values».exit.now ⌝ }
+    ensures { λ r. ⌜ r .moved ≡ movedUnder (r .outcome .number) (movedIn beats.entry.now) ⌝ }
+{
+    let off = columns_each::quantize_beats(beats, quantised);
+    let outcome = assemble_quantised(beats, values, meaning, quantised, out_beats, out_values);
+    columns_each::with_moved(outcome, off)
+}
+
 // ---- the calls
 
 // A list as it is where its quantised beats rise, and as `assemble_rows` has it where they do not.
-// For a list that is known to be taken both are the same.
+// For a list that is known to be taken both are the same. With it comes how many of its beats, as they were given, were off the grid.
 pub fn assemble_untested(
     beats: &[f64],
     values: &[f64],
     meaning: Meaning,
     out_beats: &mut [f32],
     out_values: &mut [f32],
-) -> Outcome
+) -> ListOutcome
     ensures { λ r.
-        ⌜ RowsUntested meaning beats.entry.now values.entry.now r
+        ⌜ RowsUntested meaning beats.entry.now values.entry.now (r .outcome)
         «out_beats».entry.now «out_beats».exit.now «out_values».entry.now «out_values».exit.now ⌝ }
+    ensures { λ r. ⌜ r .moved ≡ movedUnder (r .outcome .number) (movedIn beats.entry.now) ⌝ }
 {
     if beats.len() != values.len() {
-        return columns::refused(limits::list_number(Kind::Beat, Kind::Value, beats, values));
+        let number = limits::list_number(Kind::Beat, Kind::Value, beats, values);
+        return columns_each::with_moved(columns::refused(number), 0);
     }
     let n = beats.len();
     if n <= limits::FEW {
@@ -276,7 +299,7 @@ pub fn assemble_untested(
             out_values,
         );
     }
-    columns::refused(limits::TOO_LONG)
+    columns_each::with_moved(columns::refused(limits::TOO_LONG), 0)
 }
 
 // The assembled list over the fronts of both rooms, and its length.
@@ -294,7 +317,7 @@ pub fn assemble_rows(
 {
     let number = limits::list_number(Kind::Beat, Kind::Value, beats, values);
     if number == limits::TAKEN {
-        return assemble_untested(beats, values, meaning, out_beats, out_values);
+        return assemble_untested(beats, values, meaning, out_beats, out_values).outcome;
     }
     if number == limits::TOO_LONG {
         return columns::refused(limits::TOO_LONG);

@@ -1,5 +1,5 @@
 -- Scrolls that are not tested first are laid each by itself or assembled, and where the list is taken both are the same, and so are both numbers. Assumes nothing.
-use Prim.Native.Nat.{ℕ, _≤_, _<_}
+use Prim.Native.Nat.{ℕ, _≤_, _<_, min}
 use mathlib.Core.Path.{_≡_, refl, sym, ap, _∙_}
 use mathlib.Core.Bool.{Bool, true, false}
 use mathlib.Core.List.{List, map}
@@ -11,13 +11,21 @@ use lib.Ieee.{Float, lt}
 use Rattle.picks.specs.Pick.{pick}
 use Rattle.rows.specs.Rows.{quantized}
 use Rattle.limits.specs.Neighbours.{everyTwo, notFalling}
-use Rattle.limits.proofs.ListTaken.{list-taken}
+use Rattle.limits.specs.declared.Kind.the-variants.{Beat, Value}
+use Rattle.limits.specs.Numbers.{rangeOf}
+use Rattle.limits.specs.Refusals.{listNumber}
+use Rattle.limits.proofs.ListTaken.{Taken, list-taken}
+use Rattle.limits.proofs.NoRefusal.{lower-none}
+use Rattle.order.specs.Entries.{entries}
+use Rattle.columns.proofs.Rooms.{number-of-tests}
+use Rattle.tidy_scrolls.specs.ScrollTidying.{scrollsNumber}
 use Rattle.order.proofs.Compare.{below?}
 use Rattle.columns.specs.declared.Outcome.{Outcome}
 use Rattle.columns.specs.Laying.{LaidPair}
 use Rattle.tidy_rows.specs.RowTidying.{rowsNumber}
-use Rattle.rows.specs.RowKey.{onItsRow}
-use Rattle.tidy_kept.specs.Near.{farFrom}
+use Rattle.rows.specs.RowKey.{rowKeyAt, onItsRow}
+use Rattle.tidy_kept.specs.Near.{nearTo, farFrom}
+use Rattle.tidy_kept.specs.Keeping.{keepNumber}
 use Rattle.tidy_by_rows.specs.ByMarks.{rowRises}
 use Rattle.tidy_by_rows.proofs.ByMarks.{rising-never-falls}
 use Rattle.tidy_scrolls.proofs.AllKept.{every-kept}
@@ -43,6 +51,10 @@ module _ (beats values : List Float) where
   unfolding scrollsByThemselves
   by-themselves even few = rw (eq-eqb (length beats) (length values) (sym even), le-leb (length beats) 1024 few)
 
+  tests-pass : assembledScrollsNumber beats values ≡ 0 → Taken (rangeOf Beat) (rangeOf Value) (map quantized beats) values
+  unfolding scrollsNumber
+  tests-pass h = list-taken (lower-none (listNumber (rangeOf Beat) (rangeOf Value) (map quantized beats) values) (keepNumber rowKeyAt nearTo (entries (map quantized beats) values)) h .0)
+
   module _ {outcome : Outcome} {beatsOld beatsNew valuesOld valuesNew : List Float} where
     as-assembled : scrollsByThemselves beats values ≡ false → ScrollsAssembled beats values outcome beatsOld beatsNew valuesOld valuesNew → ScrollsUntested beats values outcome beatsOld beatsNew valuesOld valuesNew
     as-assembled h p = rw h p
@@ -52,6 +64,17 @@ module _ (beats values : List Float) where
 
     pub not-few : length beats ≡ length values → 1024 < length beats → ScrollsAssembled beats values outcome beatsOld beatsNew valuesOld valuesNew → ScrollsUntested beats values outcome beatsOld beatsNew valuesOld valuesNew
     not-few even h p = as-assembled (unfold scrollsByThemselves in rw (eq-eqb (length beats) (length values) even, lt-leb (length beats) 1024 h)) p
+
+    -- what is refused by its lengths
+    refused-so : (assembledScrollsNumber beats values ≡ 0 → ⊥) → ScrollsAssembled beats values outcome beatsOld beatsNew valuesOld valuesNew → outcome .number ≡ 0 → ⊥
+    refused-so h p none =
+        h (number-of-tests (assembledScrollsNumber beats values) (length (assembledScrolls beats values)) (min (length beatsOld) (length valuesOld)) h ∙ sym (p .number) ∙ none)
+
+    pub uneven-refused : (length beats ≡ length values → ⊥) → ScrollsAssembled beats values outcome beatsOld beatsNew valuesOld valuesNew → outcome .number ≡ 0 → ⊥
+    uneven-refused h = refused-so (λ e. h (sym (length-map beats quantized) ∙ tests-pass e .even))
+
+    pub long-refused : 1024 < length beats → ScrollsAssembled beats values outcome beatsOld beatsNew valuesOld valuesNew → outcome .number ≡ 0 → ⊥
+    long-refused h = refused-so (λ e. omega (arith, tests-pass e .few, length-map beats quantized))
 
     pub not-apart : {quantised : List Float} → length values ≡ length beats → length beats ≤ 1024 → quantised ≡ map quantized beats → riseApart quantised values ≡ false
         → ScrollsAssembled beats values outcome beatsOld beatsNew valuesOld valuesNew → ScrollsUntested beats values outcome beatsOld beatsNew valuesOld valuesNew

@@ -1,9 +1,13 @@
 // Assembly of scrolls: beats quantised, tidied, and written as f32.
 use assembly_rows::Meaning;
 use columns::Outcome;
+use columns_each::ListOutcome;
 ghost use mathlib.Core.Path.{_≡_};
+ghost use mathlib.Core.List.{map};
 ghost use Prim.Native.Nat.{_≤_};
 ghost use lib.ListN.{length};
+ghost use Rattle.rows.specs.Rows.{quantized};
+ghost use Rattle.columns_each.specs.OffGrid.{movedIn, movedUnder};
 ghost use Rattle.assembly_scrolls.specs.AssembledScrolls.{riseApart, ScrollsAssembled, ScrollsUntested, scrollsRoomNumber, scrollsLater};
 
 // By way of columns as long as the beats.
@@ -108,21 +112,36 @@ pub fn rise_apart(beats: &[f32], values: &[f64]) -> bool
     false
 }
 
+fn assemble_quantised(
+    beats: &[f64],
+    values: &[f64],
+    quantised: &[f32],
+    out_beats: &mut [f32],
+    out_values: &mut [f32],
+) -> Outcome
+    requires { ⌜ (length beats.now ≤ 1024) × (length values.now ≡ length beats.now) × (quantised.now ≡ map quantized beats.now) ⌝ }
+    ensures { λ r. ⌜ ScrollsUntested beats.entry.now values.entry.now r «out_beats».entry.now «out_beats».exit.now «out_values».entry.now «out_values».exit.now ⌝ }
+{
+    if rise_apart(quantised, values) {
+        return assembly_rows::lay_each(quantised, values, Meaning::Values, out_beats, out_values);
+    }
+    assemble_any(beats, values, out_beats, out_values)
+}
+
 fn assemble_by(
     beats: &[f64],
     values: &[f64],
     quantised: &mut [f32],
     out_beats: &mut [f32],
     out_values: &mut [f32],
-) -> Outcome
+) -> ListOutcome
     requires { ⌜ (length beats.now ≤ 1024) × (length values.now ≡ length beats.now) × (length quantised.now ≡ length beats.now) ⌝ }
-    ensures { λ r. ⌜ ScrollsUntested beats.entry.now values.entry.now r «out_beats».entry.now «out_beats».exit.now «out_values».entry.now «out_values».exit.now ⌝ }
+    ensures { λ r. ⌜ ScrollsUntested beats.entry.now values.entry.now (r .outcome) «out_beats».entry.now «out_beats».exit.now «out_values».entry.now «out_values».exit.now ⌝ }
+    ensures { λ r. ⌜ r .moved ≡ movedUnder (r .outcome .number) (movedIn beats.entry.now) ⌝ }
 {
-    columns_each::quantize_column_f32(beats, quantised);
-    if rise_apart(quantised, values) {
-        return assembly_rows::lay_each(quantised, values, Meaning::Values, out_beats, out_values);
-    }
-    assemble_any(beats, values, out_beats, out_values)
+    let off = columns_each::quantize_beats(beats, quantised);
+    let outcome = assemble_quantised(beats, values, quantised, out_beats, out_values);
+    columns_each::with_moved(outcome, off)
 }
 
 fn assemble_by_few(
@@ -130,9 +149,10 @@ fn assemble_by_few(
     values: &[f64],
     out_beats: &mut [f32],
     out_values: &mut [f32],
-) -> Outcome
+) -> ListOutcome
     requires { ⌜ (length beats.now ≤ 64) × (length values.now ≡ length beats.now) ⌝ }
-    ensures { λ r. ⌜ ScrollsUntested beats.entry.now values.entry.now r «out_beats».entry.now «out_beats».exit.now «out_values».entry.now «out_values».exit.now ⌝ }
+    ensures { λ r. ⌜ ScrollsUntested beats.entry.now values.entry.now (r .outcome) «out_beats».entry.now «out_beats».exit.now «out_values».entry.now «out_values».exit.now ⌝ }
+    ensures { λ r. ⌜ r .moved ≡ movedUnder (r .outcome .number) (movedIn beats.entry.now) ⌝ }
 {
     let n = beats.len();
     let mut quantised = [0.0f32; limits::FEW];
@@ -144,9 +164,10 @@ fn assemble_by_many(
     values: &[f64],
     out_beats: &mut [f32],
     out_values: &mut [f32],
-) -> Outcome
+) -> ListOutcome
     requires { ⌜ (length beats.now ≤ 1024) × (length values.now ≡ length beats.now) ⌝ }
-    ensures { λ r. ⌜ ScrollsUntested beats.entry.now values.entry.now r «out_beats».entry.now «out_beats».exit.now «out_values».entry.now «out_values».exit.now ⌝ }
+    ensures { λ r. ⌜ ScrollsUntested beats.entry.now values.entry.now (r .outcome) «out_beats».entry.now «out_beats».exit.now «out_values».entry.now «out_values».exit.now ⌝ }
+    ensures { λ r. ⌜ r .moved ≡ movedUnder (r .outcome .number) (movedIn beats.entry.now) ⌝ }
 {
     let n = beats.len();
     let mut quantised = [0.0f32; limits::MOST_ENTRIES];
@@ -172,17 +193,19 @@ pub fn assemble_scrolls(
 }
 
 // Scrolls as they are where quantised beats rise and no value is near the one before it, and as `assemble_scrolls` has them where that is not so.
-// For a list that is known to be taken both are the same.
+// For a list that is known to be taken both are the same. With it comes how many of its beats, as they were given, were off the grid.
 pub fn assemble_untested(
     beats: &[f64],
     values: &[f64],
     out_beats: &mut [f32],
     out_values: &mut [f32],
-) -> Outcome
-    ensures { λ r. ⌜ ScrollsUntested beats.entry.now values.entry.now r «out_beats».entry.now «out_beats».exit.now «out_values».entry.now «out_values».exit.now ⌝ }
+) -> ListOutcome
+    ensures { λ r. ⌜ ScrollsUntested beats.entry.now values.entry.now (r .outcome) «out_beats».entry.now «out_beats».exit.now «out_values».entry.now «out_values».exit.now ⌝ }
+    ensures { λ r. ⌜ r .moved ≡ movedUnder (r .outcome .number) (movedIn beats.entry.now) ⌝ }
 {
     if beats.len() != values.len() {
-        return assemble_scrolls(beats, values, out_beats, out_values);
+        let refused = assemble_scrolls(beats, values, out_beats, out_values);
+        return columns_each::with_moved(refused, 0);
     }
     if beats.len() <= limits::FEW {
         return assemble_by_few(beats, values, out_beats, out_values);
@@ -190,7 +213,8 @@ pub fn assemble_untested(
     if beats.len() <= limits::MOST_ENTRIES {
         return assemble_by_many(beats, values, out_beats, out_values);
     }
-    assemble_scrolls(beats, values, out_beats, out_values)
+    let refused = assemble_scrolls(beats, values, out_beats, out_values);
+    columns_each::with_moved(refused, 0)
 }
 
 fn number_in(beats: &[f64], values: &[f64], room: usize) -> u32

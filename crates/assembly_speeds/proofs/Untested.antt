@@ -24,15 +24,19 @@ use Rattle.columns.specs.Each.{laidEach}
 use Rattle.columns.proofs.EachOverFront.{each-over-front, copied-over-front}
 use Rattle.tidy_by_rows.specs.ByMarks.{rowRises}
 use Rattle.tidy_by_rows.proofs.ByMarks.{rising-never-falls}
-use Rattle.tidy_speeds_entries.specs.Speed.{speedEntries, speedOnRow}
+use Rattle.tidy_speeds_entries.specs.Speed.{speedEntries, speedOnRow, nearSpeed}
 use Rattle.chart.specs.ChartColumns.{SpeedColumns, speedColumns}
 use Rattle.tidy_speeds_entries.specs.LaidSpeeds.{leastOf}
 use Rattle.tidy_speeds_entries.specs.inside.LaidRooms.{LaidRooms}
 use Rattle.tidy_speeds_entries.proofs.SpeedColumns.{many-speeds}
 use Rattle.tidy_speeds_ordered.specs.inside.Apart.{ColumnsApart}
 use Rattle.tidy_speeds_ordered.proofs.ColumnsLaid.{apart-kept}
-use Rattle.tidy_speeds.specs.SpeedTidying.{speedListNumber}
-use Rattle.tidy_speeds.proofs.ListTaken.{speeds-taken}
+use Rattle.tidy_speeds.specs.SpeedTidying.{speedListNumber, speedsNumber}
+use Rattle.tidy_kept.specs.Keeping.{keepNumber}
+use Rattle.rows.specs.RowKey.{rowKeyAt}
+use Rattle.limits.proofs.NoRefusal.{lower-none}
+use Rattle.columns.proofs.Rooms.{number-of-tests}
+use Rattle.tidy_speeds.proofs.ListTaken.{SpeedsTaken, speeds-taken}
 use Rattle.tidy_speeds.proofs.Outcomes.{ordered-number, ordered-list}
 use Rattle.assembly_rows.proofs.QuantizedTaken.{quantized-beats-taken}
 use Rattle.assembly_rows.proofs.RisingRows.{quantized-on-row}
@@ -111,6 +115,19 @@ module _ (raw : SpeedColumns) where
   unfolding speedsByThemselves
   by-themselves even few = rw (same even, le-leb (length (raw .beats)) 1024 few)
 
+  tests-pass : assembledSpeedsNumber raw ≡ 0 → SpeedsTaken (map quantized (raw .beats)) (raw .ratios) (raw .delays) (raw .units)
+  unfolding speedsNumber
+  tests-pass h =
+      speeds-taken
+      (lower-none (speedListNumber (map quantized (raw .beats)) (raw .ratios) (raw .delays) (raw .units))
+      (keepNumber rowKeyAt nearSpeed (speedEntries (map quantized (raw .beats)) (raw .ratios) (raw .delays) (raw .units))) h .0)
+
+  even-so : assembledSpeedsNumber raw ≡ 0 → EvenSpeeds raw
+  even-so h =
+      let taken = tests-pass h in
+      let many = sym (length-map (raw .beats) quantized) in
+      record { ratiosEven = many ∙ taken .ratiosEven; delaysEven = many ∙ taken .delaysEven; unitsEven = many ∙ taken .unitsEven }
+
   module _ {outcome : Outcome} {old new : SpeedColumns} where
     as-assembled : speedsByThemselves raw ≡ false → SpeedsAssembled raw outcome old new → SpeedsUntested raw outcome old new
     as-assembled h p = rw h p
@@ -120,6 +137,18 @@ module _ (raw : SpeedColumns) where
 
     pub not-few : sameLengths (length (raw .beats)) (length (raw .ratios)) (length (raw .delays)) (length (raw .units)) ≡ true → 1024 < length (raw .beats) → SpeedsAssembled raw outcome old new → SpeedsUntested raw outcome old new
     not-few even h p = as-assembled (unfold speedsByThemselves in rw (even, lt-leb (length (raw .beats)) 1024 h)) p
+
+    -- what is refused by its lengths
+    refused-so : (assembledSpeedsNumber raw ≡ 0 → ⊥) → SpeedsAssembled raw outcome old new → outcome .number ≡ 0 → ⊥
+    refused-so h p none =
+        let room = leastOf (length (old .beats)) (length (old .ratios)) (length (old .delays)) (length (old .units)) in
+        h (number-of-tests (assembledSpeedsNumber raw) (length (assembledSpeeds raw)) room h ∙ sym (p .number) ∙ none)
+
+    pub uneven-refused : sameLengths (length (raw .beats)) (length (raw .ratios)) (length (raw .delays)) (length (raw .units)) ≡ false → SpeedsAssembled raw outcome old new → outcome .number ≡ 0 → ⊥
+    uneven-refused h = refused-so (λ e. let z : _≡_ {A = ℕ} 0 1 = cc (h, same (even-so e)) in omega arith)
+
+    pub long-refused : 1024 < length (raw .beats) → SpeedsAssembled raw outcome old new → outcome .number ≡ 0 → ⊥
+    long-refused h = refused-so (λ e. omega (arith, tests-pass e .few, length-map (raw .beats) quantized))
 
     pub not-apart : {quantised : List Float} → EvenSpeeds raw → length (raw .beats) ≤ 1024 → quantised ≡ map quantized (raw .beats) → riseApart quantised (raw .ratios) ≡ false
         → SpeedsAssembled raw outcome old new → SpeedsUntested raw outcome old new

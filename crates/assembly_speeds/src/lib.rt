@@ -1,8 +1,12 @@
 // Assembly of speeds: beats quantised, tidied, and written as f32, with the units.
 use columns::Outcome;
+use columns_each::ListOutcome;
 ghost use mathlib.Core.Path.{_≡_};
+ghost use mathlib.Core.List.{map};
 ghost use Prim.Native.Nat.{_≤_};
 ghost use lib.ListN.{length};
+ghost use Rattle.rows.specs.Rows.{quantized};
+ghost use Rattle.columns_each.specs.OffGrid.{movedIn, movedUnder};
 ghost use Rattle.chart.specs.ChartColumns.{speedColumns, lentSpeeds, speedsBefore, speedsAfter};
 ghost use Rattle.assembly_speeds.specs.AssembledSpeeds.{SpeedsOver, SpeedsAssembled, SpeedsUntested};
 ghost use Rattle.assembly_speeds.specs.AssembledSpeeds.{speedsRoomNumber, speedsLater, sameLengths, eachSpeed};
@@ -211,25 +215,24 @@ fn lay_each(
     }
 }
 
-fn assemble_by(
+fn assemble_quantised(
     beats: &[f64],
     ratios: &[f64],
     delays: &[f64],
     units: &[u8],
-    quantised: &mut [f32],
+    quantised: &[f32],
     out_beats: &mut [f32],
     out_ratios: &mut [f32],
     out_delays: &mut [f32],
     out_units: &mut [u8],
 ) -> Outcome
     requires { ⌜ EvenSpeeds (speedColumns beats.now ratios.now delays.now units.now) ⌝ }
-    requires { ⌜ (length beats.now ≤ 1024) × (length quantised.now ≡ length beats.now) ⌝ }
+    requires { ⌜ (length beats.now ≤ 1024) × (quantised.now ≡ map quantized beats.now) ⌝ }
     ensures { λ r.
         let raw = speedColumns beats.entry.now ratios.entry.now delays.entry.now units.entry.now in
         let rooms = lentSpeeds «out_beats» «out_ratios» «out_delays» «out_units» in
         ⌜ SpeedsUntested raw r (speedsBefore rooms) (speedsAfter rooms) ⌝ }
 {
-    columns_each::quantize_column_f32(beats, quantised);
     if assembly_scrolls::rise_apart(quantised, ratios) {
         return lay_each(
             quantised,
@@ -252,6 +255,40 @@ fn assemble_by(
         out_delays,
         out_units,
     )
+}
+
+fn assemble_by(
+    beats: &[f64],
+    ratios: &[f64],
+    delays: &[f64],
+    units: &[u8],
+    quantised: &mut [f32],
+    out_beats: &mut [f32],
+    out_ratios: &mut [f32],
+    out_delays: &mut [f32],
+    out_units: &mut [u8],
+) -> ListOutcome
+    requires { ⌜ EvenSpeeds (speedColumns beats.now ratios.now delays.now units.now) ⌝ }
+    requires { ⌜ (length beats.now ≤ 1024) × (length quantised.now ≡ length beats.now) ⌝ }
+    ensures { λ r.
+        let raw = speedColumns beats.entry.now ratios.entry.now delays.entry.now units.entry.now in
+        let rooms = lentSpeeds «out_beats» «out_ratios» «out_delays» «out_units» in
+        ⌜ SpeedsUntested raw (r .outcome) (speedsBefore rooms) (speedsAfter rooms) ⌝ }
+    ensures { λ r. ⌜ r .moved ≡ movedUnder (r .outcome .number) (movedIn beats.entry.now) ⌝ }
+{
+    let off = columns_each::quantize_beats(beats, quantised);
+    let outcome = assemble_quantised(
+        beats,
+        ratios,
+        delays,
+        units,
+        quantised,
+        out_beats,
+        out_ratios,
+        out_delays,
+        out_units,
+    );
+    columns_each::with_moved(outcome, off)
 }
 
 // ---- the calls
@@ -289,7 +326,7 @@ pub fn assemble_speeds(
 }
 
 // Speeds as they are where quantised beats rise and no ratio is near the one before it, and as `assemble_speeds` has them where that is not so.
-// For a list that is known to be taken both are the same.
+// For a list that is known to be taken both are the same. With it comes how many of its beats, as they were given, were off the grid.
 pub fn assemble_untested(
     beats: &[f64],
     ratios: &[f64],
@@ -299,14 +336,15 @@ pub fn assemble_untested(
     out_ratios: &mut [f32],
     out_delays: &mut [f32],
     out_units: &mut [u8],
-) -> Outcome
+) -> ListOutcome
     ensures { λ r.
         let raw = speedColumns beats.entry.now ratios.entry.now delays.entry.now units.entry.now in
         let rooms = lentSpeeds «out_beats» «out_ratios» «out_delays» «out_units» in
-        ⌜ SpeedsUntested raw r (speedsBefore rooms) (speedsAfter rooms) ⌝ }
+        ⌜ SpeedsUntested raw (r .outcome) (speedsBefore rooms) (speedsAfter rooms) ⌝ }
+    ensures { λ r. ⌜ r .moved ≡ movedUnder (r .outcome .number) (movedIn beats.entry.now) ⌝ }
 {
     if !same_lengths(beats.len(), ratios.len(), delays.len(), units.len()) {
-        return assemble_speeds(
+        let refused = assemble_speeds(
             beats,
             ratios,
             delays,
@@ -316,6 +354,7 @@ pub fn assemble_untested(
             out_delays,
             out_units,
         );
+        return columns_each::with_moved(refused, 0);
     }
     let n = beats.len();
     if n <= limits::FEW {
@@ -346,7 +385,7 @@ pub fn assemble_untested(
             out_units,
         );
     }
-    assemble_speeds(
+    let refused = assemble_speeds(
         beats,
         ratios,
         delays,
@@ -355,7 +394,8 @@ pub fn assemble_untested(
         out_ratios,
         out_delays,
         out_units,
-    )
+    );
+    columns_each::with_moved(refused, 0)
 }
 
 fn number_in(beats: &[f64], ratios: &[f64], delays: &[f64], units: &[u8], room: usize) -> u32

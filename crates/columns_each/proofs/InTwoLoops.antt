@@ -8,7 +8,8 @@ use lib.ListN.{length, take, drop, getD, set}
 use lib.Seq.{drop-cons, drop-set-lt, getD-take, length-take-le}
 use lib.Ieee.{Float}
 use Rattle.ieee.specs.Narrowing.{narrow}
-use Rattle.rows.specs.Rows.{quantized, quantized32}
+use Rattle.rows.specs.Rows.{quantized, quantized32, onGrid, onGrid32}
+use Rattle.limits.specs.Numbers.{miss, misses}
 use Rattle.columns.specs.Each.{laidEach}
 use Rattle.columns.proofs.LaidEach.{LayingEach, begun, turned, laid-all}
 
@@ -24,6 +25,10 @@ module _ {A : Type 0} (f : A → A) where
   module _ {old : List A} {n : ℕ} {out : List A} {i : ℕ} (d : A) (so : Rewriting old n out i) (more : i < n) (inside : n ≤ length old) where
     both : getD out i d ∷ drop (suc i) out ≡ getD old i d ∷ drop (suc i) old
     both = sym (drop-cons out i d (omega (arith, so .laying .long))) ∙ so .rest ∙ drop-cons old i d (omega arith)
+
+    -- the entry at hand is as it was given
+    pub rewriting-here : getD (take n old) i d ≡ getD out i d
+    rewriting-here = let same : getD out i d ≡ getD old i d = cc both in getD-take n old i d more ∙ sym same
 
     pub rewriting-more : {y : A} → y ≡ f (getD out i d) → Rewriting old n (set out i y) (i + 1)
     rewriting-more {y} e =
@@ -43,6 +48,15 @@ narrowed-then-moved [] old n e = let none : n ≡ 0 = omega arith in rw none
 narrowed-then-moved (x ∷ from) [] n e = let none : n ≡ 0 = omega arith in rw none
 narrowed-then-moved (x ∷ from) (y ∷ old) zero e = absurd (omega arith)
 narrowed-then-moved (x ∷ from) (y ∷ old) (suc n) e = ap (_∷_ (quantized x)) (narrowed-then-moved from old n (omega arith))
+
+-- and what is narrowed is off the grid where what was given is
+pub narrowed-then-counted : (from old : List Float) (n : ℕ) → n ≡ min (length from) (length old) → misses onGrid32 (take n (laidEach narrow from old)) ≡ misses onGrid (take (length old) from)
+unfolding laidEach misses onGrid
+narrowed-then-counted [] [] n e = let none : n ≡ 0 = omega arith in rw none
+narrowed-then-counted [] (y ∷ old) n e = let none : n ≡ 0 = omega arith in rw none
+narrowed-then-counted (x ∷ from) [] n e = let none : n ≡ 0 = omega arith in rw none
+narrowed-then-counted (x ∷ from) (y ∷ old) zero e = absurd (omega arith)
+narrowed-then-counted (x ∷ from) (y ∷ old) (suc n) e = ap (λ (m : ℕ). miss onGrid32 (narrow x) + m) (narrowed-then-counted from old n (omega arith))
 
 moved-map : (from old : List Float) → laidEach move (map narrow from) old ≡ laidEach (λ (beat : Float). quantized beat) from old
 unfolding laidEach

@@ -1,2 +1,3 @@
 pub mod InTwoLoops
 pub mod QuantizedNumbers
+pub mod OffGridCounts

@@ -1,11 +1,15 @@
 // Loops that write a column: each writes what becomes of entry i of the first column into entry i of the second, for every i that both have.
+use columns::Outcome;
 ghost use mathlib.Core.Path.{_≡_};
 ghost use Prim.Native.Nat.{_≤_};
 ghost use lib.ListN.{length, take};
 ghost use lib.Ieee.{Float};
 ghost use Rattle.ieee.specs.Narrowing.{narrow};
-ghost use Rattle.rows.specs.Rows.{quantized, quantized32};
+ghost use Rattle.rows.specs.Rows.{quantized, quantized32, onGrid32};
+ghost use Rattle.limits.specs.Numbers.{miss};
 ghost use Rattle.columns.specs.Each.{laidEach};
+ghost use Rattle.columns_each.specs.OffGrid.{movedIn, movedUnder, roundCount};
+ghost use Rattle.columns_each.specs.inside.CountedFront.{FrontCounted};
 
 // ---- numbers
 
@@ -123,6 +127,64 @@ pub fn quantize_column_f32(from: &[f64], to: &mut [f32])
     narrow_column(from, to);
     quantize_front(to, n);
 }
+
+// ---- beats: quantised, and counted in the same pass where they were off the grid
+
+// 1 where a beat and what quantising makes of it differ, else 0: a loop that adds it up has no branch. A u32, since a loop over f32s that counts in 64 bits
+// does half as many at a time.
+fn apart(beat: f32, moved: f32) -> u32
+    requires { ⌜ moved ≡ quantized32 beat ⌝ }
+    ensures { λ r. ⌜ r ≡ miss onGrid32 beat ⌝ }
+{
+    if beat == moved { 0 } else { 1 }
+}
+
+// The first n, each an f32 already, moved to their rows; how many of them were off the grid.
+fn count_front(column: &mut [f32], n: usize) -> u32
+    requires { ⌜ n ≤ length column.now ⌝ }
+    ensures { λ r. ⌜ FrontCounted n column.entry.now column.exit.now r ⌝ }
+{
+    let mut off: u32 = 0;
+    let mut i = 0;
+    while i < n {
+        let beat = column[i];
+        let moved = rows::quantize_beat_f32(beat);
+        off = std::num::wrapping_add_u32(off, apart(beat, moved));
+        column[i] = moved;
+        i += 1;
+    }
+    off
+}
+
+// As `quantize_column_f32`; how many of the beats were off the grid.
+pub fn quantize_beats(from: &[f64], to: &mut [f32]) -> u32
+    ensures { λ _. ⌜ to.exit.now ≡ laidEach quantized from.entry.now to.entry.now ⌝ }
+    ensures { λ r. ⌜ r ≡ roundCount (movedIn (take (length to.entry.now) from.entry.now)) ⌝ }
+{
+    let n = columns::room_of(from.len(), to.len());
+    narrow_column(from, to);
+    count_front(to, n)
+}
+
+// What became of a list, and how many of its beats were off the grid: none of a list that is refused.
+#[repr(C)]
+pub struct ListOutcome {
+    pub outcome: Outcome,
+    pub moved: u32,
+}
+
+pub fn with_moved(outcome: Outcome, moved: u32) -> ListOutcome
+    ensures { λ r. ⌜ (r .outcome ≡ outcome) × (r .moved ≡ movedUnder (outcome .number) moved) ⌝ }
+{
+    let number = outcome.number;
+    let counted = if number == limits::TAKEN { moved } else { 0 };
+    ListOutcome {
+        outcome: outcome,
+        moved: counted,
+    }
+}
+
+// ---- copies
 
 // Each number as it is.
 pub fn copy_column_f32(from: &[f32], to: &mut [f32])

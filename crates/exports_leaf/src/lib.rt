@@ -1,10 +1,12 @@
 // The calls of `ieee` and `rows` under C names, for native programs to link: each by itself, and in a loop over lent columns.
+use rows::Quantized;
 ghost use mathlib.Core.Path.{_≡_};
+ghost use mathlib.Core.Bool.{not};
 ghost use Prim.Native.Nat.{min};
 ghost use lib.Ieee.{Float, binary32, binary64};
 ghost use Rattle.ieee.specs.Rounding.{rint, hold};
 ghost use Rattle.ieee.specs.Narrowing.{narrow};
-ghost use Rattle.rows.specs.Rows.{row, beatOf, quantized, quantized32};
+ghost use Rattle.rows.specs.Rows.{row, beatOf, quantized, quantized32, onGrid};
 ghost use Rattle.columns.specs.Each.{laidEach};
 
 // The version of what is linked: 10,000 times its first number, 100 times its second, and its third.
@@ -71,7 +73,15 @@ pub extern "C" fn marrighentu_beat_to_note_row_f32(beat: f32) -> i32
     rows::beat_to_note_row_f32(beat)
 }
 
-// A beat moved to its row, through f32 both ways.
+// A beat moved to its row, through f32 both ways, and whether it was off the grid.
+#[no_mangle]
+pub extern "C" fn marrighentu_quantize(beat: f64) -> Quantized
+    ensures { λ r. ⌜ (r .beat ≡ quantized beat) × (r .off ≡ not (onGrid beat)) ⌝ }
+{
+    rows::quantize(beat)
+}
+
+// The beat alone.
 #[no_mangle]
 pub extern "C" fn marrighentu_quantize_beat(beat: f64) -> f64
     ensures { λ r. ⌜ r ≡ quantized beat ⌝ }

@@ -11,12 +11,7 @@ use lib.ListN.{length, drop, getD, drop-of-length-le}
 use lib.Seq.{drop-cons}
 use borrow.Author.Tests.{ne-eqb}
 use Rattle.picks.specs.Pick.{pick}
-use Rattle.limits.specs.Numbers.{every, miss}
-
--- how many fail
-unfoldable pub misses : {A : Type 0} → (A → Bool) → List A → ℕ
-misses test [] = 0
-misses test (x ∷ list) = miss test x + misses test list
+use Rattle.limits.specs.Numbers.{every, miss, misses}
 
 -- after i numbers, n of which failed
 pub record Counted {A : Type 0} (test : A → Bool) (list : List A) (i n : ℕ) : Type 0 where
@@ -50,12 +45,12 @@ module _ {A : Type 0} (test : A → Bool) where
       let step : misses test (drop i list) ≡ one + misses test (drop (i + 1) list) = rw (add-one i, drop-cons list i other h, e) in
       record { inside = omega arith; few = omega (arith, miss-few (getD list i other), c .few); same = omega (arith, c .same) }
 
-  pub counted-end : {list : List A} {i n : ℕ} → length list ≤ i → Counted test list i n → eqb n 0 ≡ every test list
+  counted-all : {list : List A} {i n : ℕ} → length list ≤ i → Counted test list i n → n ≡ misses test list
   unfolding misses
-  counted-end {list} {i} {n} h c =
-      let none : drop i list ≡ [] = drop-of-length-le list h in
-      let all : n ≡ misses test list = omega (arith, rw none at (c .same)) in
-      ap (λ (m : ℕ). eqb m 0) all ∙ misses-none list
+  counted-all {list} {i} {n} h c = let none : drop i list ≡ [] = drop-of-length-le list h in omega (arith, rw none at (c .same))
+
+  pub counted-end : {list : List A} {i n : ℕ} → length list ≤ i → Counted test list i n → eqb n 0 ≡ every test list
+  counted-end {list} h c = ap (λ (m : ℕ). eqb m 0) (counted-all h c) ∙ misses-none list
 
 -- what passes throughout passes first, and in the rest
 pub every-rest : {A : Type 0} (test : A → Bool) (x : A) (list : List A) → every test (x ∷ list) ≡ true → (test x ≡ true) × (every test list ≡ true)

@@ -1,5 +1,6 @@
 pub mod EachTwo
 pub mod Every
+pub mod HowManyFail
 pub mod ListTaken
 pub mod NoRefusal
 pub mod PlainTaken

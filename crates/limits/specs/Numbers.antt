@@ -57,6 +57,11 @@ every test (x ∷ list) = pick (test x) (every test list) false
 abbrev pub miss : {A : Type 0} → (A → Bool) → A → ℕ
 miss test x = pick (test x) 0 1
 
+-- how many of a list fail it
+unfoldable pub misses : {A : Type 0} → (A → Bool) → List A → ℕ
+misses test [] = 0
+misses test (x ∷ list) = miss test x + misses test list
+
 abbrev pub allIn : Range → List Float → Bool
 allIn range column = every (inRange range) column
 

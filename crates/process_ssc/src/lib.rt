@@ -19,7 +19,7 @@ ghost use Rattle.process_ssc.specs.inside.Tests.{beatStays, valueStays};
 ghost use Rattle.process_ssc.specs.Ssc.{staysSsc, stayedSsc, sscTempos, SscLaid};
 
 // Whether an entry stays: finite, the beat not below 0, the value above it.
-fn stays(beat: f64, value: f64) -> bool
+pub fn stays(beat: f64, value: f64) -> bool
     ensures { λ r. ⌜ r ≡ staysSsc (beat, value) ⌝ }
 {
     if beat >= 0.0 {

@@ -12,6 +12,7 @@ pub mod BeatBySum
 pub mod WholeF32
 pub mod RowByHalves
 pub mod Quantizing
+pub mod OnGrid
 pub mod RowBySum
 pub mod RowMarks
 pub mod RowKeys

@@ -1,7 +1,7 @@
 -- Rows and beats, 48 rows to a beat. Definitions only.
 use mathlib.Core.Bool.{Bool}
 use lib.IntN.{ℤ, pos}
-use lib.Ieee.{Float, Format, binary32, mul, div, ofInt}
+use lib.Ieee.{Float, Format, binary32, mul, div, ofInt, eq}
 use Rattle.ieee.specs.Rounding.{rint, hold}
 use Rattle.ieee.specs.Narrowing.{narrow}
 use Rattle.limits.specs.declared.Kind.the-variants.{Beat}
@@ -21,6 +21,13 @@ quantized32 beat = beatOf binary32 (row binary32 beat)
 
 abbrev pub quantized : Float → Float
 quantized beat = quantized32 (narrow beat)
+
+-- a beat is on the grid where its f32 is, by value, the f32 beat of its row: -0 is on it
+unfoldable pub onGrid32 : Float → Bool
+onGrid32 beat = eq beat (quantized32 beat)
+
+unfoldable pub onGrid : Float → Bool
+onGrid beat = onGrid32 (narrow beat)
 
 -- a beat that the limits allow
 abbrev pub allowedBeat : Float → Bool

@@ -45,6 +45,7 @@ fn inputs() -> Vec<Vec<u8>> {
     inputs.extend(report::about_the_limit().iter().map(report::text));
     inputs.extend(report::out_of_order().iter().map(report::text));
     inputs.extend(report::overlapping_warps().iter().map(report::text));
+    inputs.extend(report::off_the_grid().iter().map(report::text));
     inputs
 }
 

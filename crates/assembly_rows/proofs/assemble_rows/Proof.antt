@@ -25,8 +25,8 @@ same-length-2 c = search needs
 
 returns : tie.Need-returns
 returns c =
-    let given = c .before .before .before .before .before .before .before .before .before .before .before .before .before .args in
-    untested-taken (given .beats .now) (given .values .now) (given .meaning) (sym (c .before .before .before .before .before .before .before .before .list-number .ensures) ∙ c .before .before .before .before .before .before .before .if1 .taken) (c .before .before .before .before .assemble-untested .ensures)
+    let given = c .before .before .before .before .before .before .before .before .before .before .before .before .before .before .args in
+    untested-taken (given .beats .now) (given .values .now) (given .meaning) (sym (c .before .before .before .before .before .before .before .before .before .list-number .ensures) ∙ c .before .before .before .before .before .before .before .before .if1 .taken) (c .before .before .before .before .before .assemble-untested .ensures .0)
 
 refused-requires : tie.Need-refused-requires
 refused-requires c κs = search needs

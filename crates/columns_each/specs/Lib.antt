@@ -1,0 +1,2 @@
+pub mod OffGrid
+pub mod inside
