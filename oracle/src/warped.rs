@@ -138,7 +138,7 @@ mod port {
     pub fn compare(work: Work, call: Call) -> Found {
         let mut random = Random::new(work.seed, "warped rows");
         let mut found = Found::default();
-        for _ in 0..10 * work.lists() {
+        for _ in 0..4 * work.lists() {
             let (beats, lengths) = columns(&mut random);
             let spans = spans(&beats, &lengths);
             let (count, pass) = (count(&spans), one_pass(&spans));

@@ -34,9 +34,13 @@ fn the_port_has_none() {
 
 #[test]
 fn the_pass_by_turns_has_none() {
-    let right = |far: i64, start: i64, end: i64| (end - far.max(start), if end > far.max(start) { end } else { far });
-    assert_eq!(compare(WORK, |beats, lengths| by_turns(beats, lengths, right)).different, 0);
-    assert_eq!(compare(WORK, along_the_list).different, 0);
+    let right: Call = |beats, lengths| {
+        by_turns(beats, lengths, |far, start, end| {
+            let first = far.max(start);
+            (end - first, if end > first { end } else { far })
+        })
+    };
+    assert_eq!((different(right), different(along_the_list)), (0, 0));
 }
 
 #[test]
