@@ -21,9 +21,10 @@ uneven-returns c =
     let values = given .values .now in
     let differ = c .before .before .before .if1 .taken in
     let up = c .with-moved in
-    let refused : c .before .refused .result ≡ refusedBy (listNumber (rangeOf Beat) (rangeOf Value) beats values) = rw (c .before .refused .ensures, c .before .before .list-number .ensures) in
-    (rw (up .ensures .0 ∙ refused) (differing-refused beats values (given .meaning) (given .out-beats .now) (given .out-values .now) differ),
-    none-handed-up 0 (movedIn beats) (up .ensures .0) (up .ensures .1) (rw refused (λ e. differ (list-taken e .even))))
+    let refused : c .before .refused .result ≡ refusedBy (listNumber (rangeOf Beat) (rangeOf Value) beats values) = rw (c .before .refused .ensures, c .before .before .list-number .ensures) in (
+      rw (up .ensures .0 ∙ refused) (differing-refused beats values (given .meaning) (given .out-beats .now) (given .out-values .now) differ),
+      none-handed-up 0 (movedIn beats) (up .ensures .0) (up .ensures .1) (rw refused (λ e. differ (list-taken e .even))),
+    )
 
 few-requires : tie.Need-assemble-even-requires
 few-requires c κs = let few = c .before .before .before in (sym (few .before .if1 .left), omega (arith, few .if2 .taken), length-take-le _ _ (few .if2 .taken))
@@ -35,10 +36,11 @@ long-returns : tie.Need-returns-4
 long-returns c =
     let given = c .before .before .before .before .before .before .before .before .before .args in
     let beats = given .beats .now in
-    let up = c .with-moved2 in
-    (rw (up .ensures .0 ∙ c .before .refused2 .ensures)
-    (long-refused beats (given .values .now) (given .meaning) (given .out-beats .now) (given .out-values .now) (c .before .before .before .before .if1 .left) (c .before .before .if3 .left)),
-    none-handed-up 0 (movedIn beats) (up .ensures .0) (up .ensures .1) (rw (c .before .refused2 .ensures) (λ e. omega arith)))
+    let up = c .with-moved2 in (
+      rw (up .ensures .0 ∙ c .before .refused2 .ensures)
+          (long-refused beats (given .values .now) (given .meaning) (given .out-beats .now) (given .out-values .now) (c .before .before .before .before .if1 .left) (c .before .before .if3 .left)),
+      none-handed-up 0 (movedIn beats) (up .ensures .0) (up .ensures .1) (rw (c .before .refused2 .ensures) (λ e. omega arith)),
+    )
 
 pub assemble-untested-spec : {M : Type 1} → statement M
 assemble-untested-spec =

@@ -25,9 +25,10 @@ assemble-quantised-requires c κs = let q = c .before .before .before .before .b
 returns : tie.Need-returns
 returns c =
     let q = c .before .before .before .before .before .before .before .before .before .before .before in
-    let up = c .with-moved in
-    (rw (up .ensures .0) (c .before .before .before .before .before .assemble-quantised .ensures),
-    handed-up (q .quantize-beats .result) (movedIn (start q .args .beats .now)) (up .ensures .0) (up .ensures .1) (counted q))
+    let up = c .with-moved in (
+      rw (up .ensures .0) (c .before .before .before .before .before .assemble-quantised .ensures),
+      handed-up (q .quantize-beats .result) (movedIn (start q .args .beats .now)) (up .ensures .0) (up .ensures .1) (counted q),
+    )
 
 pub assemble-by-spec : {M : Type 1} → statement M
 assemble-by-spec =

@@ -14,9 +14,10 @@ returns c =
     let values = given .values .now in
     let differ = c .before .before .before .before .before .before .before .before .if1 .taken in
     let refused = c .before .before .before .before .before .assemble-scrolls .ensures in
-    let up = c .with-moved in
-    (rw (up .ensures .0) (not-even beats values differ refused),
-    none-handed-up 0 (movedIn beats) (up .ensures .0) (up .ensures .1) (uneven-refused beats values differ refused))
+    let up = c .with-moved in (
+      rw (up .ensures .0) (not-even beats values differ refused),
+      none-handed-up 0 (movedIn beats) (up .ensures .0) (up .ensures .1) (uneven-refused beats values differ refused),
+    )
 
 returns-4 : tie.Need-returns-4
 returns-4 c =
@@ -26,9 +27,10 @@ returns-4 c =
     let even = c .before .before .before .before .before .before .before .before .before .before .if1 .left in
     let long = c .before .before .before .before .before .before .before .before .if3 .left in
     let refused = c .before .before .before .before .before .assemble-scrolls2 .ensures in
-    let up = c .with-moved2 in
-    (rw (up .ensures .0) (not-few beats values even long refused),
-    none-handed-up 0 (movedIn beats) (up .ensures .0) (up .ensures .1) (long-refused beats values long refused))
+    let up = c .with-moved2 in (
+      rw (up .ensures .0) (not-few beats values even long refused),
+      none-handed-up 0 (movedIn beats) (up .ensures .0) (up .ensures .1) (long-refused beats values long refused),
+    )
 
 pub assemble-untested-spec : {M : Type 1} → statement M
 assemble-untested-spec =

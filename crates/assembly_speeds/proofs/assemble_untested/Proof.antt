@@ -36,9 +36,10 @@ uneven-returns c =
     let same = c .before .before .before .before .before .before .before .before .before .before .before .before .before .before .before .same-lengths in
     let differ = sym (same .ensures) ∙ not-true (same .result) (c .before .before .before .before .before .before .before .before .before .before .before .before .before .before .if1 .taken) in
     let refused = c .before .before .before .before .before .before .before .before .before .assemble-speeds .ensures in
-    let up = c .with-moved in
-    (rw (up .ensures .0) (not-even raw differ refused),
-    none-handed-up 0 (movedIn (given .beats .now)) (up .ensures .0) (up .ensures .1) (uneven-refused raw differ refused))
+    let up = c .with-moved in (
+      rw (up .ensures .0) (not-even raw differ refused),
+      none-handed-up 0 (movedIn (given .beats .now)) (up .ensures .0) (up .ensures .1) (uneven-refused raw differ refused),
+    )
 
 long-returns : tie.Need-returns-4
 long-returns c =
@@ -47,9 +48,10 @@ long-returns c =
     let same = c .before .before .before .before .before .before .before .before .before .before .before .before .before .before .before .before .before .same-lengths in
     let long = c .before .before .before .before .before .before .before .before .before .before .before .before .before .before .if3 .left in
     let refused = c .before .before .before .before .before .before .before .before .before .assemble-speeds2 .ensures in
-    let up = c .with-moved2 in
-    (rw (up .ensures .0) (not-few raw (sym (same .ensures) ∙ not-false (same .result) (c .before .before .before .before .before .before .before .before .before .before .before .before .before .before .before .before .if1 .left)) long refused),
-    none-handed-up 0 (movedIn (given .beats .now)) (up .ensures .0) (up .ensures .1) (long-refused raw long refused))
+    let up = c .with-moved2 in (
+      rw (up .ensures .0) (not-few raw (sym (same .ensures) ∙ not-false (same .result) (c .before .before .before .before .before .before .before .before .before .before .before .before .before .before .before .before .if1 .left)) long refused),
+      none-handed-up 0 (movedIn (given .beats .now)) (up .ensures .0) (up .ensures .1) (long-refused raw long refused),
+    )
 
 pub assemble-untested-spec : {M : Type 1} → statement M
 assemble-untested-spec =
