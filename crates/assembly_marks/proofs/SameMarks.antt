@@ -16,20 +16,26 @@ use Rattle.tidy_rows.proofs.AnyValues.{tidy-seconds}
 use Rattle.tidy_warps.specs.WarpTidying.{tidyMarks}
 use Rattle.assembly_marks.specs.AssembledMarks.{allTheSame}
 
-module _ (mark : ℕ) where
-  abbrev as : ℕ → ℕ
-  as other = mark
+-- of no marks none differs
+pub none-differ : (marks : List ℕ) → length marks ≡ 0 → true ≡ allTheSame marks
+unfolding allTheSame every
+none-differ [] h = refl
+none-differ (m ∷ marks) h = absurd (omega arith)
 
-  all-as : (marks : List ℕ) → every (λ (other : ℕ). eqb other mark) marks ≡ true → map as marks ≡ marks
+module _ (mark : ℕ) where
+  abbrev alike : ℕ → ℕ
+  alike other = mark
+
+  all-as : (marks : List ℕ) → every (λ (other : ℕ). eqb other mark) marks ≡ true → map alike marks ≡ marks
   all-as [] h = refl
   all-as (m ∷ marks) h = let p = every-rest (λ (other : ℕ). eqb other mark) m marks h in rw (all-as marks (p .1), eqb-true m mark (p .0))
 
-  front-as : (n : ℕ) (marks : List ℕ) → map as (take n marks) ≡ take n (map as marks)
+  front-as : (n : ℕ) (marks : List ℕ) → map alike (take n marks) ≡ take n (map alike marks)
   front-as zero marks = refl
   front-as (suc n) [] = refl
   front-as (suc n) (m ∷ marks) = ap (_∷_ mark) (front-as n marks)
 
-  as-many : (a b : List ℕ) → length a ≡ length b → map as a ≡ map as b
+  as-many : (a b : List ℕ) → length a ≡ length b → map alike a ≡ map alike b
   as-many [] [] h = refl
   as-many [] (y ∷ b) h = absurd (omega arith)
   as-many (x ∷ a) [] h = absurd (omega arith)
@@ -40,5 +46,5 @@ unfolding allTheSame tidyMarks
 same-front beats marks count same counted short =
     let mark = getD marks 0 0 in
     let all = all-as mark marks same in
-    let tidied = sym (ap (λ (l : List ℕ). tidyMarks beats l) all) ∙ tidy-seconds (as mark) beats marks in
+    let tidied = sym (ap (λ (l : List ℕ). tidyMarks beats l) all) ∙ tidy-seconds (alike mark) beats marks in
     ap (take count) (sym all) ∙ sym (front-as mark count marks) ∙ as-many mark (take count marks) (tidyMarks beats marks) (length-take-le count marks short ∙ counted) ∙ sym tidied
