@@ -44,10 +44,10 @@ fn marked_number(beats: &[f64], marks: &[u8]) -> u32
     if !limits::column_taken(Kind::Beat, beats) {
         return limits::BAD_BEAT;
     }
-    if limits::units_taken(marks) {
-        return limits::TAKEN;
+    if !limits::units_taken(marks) {
+        return limits::BAD_VALUE;
     }
-    limits::BAD_VALUE
+    limits::TAKEN
 }
 
 // ---- marks as numbers, which row tidying carries, and back

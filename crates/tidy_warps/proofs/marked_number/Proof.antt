@@ -31,15 +31,15 @@ returns-3 : tie.Need-returns-3
 returns-3 c =
     let start = c .before .before .before .before .before .before .before .before in
     let good = sym (c .before .before .before .column-taken .ensures) ∙ not-false (c .before .before .before .column-taken .result) (c .before .before .if2 .left) in
-    let all = sym (c .before .units-taken .ensures) ∙ c .if3 .taken in
-    sym (sizes-passed (start .args .beats .now) (start .args .marks .now) (sym (c .before .before .before .before .before .sizes-number .ensures) ∙ c .before .before .before .before .if1 .left) ∙ rw (good, all))
+    let bad = sym (c .before .units-taken .ensures) ∙ not-true (c .before .units-taken .result) (c .if3 .taken) in
+    sym (sizes-passed (start .args .beats .now) (start .args .marks .now) (sym (c .before .before .before .before .before .sizes-number .ensures) ∙ c .before .before .before .before .if1 .left) ∙ rw (good, bad))
 
 returns-4 : tie.Need-returns-4
 returns-4 c =
     let start = c .before .before .before .before .before .before .before .before in
     let good = sym (c .before .before .before .column-taken .ensures) ∙ not-false (c .before .before .before .column-taken .result) (c .before .before .if2 .left) in
-    let bad = sym (c .before .units-taken .ensures) ∙ c .if3 .left in
-    sym (sizes-passed (start .args .beats .now) (start .args .marks .now) (sym (c .before .before .before .before .before .sizes-number .ensures) ∙ c .before .before .before .before .if1 .left) ∙ rw (good, bad))
+    let all = sym (c .before .units-taken .ensures) ∙ not-false (c .before .units-taken .result) (c .if3 .left) in
+    sym (sizes-passed (start .args .beats .now) (start .args .marks .now) (sym (c .before .before .before .before .before .sizes-number .ensures) ∙ c .before .before .before .before .if1 .left) ∙ rw (good, all))
 
 pub marked-number-spec : {M : Type 1} → statement M
 marked-number-spec =
