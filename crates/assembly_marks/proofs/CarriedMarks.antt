@@ -7,7 +7,7 @@ use lib.Ieee.{Float}
 use Rattle.rows.specs.Rows.{quantized}
 use Rattle.assembly_rows.specs.declared.Meaning.the-variants.{Lengths}
 use Rattle.assembly_rows.specs.AssembledRows.{narrowedEntry, changeBy, assembledRows}
-use Rattle.tidy_warps.specs.Marks.{Warp, withoutMark, markOf}
+use Rattle.tidy_warps.specs.Marks.{Warp, withoutMark, warpMark}
 use Rattle.tidy_warps.specs.WarpTidying.{tidyWarps}
 use Rattle.tidy_warps.proofs.WithoutMarks as tidied
 use Rattle.assembly_marks.specs.AssembledMarks.{narrowedWarp, assembledMarked, assembledMarks}
@@ -25,6 +25,6 @@ module _ (beats lengths : List Float) (marks : List ℕ) (even : length lengths 
       map-map withoutMark narrowedWarp tidy ∙ sym (map-map narrowedEntry withoutMark tidy)
       ∙ ap (map narrowedEntry) (tidied.without-marks (map quantized beats) (map quantized lengths) marks even-after)
 
-  pub marks-carried : map markOf (assembledMarked beats lengths marks) ≡ assembledMarks beats marks
+  pub marks-carried : map warpMark (assembledMarked beats lengths marks) ≡ assembledMarks beats marks
   unfolding assembledMarked
-  marks-carried = map-map markOf narrowedWarp tidy ∙ tidied.marks-carried (map quantized beats) (map quantized lengths) marks even-after
+  marks-carried = map-map warpMark narrowedWarp tidy ∙ tidied.marks-carried (map quantized beats) (map quantized lengths) marks even-after

@@ -13,19 +13,19 @@ use Rattle.order.proofs.Compare.{same?}
 use Rattle.order.proofs.OrderedList.{Each, only-nil, only-same, only-other}
 use Rattle.order.proofs.Columns.{length-entries, entries-append}
 use Rattle.order.proofs.BehindWins.{behind-wins}
-use Rattle.tidy_warps.specs.Marks.{Warp, markOf, madeMark, warpsIn}
+use Rattle.tidy_warps.specs.Marks.{Warp, warpMark, madeMark, warpsIn}
 use Rattle.assembly_marks.specs.AssembledMarks.{asMade, mergedMarks}
 
 abbrev IsMade : Warp → Type 0
-IsMade warp = markOf warp ≡ madeMark
+IsMade warp = warpMark warp ≡ madeMark
 
 -- ---- of warps that are made
-one-made : (l : List Warp) → Each rowKeyOf IsMade l → 0 < length l → map markOf (theLast [] l) ≡ madeMark ∷ []
+one-made : (l : List Warp) → Each rowKeyOf IsMade l → 0 < length l → map warpMark (theLast [] l) ≡ madeMark ∷ []
 unfolding theLast
 one-made [] p h = absurd (omega arith)
 one-made (x ∷ l) p h = go x l (p .0) (p .1)
   where
-    go : (x : Warp) (l : List Warp) → IsMade x → Each rowKeyOf IsMade l → map markOf (theLast (x ∷ []) l) ≡ madeMark ∷ []
+    go : (x : Warp) (l : List Warp) → IsMade x → Each rowKeyOf IsMade l → map warpMark (theLast (x ∷ []) l) ≡ madeMark ∷ []
     go x [] e p = ap (λ (m : ℕ). m ∷ []) e
     go x (y ∷ l) e p = go y l (p .0) (p .1)
 
@@ -39,9 +39,9 @@ all-made [] = tt
 all-made (e ∷ l) = (refl, all-made l)
 
 -- the law, of warps
-pub made-wins : (given made : List Warp) (k : ℕ) → Each rowKeyOf (λ (warp : Warp). markOf warp ≡ madeMark) made → 0 < length (only rowKeyOf k made)
-    → map markOf (only rowKeyOf k (tidied rowKeyOf (given ++ made))) ≡ madeMark ∷ []
-made-wins given made k p h = ap (map markOf) (behind-wins rowKeyOf k given made h) ∙ one-made (only rowKeyOf k made) (only-made k made p) h
+pub made-wins : (given made : List Warp) (k : ℕ) → Each rowKeyOf (λ (warp : Warp). warpMark warp ≡ madeMark) made → 0 < length (only rowKeyOf k made)
+    → map warpMark (only rowKeyOf k (tidied rowKeyOf (given ++ made))) ≡ madeMark ∷ []
+made-wins given made k p h = ap (map warpMark) (behind-wins rowKeyOf k given made h) ∙ one-made (only rowKeyOf k made) (only-made k made p) h
 
 -- ---- of columns: the given ones with their marks, and behind them each that is made with 1
 made-records : (l : List (Float × Float)) → warpsIn (map first l) (map second l) (replicate (length l) madeMark) ≡ map asMade l
@@ -57,6 +57,6 @@ module _ (beats lengths : List Float) (marks : List ℕ) (made : List (Float × 
       ∙ ap (_++_ (warpsIn beats lengths marks)) (made-records made)
 
   pub made-wins-merged : (k : ℕ) → 0 < length (only rowKeyOf k (map asMade made))
-      → map markOf (only rowKeyOf k (tidied rowKeyOf (warpsIn (beats ++ map first made) (lengths ++ map second made) (mergedMarks marks (length made))))) ≡ madeMark ∷ []
+      → map warpMark (only rowKeyOf k (tidied rowKeyOf (warpsIn (beats ++ map first made) (lengths ++ map second made) (mergedMarks marks (length made))))) ≡ madeMark ∷ []
   made-wins-merged k h =
-      ap (λ (l : List Warp). map markOf (only rowKeyOf k (tidied rowKeyOf l))) merged-records ∙ made-wins (warpsIn beats lengths marks) (map asMade made) k (all-made made) h
+      ap (λ (l : List Warp). map warpMark (only rowKeyOf k (tidied rowKeyOf l))) merged-records ∙ made-wins (warpsIn beats lengths marks) (map asMade made) k (all-made made) h

@@ -15,7 +15,7 @@ use Rattle.limits.specs.Refusals.{sizesNumber}
 use Rattle.limits.proofs.NoRefusal.{lower-none}
 use Rattle.limits.proofs.ListTaken.{Taken, list-taken}
 use Rattle.tidy_warps.specs.Marks.{isMark, marksNumber}
-use Rattle.tidy_warps.specs.WarpTidying.{warpsNumber, markedNumber}
+use Rattle.tidy_warps.specs.WarpTidying.{markedWarpsNumber, markedNumber}
 
 -- ---- test by test
 by-sizes : (long longer even : Bool) (later : ℕ) → (_≡_ {A = ℕ} (pick long 1 (pick longer 1 (pick even 0 2))) 0 → ⊥) → pick long 1 (pick longer 1 (pick even 0 2)) ≡ pick long 1 (pick longer 1 (pick even later 2))
@@ -79,7 +79,7 @@ module _ (beats : List Float) (marks : List ℕ) where
       let p = passed-marks (ltb 1024 (length marks)) (eqb (length beats) (length marks)) (every isMark marks) h in (eqb-true (length beats) (length marks) (p .0), p .1)
 
 -- a list of warps that is taken, with its marks
-module _ (beats lengths : List Float) (marks : List ℕ) (h : warpsNumber beats lengths marks ≡ 0) where
+module _ (beats lengths : List Float) (marks : List ℕ) (h : markedWarpsNumber beats lengths marks ≡ 0) where
   pub list-passed : Taken (rangeOf Beat) (rangeOf Value) beats lengths
   list-passed = list-taken (lower-none _ _ h .0)
 

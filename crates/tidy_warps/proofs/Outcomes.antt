@@ -13,8 +13,8 @@ use Rattle.columns.specs.Laying.{roomNumber, refusedBy, given, LaidPair}
 use Rattle.columns.proofs.Rooms.{nothing-given, number-of-tests, number-taken, number-no-room, pair-fits, pair-short, pair-untouched}
 use Rattle.limits.proofs.NoRefusal.{lower-none}
 use Rattle.tidy_rows.specs.RowTidying.{tidyRows, rowsNumber, RowsTidied}
-use Rattle.tidy_warps.specs.Marks.{lengthOf, markOf}
-use Rattle.tidy_warps.specs.WarpTidying.{tidyWarps, warpsNumber, WarpsTidied, tidyMarks, MarksTidied}
+use Rattle.tidy_warps.specs.Marks.{lengthOf, warpMark}
+use Rattle.tidy_warps.specs.WarpTidying.{tidyWarps, markedWarpsNumber, WarpsTidied, tidyMarks, MarksTidied}
 use Rattle.tidy_warps.proofs.MarkedTaken.{MarkedList, marked-passes, list-passed, marks-passed}
 use Rattle.tidy_warps.proofs.WithoutMarks.{beats-carried, lengths-carried, marks-carried, as-many-rows, as-many-marks}
 
@@ -37,18 +37,18 @@ module _ (beats lengths : List Float) (marks : List ℕ) (beatsOld lengthsOld : 
   abbrev least : ℕ
   least = min (min (length beatsOld) (length lengthsOld)) (length marksOld)
 
-  left-alone : (n : ℕ) → (n ≡ 0 → ⊥) → n ≡ roomNumber (warpsNumber beats lengths marks) (length result) least
+  left-alone : (n : ℕ) → (n ≡ 0 → ⊥) → n ≡ roomNumber (markedWarpsNumber beats lengths marks) (length result) least
       → WarpsTidied beats lengths marks (refusedBy n) beatsOld beatsOld lengthsOld lengthsOld marksOld marksOld
   unfolding laid
   left-alone n h e =
       let none = nothing-given result n h in
       record { number = e; count = rw none; beatsAre = rw none; lengthsAre = rw none; marksAre = rw none }
 
-  pub refused-by-tests : (n : ℕ) → n ≡ warpsNumber beats lengths marks → (n ≡ 0 → ⊥) → WarpsTidied beats lengths marks (refusedBy n) beatsOld beatsOld lengthsOld lengthsOld marksOld marksOld
+  pub refused-by-tests : (n : ℕ) → n ≡ markedWarpsNumber beats lengths marks → (n ≡ 0 → ⊥) → WarpsTidied beats lengths marks (refusedBy n) beatsOld beatsOld lengthsOld lengthsOld marksOld marksOld
   refused-by-tests n e h = left-alone n h (e ∙ number-of-tests _ _ _ (λ z. h (e ∙ z)))
 
   -- beats and lengths are tidied in rooms that are cut to the least
-  module _ (taken : warpsNumber beats lengths marks ≡ 0) (room : ℕ) (r : room ≡ least) {outcome : Outcome} {beatsNew lengthsNew : List Float}
+  module _ (taken : markedWarpsNumber beats lengths marks ≡ 0) (room : ℕ) (r : room ≡ least) {outcome : Outcome} {beatsNew lengthsNew : List Float}
       (p : RowsTidied beats lengths outcome (take room beatsOld) beatsNew (take room lengthsOld) lengthsNew) where
     even : length lengths ≡ length marks
     even = sym (list-passed beats lengths marks taken .even) ∙ marks-passed beats lengths marks taken .even

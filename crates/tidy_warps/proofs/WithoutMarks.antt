@@ -7,14 +7,14 @@ use lib.Ieee.{Float}
 use Rattle.order.specs.Entries.{first, second}
 use Rattle.tidy_rows.specs.RowTidying.{tidyRows}
 use Rattle.tidy_rows.proofs.AnyValues.{changed, tidied-firsts, tidied-seconds}
-use Rattle.tidy_warps.specs.Marks.{withoutMark, lengthOf, markOf}
+use Rattle.tidy_warps.specs.Marks.{withoutMark, lengthOf, warpMark}
 use Rattle.tidy_warps.specs.WarpTidying.{tidyWarps, tidyMarks}
 
 module _ (beats lengths : List Float) (marks : List ℕ) (even : length lengths ≡ length marks) where
   pub without-marks : map withoutMark (tidyWarps beats lengths marks) ≡ tidyRows beats lengths
   without-marks = tidied-firsts beats lengths marks even
 
-  pub marks-carried : map markOf (tidyWarps beats lengths marks) ≡ tidyMarks beats marks
+  pub marks-carried : map warpMark (tidyWarps beats lengths marks) ≡ tidyMarks beats marks
   unfolding tidyMarks
   marks-carried = sym (map-map second (changed second) (tidyWarps beats lengths marks)) ∙ ap (map second) (tidied-seconds beats lengths marks even)
 
@@ -29,4 +29,4 @@ module _ (beats lengths : List Float) (marks : List ℕ) (even : length lengths 
   as-many-rows = sym (length-map (tidyWarps beats lengths marks) withoutMark) ∙ ap length without-marks
 
   pub as-many-marks : length (tidyWarps beats lengths marks) ≡ length (tidyMarks beats marks)
-  as-many-marks = sym (length-map (tidyWarps beats lengths marks) markOf) ∙ ap length marks-carried
+  as-many-marks = sym (length-map (tidyWarps beats lengths marks) warpMark) ∙ ap length marks-carried

@@ -28,8 +28,8 @@ Warp = Float × (Float × ℕ)
 abbrev pub lengthOf : Warp → Float
 lengthOf warp = warp .1 .0
 
-abbrev pub markOf : Warp → ℕ
-markOf warp = warp .1 .1
+abbrev pub warpMark : Warp → ℕ
+warpMark warp = warp .1 .1
 
 abbrev pub withoutMark : Warp → Float × Float
 withoutMark warp = (warp .0, lengthOf warp)

@@ -5,7 +5,7 @@ use native.Mathlib.Omega.{arith}
 use lib.ListN.{length}
 use lib.Seq.{length-take-le}
 use Rattle.limits.specs.Refusals.{lower}
-use Rattle.tidy_warps.specs.WarpTidying.{warpsNumber}
+use Rattle.tidy_warps.specs.WarpTidying.{markedWarpsNumber}
 use Rattle.tidy_warps.proofs.Outcomes.{refused-by-tests, for-want-of-room, all-tidied}
 use borrow.Author.Needs.{needs}
 use Rattle.tidy_warps.proofs.tidy_warp_segments.Statement.{statement}
@@ -15,7 +15,7 @@ use Rattle.tidy_warps.proofs.tidy_warp_segments.Tie as tie
 abbrev start : tie.After-room-of2 → tie.Start
 start c = c .before .before .before .before .before .before .before .before .before .before .before .before
 
-taken : (c : tie.After-room-of2) → warpsNumber (start c .args .beats .now) (start c .args .lengths .now) (start c .args .marks .now) ≡ 0
+taken : (c : tie.After-room-of2) → markedWarpsNumber (start c .args .beats .now) (start c .args .lengths .now) (start c .args .marks .now) ≡ 0
 taken c =
     sym (c .before .before .before .lower-of .ensures ∙ ap₂ lower (c .before .before .before .before .before .list-number .ensures) (c .before .before .before .before .marks-number .ensures)) ∙ c .before .before .if1 .left
 
