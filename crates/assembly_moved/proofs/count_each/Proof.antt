@@ -1,4 +1,4 @@
--- `assembly_moved::count_moved` counts the entries that stay and are off the grid, as far as both columns go. Assumes nothing.
+-- `assembly_moved::count_each` counts the entries that stay and are off the grid, as far as both columns go. Assumes nothing.
 use Prim.Native.Nat.{ℕ, _-_, _<_, _≤_}
 use mathlib.Core.Path.{_≡_, refl, sym, ap, _∙_}
 use mathlib.Core.Bool.{Bool, true, false}
@@ -16,8 +16,8 @@ use Rattle.columns_each.proofs.OffGridCounts.{goesOrOn, moved-by-entry}
 use Rattle.chart.specs.declared.TimingFormat.{TimingFormat}
 use Rattle.assembly_moved.specs.MovedRaw.{staysIn}
 use borrow.Author.Needs.{needs}
-use Rattle.assembly_moved.proofs.count_moved.Statement.{statement}
-use Rattle.assembly_moved.proofs.count_moved.Tie as tie
+use Rattle.assembly_moved.proofs.count_each.Statement.{statement}
+use Rattle.assembly_moved.proofs.count_each.Tie as tie
 
 abbrev Inv-loop : tie.InvT-loop
 Inv-loop format beats values n moved₀ i₀ moved i = CountedRound (goesOrOn (staysIn format) first) (entries beats values) i moved
@@ -52,8 +52,8 @@ returns c =
     round-end (goesOrOn stays first) (omega (arith, many-entries (given .beats .now) (given .values .now), c .before .before .room-of .ensures, c .loop-test .left)) (c .before .loop .inv)
     ∙ ap roundCount (moved-by-entry stays first list)
 
-pub count-moved-spec : {M : Type 1} → statement M
-count-moved-spec =
+pub count-each-spec : {M : Type 1} → statement M
+count-each-spec =
     tie.close
     (tie.spec
     Inv-loop
