@@ -5,7 +5,7 @@ ghost use mathlib.Core.Bool.{true};
 ghost use Rattle.picks.specs.Pick.{pick};
 ghost use Rattle.rows.specs.Rows.{onGrid};
 ghost use Rattle.limits.specs.Numbers.{miss};
-ghost use Rattle.columns_each.specs.OffGrid.{roundCount};
+ghost use Rattle.columns_each.specs.OffGrid.{movedIn, roundCount};
 ghost use Rattle.assembly_moved.specs.MovedRaw.{staysIn, movedRaw};
 
 fn stays(format: TimingFormat, beat: f64, value: f64) -> bool
@@ -26,8 +26,8 @@ fn one_moved(format: TimingFormat, beat: f64, value: f64) -> u32
     if stayed { if off { 1 } else { 0 } } else { 0 }
 }
 
-// Of a raw list of tempos or stops: how many of the entries that the format keeps were off the grid.
-pub fn count_moved(format: TimingFormat, beats: &[f64], values: &[f64]) -> u32
+// The entries that the format keeps and whose beats are off the grid, one by one.
+fn count_each(format: TimingFormat, beats: &[f64], values: &[f64]) -> u32
     ensures { λ r. ⌜ r ≡ roundCount (movedRaw format beats.entry.now values.entry.now) ⌝ }
 {
     let n = columns::room_of(beats.len(), values.len());
@@ -38,4 +38,29 @@ pub fn count_moved(format: TimingFormat, beats: &[f64], values: &[f64]) -> u32
         i += 1;
     }
     moved
+}
+
+// Whether it is known that no beat is off the grid: they are quantised several at a time, which costs less than a look at each entry.
+fn none_off(beats: &[f64]) -> bool
+    ensures { λ r. ⌜ (r ≡ true → movedIn beats.entry.now ≡ 0) ⌝ }
+{
+    if beats.len() <= limits::FEW {
+        let mut quantised = [0.0; limits::FEW];
+        return columns_each::quantize_beats(beats, &mut quantised) == 0;
+    }
+    if beats.len() <= limits::MOST_ENTRIES {
+        let mut quantised = [0.0; limits::MOST_ENTRIES];
+        return columns_each::quantize_beats(beats, &mut quantised) == 0;
+    }
+    false
+}
+
+// Of a raw list of tempos or stops: how many of the entries that the format keeps were off the grid. Most charts have none.
+pub fn count_moved(format: TimingFormat, beats: &[f64], values: &[f64]) -> u32
+    ensures { λ r. ⌜ r ≡ roundCount (movedRaw format beats.entry.now values.entry.now) ⌝ }
+{
+    if none_off(beats) {
+        return 0;
+    }
+    count_each(format, beats, values)
 }
