@@ -1,0 +1,110 @@
+// The tables: each list as it is timed and as it is written, and the note sheet.
+(function (root) {
+    'use strict';
+
+    const { Rows, axes: { short }, text: { shownF64 }, listWords, noteLetters, snaps } = root.Marrighentu;
+    const LANES = ['←', '↓', '↑', '→'];
+    const VALUES = { tempos: 'beats a minute', stops: 'seconds', delays: 'seconds', warps: 'beats', speeds: 'ratio, over', scrolls: 'times', fakes: 'beats' };
+    const CHANGED = 'changed';
+
+    const capital = (word) => word[0].toUpperCase() + word.slice(1);
+    const valueOf = ({ value, ratio, delay, unit }) => (ratio === undefined ? short(value) : `${short(ratio)}, over ${short(delay)} ${unit === 1 ? 's' : 'beats'}`);
+
+    function element(name, className, content) {
+        const one = document.createElement(name);
+        one.className = className;
+        one.append(content);
+        return one;
+    }
+
+    // An entry in two lines: where it stands, and what became of it.
+    function fateCell(list, entry) {
+        const where = `${listWords[list].name} ${entry.number}, line ${entry.line}: beat ${short(entry.beat)}, ${valueOf(entry)}`;
+        const plain = entry.fate === 'kept' && !entry.moved;
+        const both = element('span', 'two', element('span', '', where));
+        both.append(element('span', plain ? 'fate' : 'fate changed', entry.words));
+        return both;
+    }
+
+    class Tables {
+        constructor({ choice, said, tidy, raw, notes, notesSaid }) {
+            Object.assign(this, { choice, said, tidyHolder: tidy, notesSaid });
+            this.raw = new Rows(raw, { label: 'entries as they are written', heads: ['Entry'], height: 46 });
+            this.tidy = new Rows(tidy, { label: 'the list as it is timed', heads: ['Beat', 'Value', 'Origin'], height: 28 });
+            this.notes = new Rows(notes, { label: 'the note sheet', heads: ['Beat', 'Second', 'Notes', 'Colour', 'Judged', 'Drawn at'], height: 28 });
+            choice.addEventListener('change', () => this.showList());
+        }
+
+        show(seen) {
+            this.seen = seen;
+            const changed = this.changed();
+            const options = [[CHANGED, `What was changed (${changed.length})`], ...Object.keys(VALUES).map((list) => [list, `${capital(list)} (${seen.tidy[list].length})`])];
+            const before = this.choice.value;
+            this.choice.replaceChildren(...options.map(([value, words]) => new Option(words, value)));
+            this.choice.value = options.some(([value]) => value === before) ? before : CHANGED;
+            this.showList();
+            this.showNotes();
+        }
+
+        // The raw entries that are not timed as they are written, of all lists.
+        changed() {
+            return Object.entries(this.seen.raw).flatMap(([list, entries]) => entries.filter(({ fate, moved }) => fate !== 'kept' || moved).map((entry) => [list, entry]));
+        }
+
+        showList() {
+            const list = this.choice.value;
+            const { seen } = this;
+            const entries = list === CHANGED ? this.changed() : seen.raw[list].map((entry) => [list, entry]);
+            const timed = list === CHANGED ? seen.tidy.warps.filter(({ made }) => made) : seen.tidy[list];
+            this.raw.show(entries.length, (place) => [fateCell(...entries[place])]);
+            const origin = ({ made }) => (made === undefined ? '' : made ? 'made by SM' : 'written');
+            this.tidy.show(timed.length, (place) => [shownF64(timed[place].beat), valueOf(timed[place]), origin(timed[place])]);
+            const count = (words, number) => `${number} ${words}${number === 1 ? '' : 's'}`;
+            this.said.textContent = list === CHANGED
+                ? `${entries.length ? 'These entries are not timed as they are written' : 'Every entry is timed as it is written'}; SM made ${count('warp', timed.length)}.`
+                : `${count('entry', entries.length).replace('entrys', 'entries')} written, ${timed.length} timed, in ${VALUES[list]}.`;
+        }
+
+        showNotes() {
+            const { rows, noteFault, chart } = this.seen;
+            const most = Math.max(0, ...rows.flatMap(({ notes }) => notes.map(({ lane }) => lane + 1)));
+            const judged = rows.filter((row) => row.judged).length;
+            if (noteFault) this.notesSaid.textContent = `The notes can't be read: ${noteFault.line ? `line ${noteFault.line}: ` : ''}${noteFault.what}`;
+            else if (!rows.length) this.notesSaid.textContent = chart ? 'This chart has no notes.' : 'The whole file has no notes of its own.';
+            else this.notesSaid.textContent = `${rows.length} rows with notes, ${judged} of them judged.`;
+            this.notes.show(rows.length, (place) => {
+                const { beat, time, notes, snap, judged: counts, displayed } = rows[place];
+                return [short(beat), short(time), laneMarks(notes, most, snap), snapMark(snap), counts ? 'yes' : 'no', displayed === null ? '' : short(displayed)];
+            });
+        }
+
+        // The last row of notes at or before a beat stands out.
+        markBeat(beat) {
+            const { rows } = this.seen;
+            let [low, high] = [0, rows.length];
+            while (low < high) {
+                const middle = (low + high) >> 1;
+                if (rows[middle].beat <= beat) low = middle + 1;
+                else high = middle;
+            }
+            this.notes.mark(low - 1);
+        }
+    }
+
+    const snapClass = (snap) => `snap snap-${snaps.indexOf(snap)}`;
+    const snapMark = (snap) => element('span', snapClass(snap), snap);
+
+    // A sign for each lane: an arrow or a letter for a note, a dot for none.
+    function laneMarks(notes, count, snap) {
+        const lanes = element('span', 'lanes', '');
+        for (let lane = 0; lane < count; lane++) {
+            const note = notes.find((one) => one.lane === lane);
+            const sign = !note ? '·' : note.kind === 'tap' && count === 4 ? LANES[lane] : noteLetters[note.kind];
+            lanes.append(element('span', note ? snapClass(snap) : 'none', sign));
+        }
+        lanes.setAttribute('aria-label', notes.map(({ lane, kind }) => `${kind} in lane ${lane + 1}`).join(', '));
+        return lanes;
+    }
+
+    root.Marrighentu = { ...root.Marrighentu, Tables };
+})(globalThis);
