@@ -3,8 +3,11 @@
     'use strict';
 
     const { escaped } = root.Marrighentu;
-    const RUNG = 46;
     const TOP = 34;
+    const SIZE = 11.5;
+    const LINE = 14;
+    // No usual sans-serif is wider on the average.
+    const CHARACTER = 0.56 * SIZE;
 
     // The lines of the file as arrows.
     function arrowsOf(text) {
@@ -26,38 +29,62 @@
         return `M${right} ${y}H${left + 2}`;
     }
 
-    // Where a rung's words stand: in the middle of a line across, else beside the loop.
+    // Where a rung's words stand, and how wide they may be: in the middle of a line across, else beside the loop.
     function wordsAt({ from, to }, left, right) {
         const across = new Set([from, to.replace('no ', '')]).size === 2 && from !== 'begin' && to !== 'end';
-        if (across) return [(left + right) / 2, 'middle'];
-        return from === 'Open' ? [right - 44, 'end'] : [left + 44, 'start'];
+        if (across) return { x: (left + right) / 2, anchor: 'middle', room: right - left - 50 };
+        return { x: from === 'Open' ? right - 44 : left + 44, anchor: from === 'Open' ? 'end' : 'start', room: right - left - 52 };
+    }
+
+    // Words in lines of at most so many characters.
+    function wrapped(words, most) {
+        const lines = [''];
+        for (const word of words.split(' ')) {
+            const longer = `${lines.at(-1)} ${word}`.trim();
+            if (longer.length <= most || lines.at(-1) === '') lines[lines.length - 1] = longer;
+            else lines.push(word);
+        }
+        return lines;
+    }
+
+    // What an arrow says above its line.
+    function headOf({ to, comes, where }) {
+        if (to.startsWith('no ')) return `no arrow: ${comes} ${where}`;
+        return where === 'always' ? comes : `${comes}: ${where}`;
     }
 
     const tip = (name, colour) => `<marker id="${name}" viewBox="0 0 10 10" refX="9" refY="5" markerWidth="9" markerHeight="9" markerUnits="userSpaceOnUse" orient="auto"><path d="M0 0L10 5L0 10z" fill="var(--${colour})"/></marker>`;
 
+    function drawArrow(arrow, { y, head, x, anchor }, left, right, isLit) {
+        const missing = arrow.to.startsWith('no ');
+        const [colour, weight] = [isLit ? 'lit' : 'pale', isLit ? 600 : 400];
+        const text = (at, words) => `<text x="${x}" y="${at}" font-size="${SIZE}" font-weight="${weight}" fill="var(--${isLit ? 'lit' : 'ink'})" text-anchor="${anchor}">${escaped(words)}</text>`;
+        const line = `<path d="${rung(arrow, y, left, right)}" fill="none" stroke="var(--${colour})" stroke-width="${isLit ? 3 : 1.3}" ${missing ? 'stroke-dasharray="6 5"' : ''} marker-end="url(#${isLit ? 'lit-tip' : 'tip'})"/>`;
+        const cross = missing ? `<path d="M${right - 22} ${y - 7}l14 14m0 -14l-14 14" stroke="var(--${colour})" stroke-width="2" fill="none"/>` : '';
+        const above = head.map((words, place) => text(y - 6 - LINE * (head.length - 1 - place), words));
+        return `<g data-law="${arrow.law}"${isLit ? ' data-lit="yes"' : ''}>${line}${cross}${above.join('')}${text(y + LINE, arrow.law)}</g>`;
+    }
+
     // The picture with the arrows of some laws lit, and the state that is reached.
     function diagram(arrows, width, lit = [], open = false) {
-        const lane = width < 600 ? 50 : 96;
+        const lane = width < 500 ? 46 : 84;
         const [left, right] = [lane, width - lane];
-        const height = TOP + arrows.length * RUNG + 8;
+        let bottom = TOP;
+        const rungs = arrows.map((arrow) => {
+            const { x, anchor, room } = wordsAt(arrow, left, right);
+            const head = wrapped(headOf(arrow), room / CHARACTER);
+            const y = bottom + LINE * head.length + 6;
+            bottom = y + LINE + 8;
+            return { y, head, x, anchor };
+        });
         const parts = [`<defs>${tip('tip', 'pale')}${tip('lit-tip', 'lit')}</defs>`];
         for (const [name, x, here] of [['Closed', 1, !open], ['Open', right, open]]) {
-            parts.push(`<rect x="${x}" y="${TOP - 8}" width="${lane - 2}" height="${arrows.length * RUNG + 8}" rx="10" fill="var(--${here ? 'state' : 'panel'})" stroke="var(--${here ? 'lit' : 'pale'})" stroke-width="${here ? 2.5 : 1}"/>`);
-            parts.push(`<text x="${x + lane / 2}" y="${TOP - 15}" font-size="13" font-weight="600" fill="var(--ink)" text-anchor="middle">${name}</text>`);
+            parts.push(`<rect x="${x}" y="${TOP - 10}" width="${lane - 2}" height="${bottom - TOP + 12}" rx="8" fill="var(--${here ? 'state' : 'panel'})" stroke="var(--${here ? 'lit' : 'pale'})" stroke-width="${here ? 2.5 : 1}"/>`);
+            parts.push(`<text x="${x + lane / 2 - 1}" y="${TOP - 16}" font-size="13" font-weight="600" fill="var(--ink)" text-anchor="middle">${name}</text>`);
         }
-        arrows.forEach((arrow, place) => {
-            const y = TOP + place * RUNG + RUNG / 2;
-            const isLit = lit.includes(arrow.law);
-            const missing = arrow.to.startsWith('no ');
-            const [x, anchor] = wordsAt(arrow, left, right);
-            const colour = isLit ? 'lit' : 'pale';
-            const dash = missing ? 'stroke-dasharray="6 5"' : '';
-            const text = (dy, words, weight) => `<text x="${x}" y="${y + dy}" font-size="11.5" font-weight="${weight}" fill="var(--${isLit ? 'lit' : 'ink'})" text-anchor="${anchor}">${escaped(words)}</text>`;
-            const head = `${missing ? 'no arrow: ' : ''}${arrow.comes}${arrow.where === 'always' ? '' : `: ${arrow.where}`}`;
-            const cross = missing ? `<path d="M${right - 22} ${y - 7}l14 14m0 -14l-14 14" stroke="var(--${colour})" stroke-width="2" fill="none"/>` : '';
-            parts.push(`<g data-law="${arrow.law}" ${isLit ? 'data-lit="yes"' : ''}><path d="${rung(arrow, y, left, right)}" fill="none" stroke="var(--${colour})" stroke-width="${isLit ? 3 : 1.3}" ${dash} marker-end="url(#${isLit ? 'lit-tip' : 'tip'})"/>${cross}${text(-6, head, isLit ? 600 : 400)}${text(16, arrow.law, isLit ? 600 : 400)}</g>`);
-        });
-        return `<svg xmlns="http://www.w3.org/2000/svg" viewBox="0 0 ${width} ${height}" width="${width}" height="${height}" font-family="system-ui, sans-serif" role="img" aria-label="the states Closed and Open and the arrows between them; lit: ${escaped(lit.join(', ') || 'none')}">${parts.join('\n')}</svg>`;
+        arrows.forEach((arrow, place) => parts.push(drawArrow(arrow, rungs[place], left, right, lit.includes(arrow.law))));
+        const label = `the states Closed and Open and the arrows between them; lit: ${lit.join(', ') || 'none'}`;
+        return `<svg xmlns="http://www.w3.org/2000/svg" viewBox="0 0 ${width} ${bottom + 6}" width="${width}" height="${bottom + 6}" font-family="system-ui, sans-serif" role="img" aria-label="${escaped(label)}">${parts.join('\n')}</svg>`;
     }
 
     root.Marrighentu = { ...root.Marrighentu, arrowsOf, diagram };

@@ -166,7 +166,7 @@
             return;
         }
         const heights = new Heights([...positions, beats.from, beats.to], top, bottom);
-        drawScale(svg, beats, heights, 'drawn at beat; dashed: where it would be without scrolls');
+        drawScale(svg, beats, heights, 'drawn at beat (dashed: without scrolls)');
         svg.line([beats.from, beats.to].map((beat) => [beats.x(beat), heights.y(beat)]), 'pale', 'stroke-dasharray="5 4"');
         svg.line(asked.map((beat, place) => [beats.x(beat), heights.y(positions[place])]), 'scroll');
     }

@@ -51,9 +51,12 @@
             this.offset = offset;
             this.global = global;
             this.moved = moved;
-            this.clock = { ...columnsOf(lists, CLOCK), offset, global_offset: global };
-            this.lookups = columnsOf(lists, LOOKUPS);
-            this.scrolls = { scroll_beats: lists.scrolls.map((entry) => entry.beat), scroll_ratios: lists.scrolls.map((entry) => entry.value) };
+            // typed columns are lent at once, however long they are
+            const typed = (names) => Object.fromEntries(Object.entries(columnsOf(lists, names)).map(([column, numbers]) => [column, Float32Array.from(numbers)]));
+            this.clock = { ...typed(CLOCK), offset, global_offset: global };
+            this.lookups = typed(LOOKUPS);
+            const { scroll_beats, scroll_values } = typed(['scrolls']);
+            this.scrolls = { scroll_beats, scroll_ratios: scroll_values };
         }
 
         // The number by which the clock or the lookups refuse it.
@@ -101,8 +104,7 @@
         // Of each of rising rows its second, whether a note there is judged, and its colour's name.
         sheet(rows) {
             const { length } = rows;
-            const fakes = columnsOf(this.lists, ['fakes']);
-            const sheet = this.engine.note_sheet({ ...this.clock, ...fakes, rows, times: length, judged: length, snaps: length });
+            const sheet = this.engine.note_sheet({ ...this.clock, ...this.lookups, rows, times: length, judged: length, snaps: length });
             const of = (row, place) => ({ row, time: sheet.times[place], judged: sheet.judged[place] === 1, snap: SNAPS[sheet.snaps[place]] });
             return { number: sheet.number, rows: sheet.number === 0 ? Array.from(rows, of) : [] };
         }

@@ -123,16 +123,15 @@ test('a picture is saved whole, with its colours in it', { skip }, async () => {
 
 test('it is used by the keyboard, and what has the focus is seen', { skip }, async () => {
     await page.choose('example', 'chart-dozens');
-    await page.value('document.activeElement.blur()');
     const reached = [];
-    for (let turn = 0; turn < 40; turn++) {
+    for (let turn = 0; turn < 45; turn++) {
         await page.key('Tab');
         const now = await page.value(`(() => {
             const one = document.activeElement;
             const shown = one.id === 'file' ? one.parentElement : one;
             return [one.id || one.className || one.tagName, getComputedStyle(shown).outlineStyle !== 'none' && parseFloat(getComputedStyle(shown).outlineWidth) >= 2];
         })()`);
-        if (now[0] === 'BODY') break;
+        if (now[0] === 'BODY') continue;
         assert.ok(now[1], `${now[0]} has no visible focus`);
         reached.push(now[0]);
     }
@@ -145,7 +144,7 @@ test('it is used by the keyboard, and what has the focus is seen', { skip }, asy
         await page.key(key, modifiers);
         beats.push(await readout('beat'));
     }
-    assert.deepStrictEqual(beats, ['0', '0.25', '0.271', '4.271', '4.021', '196']);
+    assert.deepStrictEqual(beats, ['0', '0.25', '0.271', '4.271', '4.021', '192']);
     await page.value("document.getElementById('along').focus()");
     const before = await readout('second');
     await page.key('ArrowLeft');
@@ -207,9 +206,8 @@ test('both schemes and both widths', { skip }, async () => {
         for (const width of WIDTHS) {
             await page.screen(width, 900, scheme);
             assert.deepStrictEqual(await page.value(FAINT), [], `${scheme}, ${width}`);
-            const wide = await page.value('[document.documentElement.scrollWidth, innerWidth]');
-            assert.ok(wide[0] <= wide[1], `${scheme}: ${wide}`);
-            assert.strictEqual(await page.value('visualViewport.width'), width);
+            const [content, seen, whole] = await page.value('[document.documentElement.scrollWidth, document.documentElement.clientWidth, innerWidth]');
+            assert.ok(content <= seen && whole === width, `${scheme}: ${content} in ${seen} of ${width}`);
             if (process.env.SCREENSHOTS) await screenshot(width, scheme);
         }
         backs.push(await page.value('getComputedStyle(document.body).backgroundColor'));

@@ -41,8 +41,9 @@
             picture.addEventListener('keydown', (event) => this.byKey(event));
         }
 
-        // Of another picture; the cursor stays on its beat where it can.
+        // Over another picture: of the same timing the cursor stays where it is, of another one on its beat, where that is drawn.
         over(timing, drawn) {
+            const stays = timing === this.timing && drawn.beats.has(this.beat);
             Object.assign(this, { timing, drawn });
             this.picture.append(this.line, this.dot);
             const { from, to } = drawn.beats;
@@ -51,7 +52,8 @@
             this.along.max = Math.max(start, end);
             this.picture.setAttribute('aria-valuemin', from);
             this.picture.setAttribute('aria-valuemax', to);
-            this.toBeat(Math.min(Math.max(this.beat ?? 0, from), to));
+            if (stays) this.put(this.beat, this.time);
+            else this.toBeat(Math.min(Math.max(this.beat ?? 0, from), to));
         }
 
         toPlace(event) {

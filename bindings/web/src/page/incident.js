@@ -4,6 +4,8 @@
 
     const { readChartFile, see, arrowsOf, diagram, axes: { short, marks, Beats }, Svg, incident: { arrowsTaken, compareMachines } } = root.Marrighentu;
     const LAST_BEAT = 16;
+    // the law of the arrow that is not there
+    const NO_ARROW = 'pause-keeps';
 
     // The notes on their beats, filled where they are judged, over the warps.
     function noteLine(width, lists, notes, cursor) {
@@ -46,7 +48,10 @@
             const at = Number(this.beat.value);
             const change = this.taken.findLast(({ beat }) => beat <= at || (beat === Infinity && at === LAST_BEAT));
             const warped = this.lists.warps.some(({ beat, value }) => beat <= at && at < beat + value);
-            this.said.textContent = `Beat ${short(at)}: last came ${change.words}${Number.isFinite(change.beat) ? `, on beat ${short(change.beat)}` : ''}, by ${change.laws.join(', then ')}. ${warped ? 'This beat is in the warp.' : 'This beat is in no warp.'}`;
+            const taken = change.laws.filter((law) => law !== NO_ARROW).join(', then ');
+            const missing = change.laws.includes(NO_ARROW) ? ' The pause ends no warp: that arrow is not there.' : '';
+            const where = Number.isFinite(change.beat) ? `, on beat ${short(change.beat)}` : '';
+            this.said.textContent = `Beat ${short(at)} is in ${warped ? 'the' : 'no'} warp. Last came ${change.words}${where}, by ${taken}.${missing}`;
             this.diagramHolder.innerHTML = diagram(this.arrows, this.diagramHolder.clientWidth || 340, change.laws, change.open);
             const { notes, wrongLists } = this.compared;
             const width = this.right.clientWidth || 340;

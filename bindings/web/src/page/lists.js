@@ -2,9 +2,9 @@
 (function (root) {
     'use strict';
 
-    const { Rows, axes: { short }, text: { shownF64 }, listWords, noteLetters, snaps } = root.Marrighentu;
+    const { Rows, axes: { short }, text: { shown, shownF64 }, listWords, noteLetters, snaps } = root.Marrighentu;
     const LANES = ['←', '↓', '↑', '→'];
-    const VALUES = { tempos: 'beats a minute', stops: 'seconds', delays: 'seconds', warps: 'beats', speeds: 'ratio, over', scrolls: 'times', fakes: 'beats' };
+    const VALUES = { tempos: 'beats a minute', stops: 'seconds', delays: 'seconds', warps: 'beats', speeds: 'ratio', scrolls: 'times', fakes: 'beats' };
     const CHANGED = 'changed';
 
     const capital = (word) => word[0].toUpperCase() + word.slice(1);
@@ -19,7 +19,7 @@
 
     // An entry in two lines: where it stands, and what became of it.
     function fateCell(list, entry) {
-        const where = `${listWords[list].name} ${entry.number}, line ${entry.line}: beat ${short(entry.beat)}, ${valueOf(entry)}`;
+        const where = `${listWords[list].name} ${entry.number}, line ${entry.line}: beat ${shown(entry.beat)}, ${valueOf(entry)}`;
         const plain = entry.fate === 'kept' && !entry.moved;
         const both = element('span', 'two', element('span', '', where));
         both.append(element('span', plain ? 'fate' : 'fate changed', entry.words));
@@ -27,11 +27,11 @@
     }
 
     class Tables {
-        constructor({ choice, said, tidy, raw, notes, notesSaid }) {
-            Object.assign(this, { choice, said, tidyHolder: tidy, notesSaid });
-            this.raw = new Rows(raw, { label: 'entries as they are written', heads: ['Entry'], height: 46 });
-            this.tidy = new Rows(tidy, { label: 'the list as it is timed', heads: ['Beat', 'Value', 'Origin'], height: 28 });
-            this.notes = new Rows(notes, { label: 'the note sheet', heads: ['Beat', 'Second', 'Notes', 'Colour', 'Judged', 'Drawn at'], height: 28 });
+        constructor({ choice, said, tidyTitle, tidy, raw, notes, notesSaid }) {
+            Object.assign(this, { choice, said, tidyTitle, notesSaid });
+            this.raw = new Rows(raw, 'entries as they are written', 62);
+            this.tidy = new Rows(tidy, 'the list as it is timed', 28);
+            this.notes = new Rows(notes, 'the note sheet', 28);
             choice.addEventListener('change', () => this.showList());
         }
 
@@ -41,7 +41,7 @@
             const options = [[CHANGED, `What was changed (${changed.length})`], ...Object.keys(VALUES).map((list) => [list, `${capital(list)} (${seen.tidy[list].length})`])];
             const before = this.choice.value;
             this.choice.replaceChildren(...options.map(([value, words]) => new Option(words, value)));
-            this.choice.value = options.some(([value]) => value === before) ? before : CHANGED;
+            this.choice.value = before || (changed.length ? CHANGED : 'tempos');
             this.showList();
             this.showNotes();
         }
@@ -56,13 +56,17 @@
             const { seen } = this;
             const entries = list === CHANGED ? this.changed() : seen.raw[list].map((entry) => [list, entry]);
             const timed = list === CHANGED ? seen.tidy.warps.filter(({ made }) => made) : seen.tidy[list];
-            this.raw.show(entries.length, (place) => [fateCell(...entries[place])]);
-            const origin = ({ made }) => (made === undefined ? '' : made ? 'made by SM' : 'written');
-            this.tidy.show(timed.length, (place) => [shownF64(timed[place].beat), valueOf(timed[place]), origin(timed[place])]);
-            const count = (words, number) => `${number} ${words}${number === 1 ? '' : 's'}`;
+            this.raw.show(['Entry'], entries.length, (place) => [fateCell(...entries[place])]);
+            this.tidyTitle.textContent = list !== CHANGED ? 'As the machine times it' : timed.length ? 'Warps that SM made' : '';
+            const unit = capital(VALUES[list] ?? VALUES.warps);
+            const origins = timed.some(({ made }) => made !== undefined);
+            this.tidy.show(['Beat', unit, ...(origins ? ['Origin'] : [])], timed.length, (place) => {
+                const { beat, made } = timed[place];
+                return [shownF64(beat), valueOf(timed[place]), ...(origins ? [made ? 'made by SM' : 'written'] : [])];
+            });
             this.said.textContent = list === CHANGED
-                ? `${entries.length ? 'These entries are not timed as they are written' : 'Every entry is timed as it is written'}; SM made ${count('warp', timed.length)}.`
-                : `${count('entry', entries.length).replace('entrys', 'entries')} written, ${timed.length} timed, in ${VALUES[list]}.`;
+                ? `${entries.length ? 'These entries are not timed as they are written' : 'Every entry is timed as it is written'}; SM made ${timed.length} warp${timed.length === 1 ? '' : 's'}.`
+                : `${entries.length} written, ${timed.length} timed.`;
         }
 
         showNotes() {
@@ -72,7 +76,7 @@
             if (noteFault) this.notesSaid.textContent = `The notes can't be read: ${noteFault.line ? `line ${noteFault.line}: ` : ''}${noteFault.what}`;
             else if (!rows.length) this.notesSaid.textContent = chart ? 'This chart has no notes.' : 'The whole file has no notes of its own.';
             else this.notesSaid.textContent = `${rows.length} rows with notes, ${judged} of them judged.`;
-            this.notes.show(rows.length, (place) => {
+            this.notes.show(['Beat', 'Second', 'Notes', 'Colour', 'Judged', 'Drawn at'], rows.length, (place) => {
                 const { beat, time, notes, snap, judged: counts, displayed } = rows[place];
                 return [short(beat), short(time), laneMarks(notes, most, snap), snapMark(snap), counts ? 'yes' : 'no', displayed === null ? '' : short(displayed)];
             });

@@ -6,6 +6,9 @@
     const byId = (id) => document.getElementById(id);
     const textOf = (id) => byId(id).textContent;
 
+    // the last beat that is timed
+    const LAST = 65536;
+
     // The example that is shown first has all that a chart may have.
     const EXAMPLES = [
         { id: 'chart-dozens', name: 'dozens.ssc', chart: 2, words: 'some dozens of changes' },
@@ -20,7 +23,7 @@
     let [shown, seen, asked] = [null, null, { beats: [], times: [] }];
     let span = null;
 
-    const tables = new Tables({ choice: byId('list'), said: byId('list-said'), tidy: byId('tidy'), raw: byId('raw'), notes: byId('notes'), notesSaid: byId('notes-said') });
+    const tables = new Tables({ choice: byId('list'), said: byId('list-said'), tidyTitle: byId('tidy-title'), tidy: byId('tidy'), raw: byId('raw'), notes: byId('notes'), notesSaid: byId('notes-said') });
     const cursor = new Cursor({ picture: byId('picture'), along: byId('along'), readout: byId('readout'), moved: (beat) => tables.markBeat(beat) });
     const incident = new Incident(engine, {
         chart: bytesOf(textOf('chart-pause')), arrows: textOf('arrows'), beat: byId('incident-beat'), before: byId('before'), next: byId('next'), said: byId('incident-said'),
@@ -38,6 +41,7 @@
         const options = file.charts.map((one) => new Option(named(one), one.number));
         byId('chart').replaceChildren(...options, new Option('the whole file', 0));
         byId('chart').value = Math.min(chart, file.charts.length);
+        byId('list').value = '';
         showChart();
     }
 
@@ -82,7 +86,14 @@
 
     function zoom() {
         const [from, to] = [byId('from'), byId('to')].map((field) => parseF64(field.value.trim()));
-        if (from >= -65536 && from < to && to <= 65536) span = { from, to };
+        if (from >= -LAST && from < to && to <= LAST) span = { from, to };
+        draw();
+    }
+
+    // Draws up to a beat that was not in the picture.
+    function widen(beat) {
+        const measure = Math.floor(beat / 4) * 4;
+        span = { from: Math.max(Math.min(span.from, measure), -LAST), to: Math.min(Math.max(span.to, measure + 4), LAST) };
         draw();
     }
 
@@ -98,6 +109,7 @@
             kept.push(found);
             said.textContent = words(found);
             byId('asked').append(Object.assign(document.createElement('li'), { textContent: words(found) }));
+            if (found.beat < span.from || found.beat > span.to) widen(found.beat);
             move(number);
         }
     }
@@ -116,7 +128,6 @@
     }
 
     const bare = () => shown.name.replace(/\.[^.]*$/, '');
-    const json = () => jsonOf(shown.name, seen, asked);
 
     // The picture with its colours in place of their names.
     function svg() {
@@ -139,7 +150,7 @@
         draw();
     });
     byId('save-svg').addEventListener('click', () => save(`${bare()}.svg`, 'image/svg+xml', svg()));
-    byId('save-json').addEventListener('click', () => save(`${bare()}.json`, 'application/json', json()));
+    byId('save-json').addEventListener('click', () => save(`${bare()}.json`, 'application/json', jsonOf(shown.name, seen, asked)));
     const askedBeat = () => ask(byId('ask-beat'), askBeat, beatWords, asked.beats, (beat) => cursor.toBeat(beat));
     const askedTime = () => ask(byId('ask-time'), askTime, timeWords, asked.times, (time) => cursor.toTime(time));
     for (const [id, then] of [['ask-beat', askedBeat], ['ask-time', askedTime], ['from', zoom], ['to', zoom]]) byId(id).addEventListener('change', then);
@@ -150,7 +161,10 @@
             if (name === 'drop') take(event.dataTransfer.files[0]);
         });
     }
+    let width = document.body.clientWidth;
     new ResizeObserver(() => {
+        if (document.body.clientWidth === width) return;
+        width = document.body.clientWidth;
         if (!seen.refused) draw();
         incident.draw();
     }).observe(document.body);
@@ -162,5 +176,4 @@
 
     openExample(EXAMPLES[0].id);
     incident.draw();
-    root.Marrighentu = { ...root.Marrighentu, page: { open, json, svg } };
 })(globalThis);
