@@ -3,7 +3,7 @@
 (function (root) {
     'use strict';
 
-    const { text: { shown, shownF64 }, processSm, listWords } = root.Marrighentu;
+    const { text: { shown, shownF64 }, processSm, listWords, mendWords } = root.Marrighentu;
 
     // The rows on which SM made a warp. A made warp wins its row, so that a warp there is a made one.
     function madeRows(engine, read) {
@@ -74,8 +74,9 @@
         return ['gone', 'not in the tidy list'];
     }
 
-    // For each list its raw entries in the order of the text, with { row, to, fate, words }; and its tidy entries, with { row }, warps with { made }.
-    function fates(engine, read, timing, quantized) {
+    // For each list its raw entries in the order of the text, with { row, to, moved, fate, words }; and its tidy entries, with { row }, warps with { made }.
+    // Of lists that were mended the fates are those of mending.
+    function fates(engine, read, timing, quantized, mended = {}) {
         const made = madeRows(engine, read);
         const tidy = {};
         for (const [list, entries] of Object.entries(timing.lists)) {
@@ -83,11 +84,11 @@
             tidy[list] = entries.map((entry, place) => ({ ...entry, row: rows[place], ...(list === 'warps' && { made: made.has(rows[place]) }) }));
         }
         const raw = {};
-        for (const list of Object.keys(tidy)) raw[list] = fatesOf(engine, read, list, tidy, quantized[list]);
+        for (const list of Object.keys(tidy)) raw[list] = fatesOf(engine, read, list, tidy, quantized[list], mended[list]);
         return { raw, tidy };
     }
 
-    function fatesOf(engine, read, list, tidy, quantized) {
+    function fatesOf(engine, read, list, tidy, quantized, mended) {
         const entries = read.lists[list];
         const rows = rowsOf(engine, quantized.map(({ beat }) => beat));
         const there = new Map(tidy[list].map((entry) => [entry.row, entry]));
@@ -100,6 +101,7 @@
         const told = entries.map((entry, place) => {
             const row = rows[place];
             const fateOf = () => {
+                if (mended) return [mended[place], mendWords[mended[place]]];
                 if (!isTaken(entry)) return ['left out', LEFT_OUT[read.format]];
                 if (last.get(row) !== place) return ['replaced', `replaced by entry ${entries[last.get(row)].number}, on the same row`];
                 const found = there.get(row);

@@ -1,11 +1,11 @@
 // What a machine sees of a chart: worked out once, and then told as words, JSON or a picture. Only proved calls are asked.
 //
-//     const seen = Marrighentu.see(engine, file, 1);      // chart 1; 0 for the whole file
+//     const seen = Marrighentu.see(engine, file, 1, { mend: true });      // chart 1; 0 for the whole file
 //     seen.refused      -> { number, line, what } where the chart can't be timed; else seen.timing, seen.tidy, seen.raw, seen.rows ..
 (function (root) {
     'use strict';
 
-    const { assemble, explained, quantizedLists, fates, movedEntries, refusalMeanings } = root.Marrighentu;
+    const { assemble, explained, mendRead, quantizedLists, fates, movedEntries, refusalMeanings } = root.Marrighentu;
     const LAST_ROW = 3145728;
 
     // The notes of each row together, with the row's second, whether it is judged, its colour and where it is drawn.
@@ -51,17 +51,23 @@
         return (tempos.findLast((tempo) => tempo.beat <= beat) ?? tempos[0]).value;
     }
 
-    function see(engine, file, number, global = 0) {
+    // The timing of lists that were read, with scrolls and speeds mended first where that is wanted and they can be.
+    function timed(engine, read, global, mend) {
+        const mended = mend ? mendRead(engine, read) : null;
+        const { timing } = mended ? assemble(engine, mended.read, global) : {};
+        return timing ? { number: 0, timing, mended: mended.fates } : assemble(engine, read, global);
+    }
+
+    function see(engine, file, number, { global = 0, mend = false } = {}) {
         const chart = file.charts[number - 1];
         const read = (chart ?? file).timing();
-        const whole = { file, chart, read, global };
-        const assembled = assemble(engine, read, global);
-        if (!assembled.timing) return { ...whole, refused: explained(engine, read, global, assembled.number) };
-        const { timing } = assembled;
+        const { number: refusal, timing, mended } = timed(engine, read, global, mend);
+        const whole = { file, chart, read, global, mended };
+        if (refusal !== 0) return { ...whole, refused: explained(engine, read, global, refusal) };
         const { notes = [], fault } = chart ? chart.notes() : {};
         const { rows, fault: far } = noteRows(timing, notes);
         const quantized = quantizedLists(engine, read);
-        return { ...whole, timing, ...fates(engine, read, timing, quantized), moved: movedEntries(read, quantized), rows, noteFault: fault ?? far };
+        return { ...whole, timing, ...fates(engine, read, timing, quantized, mended), moved: movedEntries(read, quantized), rows, noteFault: fault ?? far };
     }
 
     root.Marrighentu = { ...root.Marrighentu, see, askBeat, askTime, tempoAt };

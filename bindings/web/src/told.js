@@ -38,6 +38,17 @@
     // Beats are f32 but for those written as rows.
     const beatOf = (beat) => (Math.fround(beat) === beat ? f32(beat) : f64(beat));
 
+    const unitName = (unit) => (unit === 1 ? 'seconds' : 'beats');
+
+    // The entries of the lists that were mended, as they are written, each with its fate.
+    function mendedFields({ read, mended }) {
+        const { scrolls, speeds } = read.lists;
+        return {
+            scrolls: scrolls.map(({ beat, value }, place) => ({ beat: f64(beat), times: f64(value), fate: mended.scrolls[place] })),
+            speeds: speeds.map(({ beat, ratio, delay, unit }, place) => ({ beat: f64(beat), ratio: f64(ratio), delay: f64(delay), unit: unitName(unit), fate: mended.speeds[place] })),
+        };
+    }
+
     function timingFields(seen, asked) {
         const { timing, tidy, chart, read } = seen;
         const beatAtRow = (row) => f64(timing.engine.note_row_to_beat({ row }));
@@ -53,11 +64,12 @@
             delays: pairs(tidy.delays, 'seconds'),
             warps: pairs(tidy.warps, 'beats'),
             warped_rows: timing.warpedRows(),
-            speeds: tidy.speeds.map(({ beat, ratio, delay, unit }) => ({ beat: f32(beat), ratio: f32(ratio), delay: f32(delay), unit: unit === 1 ? 'seconds' : 'beats' })),
+            speeds: tidy.speeds.map(({ beat, ratio, delay, unit }) => ({ beat: f32(beat), ratio: f32(ratio), delay: f32(delay), unit: unitName(unit) })),
             scrolls: pairs(tidy.scrolls, 'times'),
             fakes: pairs(tidy.fakes, 'beats'),
             moved: seen.moved.map(({ beat, to, by, ...entry }) => ({ ...entry, beat: beatOf(beat), to: beatOf(to), by: f64(by) })),
             beats: asked.beats.map(({ beat, row, time, displayed, ...marks }) => ({ beat: f64(beat), row, time: f64(time), displayed: f64(displayed), ...marks })),
+            mended: seen.mended && mendedFields(seen),
             at: asked.times.length ? asked.times.map(({ time, beat, ...marks }) => ({ time: f64(time), beat: f64(beat), ...marks })) : undefined,
             events: timing.events().map(({ row, kind, number }) => ({ row, beat: beatAtRow(row), kind, number: kind.startsWith('warp') ? f64(number) : f32(number) })),
             notes: chart && !seen.noteFault

@@ -116,6 +116,20 @@ test('a file is chosen by the button, and a chart that is refused is told by its
     assert.deepStrictEqual(await cells('tidy'), [['4', '7', 'made by SM']]);
 });
 
+test('scrolls that lost their order are refused, and mended where that is wanted', { skip }, async () => {
+    const file = path.join(scratch, 'fallen.ssc');
+    fs.writeFileSync(file, '#VERSION:0.83;#BPMS:0=120;\n#SCROLLS:4=1,8=2,\n0=2,9=5;');
+    await page.drop(file);
+    await page.until("!document.getElementById('refused').hidden");
+    assert.match(await page.text('refused-why'), /^Scroll 4, line 3: beat 9 has no place, since the scrolls before it are out of order \(refusal 6\)/);
+    await page.value("document.getElementById('mend').click()");
+    await page.until("document.getElementById('refused').hidden");
+    await page.choose('list', 'scrolls');
+    assert.deepStrictEqual(await cells('tidy'), [['0', '2'], ['4', '1'], ['8', '2'], ['9', '5']]);
+    await page.value("document.getElementById('mend').click()");
+    await page.choose('example', 'chart-pause');
+});
+
 test('a picture is saved whole, with its colours in it', { skip }, async () => {
     const svg = await saved('save-svg', 'pause-in-warp.svg');
     assert.ok(svg.startsWith('<svg xmlns=') && svg.endsWith('</svg>\n') && !svg.includes('var(') && svg.includes('made warp'));
@@ -164,6 +178,11 @@ test('the cursor is dragged, and in a stop time goes on', { skip }, async () => 
     const second = Number(await readout('beat'));
     await mouse('mouseReleased', left + width * 0.6);
     assert.ok(first > 4 && second > first + 5, `${first}, ${second}`);
+    await page.send('Input.dispatchTouchEvent', { type: 'touchStart', touchPoints: [{ x: left + width * 0.3, y: top + 80 }] });
+    await page.send('Input.dispatchTouchEvent', { type: 'touchMove', touchPoints: [{ x: left + width * 0.4, y: top + 80 }] });
+    await page.send('Input.dispatchTouchEvent', { type: 'touchEnd', touchPoints: [] });
+    const touched = Number(await readout('beat'));
+    assert.ok(touched > first && touched < second, `${touched}`);
     // the stop of one second on beat 4 begins at 2.25
     for (const [time, beat, stop] of [[2.2, '3.9', 'no'], [2.5, '4', 'yes'], [3, '4', 'yes'], [3.5, '4.5', 'no']]) {
         await page.value(`{ const along = document.getElementById('along'); along.value = ${time}; along.dispatchEvent(new Event('input')); }`);

@@ -2,6 +2,8 @@
 'use strict';
 const test = require('node:test');
 const assert = require('node:assert');
+const fs = require('fs');
+const os = require('os');
 const path = require('path');
 const { root, read, engine, Marrighentu } = require('./load.js');
 const { pictured, assertSaysTheSame, skip } = require('./pictured.js');
@@ -22,6 +24,20 @@ test('the document says what chart-picture says', { skip }, () => {
             assertSaysTheSame(document, pictured(path.join(root, name), chart, beats, times));
         }
     }
+});
+
+test('lists that lost their order are mended as chart-picture mends them', { skip }, () => {
+    const folder = fs.mkdtempSync(path.join(os.tmpdir(), 'mended-'));
+    const file = path.join(folder, 'fallen.ssc');
+    const text = '#VERSION:0.83;#BPMS:0=120;#SCROLLS:4=1,8=2,0=2,0=3,12.01=2;#SPEEDS:8=2=0.5=0,4=2=0.5=0,0=1=0=1;';
+    fs.writeFileSync(file, text);
+    const seen = see(engine, readChartFile(engine, Buffer.from(text), 'ssc'), 0, { mend: true });
+    const asked = { beats: [askBeat(seen.timing, 6)], times: [] };
+    assertSaysTheSame(JSON.parse(documentOf(file, seen, asked)), pictured(file, 0, [6], [], ['--mend']));
+    assert.deepStrictEqual(seen.raw.scrolls.map(({ words }) => words), [
+        'kept', 'kept', 'replaced, a later entry is on its row', 'kept', 'merged, it is as the one kept before it; moved onto the grid, to beat 12',
+    ]);
+    fs.rmSync(folder, { recursive: true });
 });
 
 test('the form and the digits are chart-picture\'s', () => {

@@ -9,11 +9,11 @@ const { root } = require('./load.js');
 const program = process.env.CHART_PICTURE || path.join(root, 'target/bindings/debug/chart-picture');
 const skip = fs.existsSync(program) ? false : 'chart-picture is not built: cargo is not installed';
 
-// Of a chart by its number, 0 for the whole file; beats and seconds that are asked.
-function pictured(file, chart, beats = [], times = []) {
+// Of a chart by its number, 0 for the whole file; beats and seconds that are asked, and more words of its command line.
+function pictured(file, chart, beats = [], times = [], more = []) {
     const asked = [...(beats.length ? ['--beats', beats.join(',')] : []), ...(times.length ? ['--at', times.join(',')] : [])];
     const which = chart ? ['--chart', String(chart), '--notes'] : ['--header'];
-    return JSON.parse(execFileSync(program, [file, '--json', '--pass-over', '--events', ...which, ...asked], { maxBuffer: 1 << 28 }));
+    return JSON.parse(execFileSync(program, [file, '--json', '--pass-over', '--events', ...which, ...asked, ...more], { maxBuffer: 1 << 28 }));
 }
 
 // All that both say has to be the same; the page may say more of an entry, and leaves out no field but those that it is told.

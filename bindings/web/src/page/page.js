@@ -47,7 +47,7 @@
 
     function showChart() {
         const number = Number(byId('chart').value);
-        seen = see(engine, shown.file, number);
+        seen = see(engine, shown.file, number, { mend: byId('mend').checked });
         asked = { beats: [], times: [] };
         byId('asked').replaceChildren();
         byId('asked-said').textContent = '';
@@ -145,6 +145,7 @@
     byId('example').addEventListener('change', () => openExample(byId('example').value));
     byId('file').addEventListener('change', (event) => take(event.target.files[0]));
     byId('chart').addEventListener('change', showChart);
+    byId('mend').addEventListener('change', showChart);
     byId('whole').addEventListener('click', () => {
         span = wholeSpan(seen);
         draw();
