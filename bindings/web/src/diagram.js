@@ -2,7 +2,7 @@
 (function (root) {
     'use strict';
 
-    const { escaped } = root.Marrighentu;
+    const { escaped, framed } = root.Marrighentu;
     const TOP = 34;
     const SIZE = 11.5;
     const LINE = 14;
@@ -53,16 +53,28 @@
         return where === 'always' ? comes : `${comes}: ${where}`;
     }
 
-    const tip = (name, colour) => `<marker id="${name}" viewBox="0 0 10 10" refX="9" refY="5" markerWidth="9" markerHeight="9" markerUnits="userSpaceOnUse" orient="auto"><path d="M0 0L10 5L0 10z" fill="var(--${colour})"/></marker>`;
+    function tip(name, colour) {
+        const place = 'viewBox="0 0 10 10" refX="9" refY="5" markerWidth="9" markerHeight="9" markerUnits="userSpaceOnUse" orient="auto"';
+        return `<marker id="${name}" ${place}><path d="M0 0L10 5L0 10z" fill="var(--${colour})"/></marker>`;
+    }
 
     function drawArrow(arrow, { y, head, x, anchor }, left, right, isLit) {
         const missing = arrow.to.startsWith('no ');
-        const [colour, weight] = [isLit ? 'lit' : 'pale', isLit ? 600 : 400];
-        const text = (at, words) => `<text x="${x}" y="${at}" font-size="${SIZE}" font-weight="${weight}" fill="var(--${isLit ? 'lit' : 'ink'})" text-anchor="${anchor}">${escaped(words)}</text>`;
-        const line = `<path d="${rung(arrow, y, left, right)}" fill="none" stroke="var(--${colour})" stroke-width="${isLit ? 3 : 1.3}" ${missing ? 'stroke-dasharray="6 5"' : ''} marker-end="url(#${isLit ? 'lit-tip' : 'tip'})"/>`;
-        const cross = missing ? `<path d="M${right - 22} ${y - 7}l14 14m0 -14l-14 14" stroke="var(--${colour})" stroke-width="2" fill="none"/>` : '';
+        const stroke = `fill="none" stroke="var(--${isLit ? 'lit' : 'pale'})"`;
+        const letters = `font-size="${SIZE}" font-weight="${isLit ? 600 : 400}" fill="var(--${isLit ? 'lit' : 'ink'})" text-anchor="${anchor}"`;
+        const text = (at, words) => `<text x="${x}" y="${at}" ${letters}>${escaped(words)}</text>`;
+        const dashes = missing ? ' stroke-dasharray="6 5"' : '';
+        const line = `<path d="${rung(arrow, y, left, right)}" ${stroke} stroke-width="${isLit ? 3 : 1.3}"${dashes} marker-end="url(#${isLit ? 'lit-tip' : 'tip'})"/>`;
+        const cross = missing ? `<path d="M${right - 22} ${y - 7}l14 14m0 -14l-14 14" ${stroke} stroke-width="2"/>` : '';
         const above = head.map((words, place) => text(y - 6 - LINE * (head.length - 1 - place), words));
         return `<g data-law="${arrow.law}"${isLit ? ' data-lit="yes"' : ''}>${line}${cross}${above.join('')}${text(y + LINE, arrow.law)}</g>`;
+    }
+
+    // A state is as high as the ladder.
+    function drawState(name, x, lane, bottom, isHere) {
+        const colours = `fill="var(--${isHere ? 'state' : 'panel'})" stroke="var(--${isHere ? 'lit' : 'pale'})" stroke-width="${isHere ? 2.5 : 1}"`;
+        const box = `<rect x="${x}" y="${TOP - 10}" width="${lane - 2}" height="${bottom - TOP + 12}" rx="8" ${colours}/>`;
+        return `${box}<text x="${x + lane / 2 - 1}" y="${TOP - 16}" font-size="13" font-weight="600" fill="var(--ink)" text-anchor="middle">${name}</text>`;
     }
 
     // The picture with the arrows of some laws lit, and the state that is reached.
@@ -77,14 +89,13 @@
             bottom = y + LINE + 8;
             return { y, head, x, anchor };
         });
-        const parts = [`<defs>${tip('tip', 'pale')}${tip('lit-tip', 'lit')}</defs>`];
-        for (const [name, x, here] of [['Closed', 1, !open], ['Open', right, open]]) {
-            parts.push(`<rect x="${x}" y="${TOP - 10}" width="${lane - 2}" height="${bottom - TOP + 12}" rx="8" fill="var(--${here ? 'state' : 'panel'})" stroke="var(--${here ? 'lit' : 'pale'})" stroke-width="${here ? 2.5 : 1}"/>`);
-            parts.push(`<text x="${x + lane / 2 - 1}" y="${TOP - 16}" font-size="13" font-weight="600" fill="var(--ink)" text-anchor="middle">${name}</text>`);
-        }
-        arrows.forEach((arrow, place) => parts.push(drawArrow(arrow, rungs[place], left, right, lit.includes(arrow.law))));
-        const label = `the states Closed and Open and the arrows between them; lit: ${lit.join(', ') || 'none'}`;
-        return `<svg xmlns="http://www.w3.org/2000/svg" viewBox="0 0 ${width} ${bottom + 6}" width="${width}" height="${bottom + 6}" font-family="system-ui, sans-serif" role="img" aria-label="${escaped(label)}">${parts.join('\n')}</svg>`;
+        const parts = [
+            `<defs>${tip('tip', 'pale')}${tip('lit-tip', 'lit')}</defs>`,
+            drawState('Closed', 1, lane, bottom, !open),
+            drawState('Open', right, lane, bottom, open),
+            ...arrows.map((arrow, place) => drawArrow(arrow, rungs[place], left, right, lit.includes(arrow.law))),
+        ];
+        return framed(width, bottom + 6, `the states Closed and Open and the arrows between them; lit: ${lit.join(', ') || 'none'}`, parts);
     }
 
     root.Marrighentu = { ...root.Marrighentu, arrowsOf, diagram };

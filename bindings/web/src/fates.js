@@ -23,7 +23,9 @@
     const few = (number) => shownF64(Number(number.toExponential(2)));
 
     // Of each entry of each list the beat of its row, and whether it was off the grid.
-    const quantizedLists = (engine, read) => Object.fromEntries(Object.entries(read.lists).map(([list, entries]) => [list, entries.map(({ beat }) => engine.quantize({ beat }))]));
+    function quantizedLists(engine, read) {
+        return Object.fromEntries(Object.entries(read.lists).map(([list, entries]) => [list, entries.map(({ beat }) => engine.quantize({ beat }))]));
+    }
 
     // The entries off the grid, list by list in the order in which they are written; of each list as many as assembly counts.
     function movedEntries(read, quantized) {
@@ -49,27 +51,30 @@
         ssc: 'left out: .ssc takes tempos and stops above 0 from beat 0 on',
     };
 
-    // An entry that is in the tidy list, on its own row.
-    function onItsRow(list, entry, tidy, isMade) {
-        if (list === 'warps' && isMade) return ['replaced', 'replaced: SM made a warp on its row'];
-        if (list === 'stops' && tidy.value !== entry.value) return ['kept', `kept in part: ${shown(tidy.value)} s are more than the warp owed`];
+    // What SM makes a warp of.
+    const BACKWARD = {
+        tempos: ({ value }) => !(value > 0 && value <= 9999999) && 'made into a warp: it runs backward or too fast',
+        stops: ({ value }) => value < 0 && 'made into a warp: it is below 0',
+    };
+
+    // An entry whose row is in the tidy list.
+    function onItsRow(list, entry, found) {
+        if (list === 'warps' && found.made) return ['replaced', 'replaced: SM made a warp on its row'];
+        if (list === 'stops' && found.value !== entry.value) return ['kept', `kept in part: ${shown(found.value)} s are more than the warp owed`];
+        if (list === 'tempos' && found.value !== entry.value) return ['warp', `a warp begins here, with the tempo behind it: ${shown(found.value)}`];
         return ['kept', 'kept'];
     }
 
-    // A tempo or a stop that SM did not write on its row.
-    function withinWarp(list, entry, warp) {
-        const fits = entry.value > 0 && entry.value <= 9999999;
-        if (list === 'tempos') return fits ? ['warp', `falls into the warp at beat ${shown(warp.beat)}`] : ['warp', 'made into a warp: it runs backward or too fast'];
-        return entry.value < 0 ? ['warp', 'made into a warp: it is below 0'] : ['warp', `works off what the warp at beat ${shown(warp.beat)} owes`];
-    }
-
-    function offItsRow(list, entry, row, isFirst, tidy, warps) {
+    // An entry whose row is not; `warp` is the made warp that it falls into.
+    function offItsRow(list, entry, row, isFirst, tidy, warp) {
         if (list === 'stops' && entry.beat < 0) return ['offset', 'before beat 0: it moves the offset'];
-        const before = tidy.findLast((one) => one.row <= row);
-        const warp = warps.findLast((one) => one.made && one.row <= row && row <= one.row + one.value * 48);
         if (list === 'tempos' && isFirst && tidy[0].value === entry.value) return ['kept', 'kept, from beat 0 on: it is the first'];
-        if (warp && (list === 'tempos' || list === 'stops')) return withinWarp(list, entry, warp);
-        if (list === 'tempos') return ['merged', before?.value === entry.value ? 'merged: it is the tempo already' : 'merged: a later tempo counts from there on'];
+        if (warp && list === 'tempos') return ['warp', `falls into the warp at beat ${shown(warp.beat)}`];
+        if (warp && list === 'stops') return ['warp', `works off what the warp at beat ${shown(warp.beat)} owes`];
+        if (list === 'tempos') {
+            const before = tidy.findLast((one) => one.row <= row);
+            return ['merged', before?.value === entry.value ? 'merged: it is the tempo already' : 'merged: a later tempo counts from there on'];
+        }
         if (list === 'scrolls' || list === 'speeds') return ['merged', 'merged: it is as the one before it'];
         return ['gone', 'not in the tidy list'];
     }
@@ -92,25 +97,30 @@
         const entries = read.lists[list];
         const rows = rowsOf(engine, quantized.map(({ beat }) => beat));
         const there = new Map(tidy[list].map((entry) => [entry.row, entry]));
+        const made = tidy.warps.filter((warp) => warp.made);
         const isTaken = (entry) => !listWords[list].raw || stays(read.format, entry);
         const first = entries.findIndex(isTaken);
         const last = new Map();
         entries.forEach((entry, place) => {
             if (isTaken(entry)) last.set(rows[place], place);
         });
-        const told = entries.map((entry, place) => {
+
+        const fateOf = (entry, place) => {
+            if (mended) return [mended[place], mendWords[mended[place]]];
+            if (!isTaken(entry)) return ['left out', LEFT_OUT[read.format]];
             const row = rows[place];
-            const fateOf = () => {
-                if (mended) return [mended[place], mendWords[mended[place]]];
-                if (!isTaken(entry)) return ['left out', LEFT_OUT[read.format]];
-                if (last.get(row) !== place) return ['replaced', `replaced by entry ${entries[last.get(row)].number}, on the same row`];
-                const found = there.get(row);
-                return found ? onItsRow(list, entry, found, found.made) : offItsRow(list, entry, row, place === first, tidy[list], tidy.warps);
-            };
-            const [fate, said] = fateOf();
+            const warp = made.findLast((one) => one.row <= row && row <= one.row + one.value * 48);
+            const backward = warp && BACKWARD[list]?.(entry);
+            if (backward) return ['warp', backward];
+            if (last.get(row) !== place) return ['replaced', `replaced by entry ${entries[last.get(row)].number}, on the same row`];
+            const found = there.get(row);
+            return found ? onItsRow(list, entry, found) : offItsRow(list, entry, row, place === first, tidy[list], warp);
+        };
+        const told = entries.map((entry, place) => {
+            const [fate, said] = fateOf(entry, place);
             const { off, beat: to } = quantized[place];
             const moved = off && fate !== 'left out';
-            return { ...entry, row, to, moved, fate, words: moved ? `${said}; moved onto the grid, to beat ${shown(to)}` : said };
+            return { ...entry, row: rows[place], to, moved, fate, words: moved ? `${said}; moved onto the grid, to beat ${shown(to)}` : said };
         });
         return told.sort((one, other) => one.line - other.line || one.number - other.number);
     }

@@ -10,7 +10,17 @@
     // No usual sans-serif is wider on the average.
     const WIDTH_OF_A_CHARACTER = 0.62;
 
-    const escaped = (text) => text.replace(/[&<>"]/g, (found) => ({ '&': '&amp;', '<': '&lt;', '>': '&gt;', '"': '&quot;' })[found]).replace(/[\x00-\x08\x0b\x0c\x0e-\x1f\ufffe\uffff]/g, '\ufffd');
+    // XML has no other control characters than three.
+    const ENTITIES = { '&': '&amp;', '<': '&lt;', '>': '&gt;', '"': '&quot;' };
+    const escaped = (text) => text.replace(/[&<>"\x00-\x08\x0b\x0c\x0e-\x1f\ufffe\uffff]/g, (found) => ENTITIES[found] ?? '\ufffd');
+
+
+    // A whole picture of its parts; `label` is what a screen reader says of it.
+    function framed(width, height, label, parts) {
+        const size = `viewBox="0 0 ${width} ${height}" width="${width}" height="${height}"`;
+        const head = `<svg xmlns="http://www.w3.org/2000/svg" ${size} font-family="system-ui, sans-serif" role="img" aria-label="${escaped(label)}">`;
+        return `${head}${parts.join('\n')}</svg>\n`;
+    }
 
     // ---- shapes
 
@@ -37,9 +47,7 @@
         }
 
         document(width, height, label) {
-            const size = `viewBox="0 0 ${width} ${height}" width="${width}" height="${height}"`;
-            const back = `<rect width="${width}" height="${height}" fill="var(--paper)"/>`;
-            return `<svg xmlns="http://www.w3.org/2000/svg" ${size} font-family="system-ui, sans-serif" role="img" aria-label="${escaped(label)}">${back}${this.parts.join('\n')}</svg>\n`;
+            return framed(width, height, label, [`<rect width="${width}" height="${height}" fill="var(--paper)"/>`, ...this.parts]);
         }
     }
 
@@ -148,7 +156,8 @@
     }
 
     function drawTempos(svg, beats, top, bottom, tempos) {
-        const shown = tempos.map(({ beat, value }, place) => ({ value, from: place ? beat : -Infinity, to: tempos[place + 1]?.beat ?? Infinity })).filter(({ from, to }) => from < beats.to && to > beats.from);
+        const spans = tempos.map(({ beat, value }, place) => ({ value, from: place ? beat : -Infinity, to: tempos[place + 1]?.beat ?? Infinity }));
+        const shown = spans.filter(({ from, to }) => from < beats.to && to > beats.from);
         const heights = new Heights(shown.map((tempo) => tempo.value), top, bottom, true);
         drawScale(svg, beats, heights, `tempo in beats a minute${heights.powers ? ', logarithmic' : ''}`);
         const points = shown.flatMap(({ value, from, to }) => [[beats.x(from), heights.y(value)], [beats.x(to), heights.y(value)]]);
@@ -198,5 +207,5 @@
         return { svg: svg.document(width, bottom + 24, label), beats, heights, bottom: bottom + 24 };
     }
 
-    root.Marrighentu = { ...root.Marrighentu, picture, wholeSpan, escaped, Svg };
+    root.Marrighentu = { ...root.Marrighentu, picture, wholeSpan, escaped, framed, Svg };
 })(globalThis);

@@ -63,6 +63,10 @@ test('it is said of each entry what became of it', () => {
     assert.deepStrictEqual(words(sm, 'stops'), ['before beat 0: it moves the offset', 'works off what the warp at beat 4 owes', 'kept', 'made into a warp: it is below 0']);
     assert.deepStrictEqual(words(sm, 'warps'), ['replaced: SM made a warp on its row', 'kept']);
     assert.deepStrictEqual(sm.tidy.warps.map(({ beat, value, made }) => [beat, value, made]), [[4, 7, true], [20, 2, true], [40, 2, false]]);
+    const endless = seenOf('#BPMS:0=120,4=-120;#STOPS:4=-1,4=0.5;', 'sm');
+    assert.deepStrictEqual([words(endless, 'tempos')[1], words(endless, 'stops')[0]], ['made into a warp: it runs backward or too fast', 'made into a warp: it is below 0']);
+    const behind = seenOf('#BPMS:0=120,4=90,5=60;#STOPS:4=-2;', 'sm');
+    assert.deepStrictEqual(words(behind, 'tempos'), ['kept', 'a warp begins here, with the tempo behind it: 60', 'falls into the warp at beat 4']);
     const rest = seenOf('#BPMS:0=120,4=-120,8=120;#STOPS:9=3;', 'sm');
     assert.deepStrictEqual(words(rest, 'stops'), ['kept in part: 1.5 s are more than the warp owed']);
 });

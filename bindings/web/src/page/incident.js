@@ -2,7 +2,8 @@
 (function (root) {
     'use strict';
 
-    const { readChartFile, see, arrowsOf, diagram, axes: { short, marks, Beats }, Svg, incident: { arrowsTaken, compareMachines } } = root.Marrighentu;
+    const { readChartFile, see, arrowsOf, diagram, Svg } = root.Marrighentu;
+    const { axes: { short, marks, Beats }, incident: { arrowsTaken, compareMachines } } = root.Marrighentu;
     const LAST_BEAT = 16;
     // the law of the arrow that is not there
     const NO_ARROW = 'pause-keeps';
@@ -11,11 +12,16 @@
     function noteLine(width, lists, notes, cursor) {
         const beats = new Beats(0, LAST_BEAT, 12, width - 12);
         const svg = new Svg();
-        for (const { beat, value } of lists.warps) svg.rect(beats.x(beat), 8, beats.x(beat + value), 52, 'fill="var(--made)" fill-opacity="0.22"', `warp at beat ${short(beat)} for ${short(value)} beats`);
-        for (const { beat, value } of lists.stops) svg.rect(beats.x(beat), 8, beats.x(beat) + 2, 52, 'fill="var(--stop)"', `stop at beat ${short(beat)}: ${short(value)} seconds`);
+        for (const { beat, value } of lists.warps) {
+            svg.rect(beats.x(beat), 8, beats.x(beat + value), 52, 'fill="var(--made)" fill-opacity="0.22"', `warp at beat ${short(beat)} for ${short(value)} beats`);
+        }
+        for (const { beat, value } of lists.stops) {
+            svg.rect(beats.x(beat), 8, beats.x(beat) + 2, 52, 'fill="var(--stop)"', `stop at beat ${short(beat)}: ${short(value)} seconds`);
+        }
         for (const { beat, judged, wrong } of notes) {
             const colour = wrong ? 'stop' : 'ink';
-            svg.path(`M${beats.x(beat) - 4} 30l4 -5l4 5l-4 5z`, `fill="${judged ? `var(--${colour})` : 'none'}" stroke="var(--${colour})" stroke-width="${wrong ? 2 : 1.2}"`);
+            const fill = judged ? `var(--${colour})` : 'none';
+            svg.path(`M${beats.x(beat) - 4} 30l4 -5l4 5l-4 5z`, `fill="${fill}" stroke="var(--${colour})" stroke-width="${wrong ? 2 : 1.2}"`);
         }
         for (const beat of marks(0, LAST_BEAT, 4)) svg.words(beats.x(beat), 68, short(beat), { anchor: 'middle' });
         svg.path(`M${beats.x(cursor).toFixed(1)} 4V56`, 'stroke="var(--lit)" stroke-width="2"');
@@ -55,8 +61,10 @@
             this.diagramHolder.innerHTML = diagram(this.arrows, this.diagramHolder.clientWidth || 340, change.laws, change.open);
             const { notes, wrongLists } = this.compared;
             const width = this.right.clientWidth || 340;
-            this.right.innerHTML = noteLine(width, this.lists, notes.map(({ beat, right }) => ({ beat, judged: right.judged })), at);
-            this.wrong.innerHTML = noteLine(width, wrongLists, notes.map(({ beat, right, wrong }) => ({ beat, judged: wrong.judged, wrong: wrong.judged && !right.judged })), at);
+            const byRight = notes.map(({ beat, right }) => ({ beat, judged: right.judged }));
+            const byWrong = notes.map(({ beat, right, wrong }) => ({ beat, judged: wrong.judged, wrong: wrong.judged && !right.judged }));
+            this.right.innerHTML = noteLine(width, this.lists, byRight, at);
+            this.wrong.innerHTML = noteLine(width, wrongLists, byWrong, at);
         }
     }
 

@@ -2,7 +2,8 @@
 (function (root) {
     'use strict';
 
-    const { engine: engineOf, readChartFile, see, askBeat, askTime, picture, wholeSpan, document: jsonOf, Cursor, Tables, Incident, refusalMeanings, axes: { short }, text: { parseF64 } } = root.Marrighentu;
+    const { engine: engineOf, readChartFile, see, askBeat, askTime, picture, wholeSpan, document: jsonOf, refusalMeanings } = root.Marrighentu;
+    const { Cursor, Tables, Incident, axes: { short }, text: { parseF64 } } = root.Marrighentu;
     const byId = (id) => document.getElementById(id);
     const textOf = (id) => byId(id).textContent;
 
@@ -23,11 +24,13 @@
     let [shown, seen, asked] = [null, null, { beats: [], times: [] }];
     let span = null;
 
-    const tables = new Tables({ choice: byId('list'), said: byId('list-said'), tidyTitle: byId('tidy-title'), tidy: byId('tidy'), raw: byId('raw'), notes: byId('notes'), notesSaid: byId('notes-said') });
+    const tables = new Tables({
+        choice: byId('list'), said: byId('list-said'), tidyTitle: byId('tidy-title'), tidy: byId('tidy'), raw: byId('raw'), notes: byId('notes'), notesSaid: byId('notes-said'),
+    });
     const cursor = new Cursor({ picture: byId('picture'), along: byId('along'), readout: byId('readout'), moved: (beat) => tables.markBeat(beat) });
     const incident = new Incident(engine, {
-        chart: bytesOf(textOf('chart-pause')), arrows: textOf('arrows'), beat: byId('incident-beat'), before: byId('before'), next: byId('next'), said: byId('incident-said'),
-        diagramHolder: byId('diagram'), right: byId('right-machine'), wrong: byId('wrong-machine'), wrongly: byId('wrongly'),
+        chart: bytesOf(textOf('chart-pause')), arrows: textOf('arrows'), beat: byId('incident-beat'), before: byId('before'), next: byId('next'),
+        said: byId('incident-said'), diagramHolder: byId('diagram'), right: byId('right-machine'), wrong: byId('wrong-machine'), wrongly: byId('wrongly'),
     });
 
     // ---- a file and its charts
