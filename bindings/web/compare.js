@@ -201,8 +201,13 @@ function readBack(view, at, type) {
 // ---- the run
 
 const folder = path.join(root, 'target/web');
-fs.writeFileSync(path.join(folder, 'driver.c'), program);
-execFileSync(process.env.CC || 'cc', ['-std=c11', '-O1', '-w', '-I', path.join(root, 'bindings/c'), path.join(folder, 'driver.c'), path.join(root, 'target/native/libmarrighentu.a'), '-o', path.join(folder, 'driver')]);
+const [source, driver, library] = [path.join(folder, 'driver.c'), path.join(folder, 'driver'), path.join(root, 'target/native/libmarrighentu.a')];
+const newer = (than) => fs.statSync(driver).mtimeMs > fs.statSync(than).mtimeMs;
+const isBuilt = fs.existsSync(driver) && fs.readFileSync(source, 'utf8') === program && newer(library) && newer(path.join(root, 'bindings/c/marrighentu.h'));
+if (!isBuilt) {
+    fs.writeFileSync(source, program);
+    execFileSync(process.env.CC || 'cc', ['-std=c11', '-O1', '-w', '-I', path.join(root, 'bindings/c'), source, library, '-o', driver]);
+}
 
 let compared = 0;
 let different = 0;
@@ -225,7 +230,7 @@ for (const name of chosen) {
     }
     taken += own;
     if (!own) never.push(name);
-    const said = execFileSync(path.join(folder, 'driver'), { input: Buffer.concat(asked.map(({ given }) => bytesOf(name, given))), maxBuffer: 1 << 30 });
+    const said = execFileSync(driver, { input: Buffer.concat(asked.map(({ given }) => bytesOf(name, given))), maxBuffer: 1 << 30 });
     const view = new DataView(said.buffer, said.byteOffset, said.byteLength);
     let at = 0;
     for (const { given, wanted } of asked) {

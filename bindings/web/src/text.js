@@ -7,17 +7,23 @@
     // ---- characters
 
     // White space as Unicode has it; String.trim takes a byte-order mark besides, and leaves a next-line character.
-    const BLANK = /[\t-\r \x85\xa0\u1680\u2000-\u200a\u2028\u2029\u202f\u205f\u3000]/;
+    const FAR_BLANK = /[\u1680\u2000-\u200a\u2028\u2029\u202f\u205f\u3000]/;
+
+    function isBlank(text, at) {
+        const code = text.charCodeAt(at);
+        if (code < 0x85) return code === 32 || (code >= 9 && code <= 13);
+        return code === 0x85 || code === 0xa0 || (code >= 0x1680 && FAR_BLANK.test(text[at]));
+    }
 
     function trimStart(text) {
         let at = 0;
-        while (at < text.length && BLANK.test(text[at])) at++;
+        while (at < text.length && isBlank(text, at)) at++;
         return text.slice(at);
     }
 
     function trimEnd(text) {
         let end = text.length;
-        while (end > 0 && BLANK.test(text[end - 1])) end--;
+        while (end > 0 && isBlank(text, end - 1)) end--;
         return text.slice(0, end);
     }
 

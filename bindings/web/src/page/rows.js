@@ -9,7 +9,7 @@
     // `label` is what it is called, `height` is a row's in pixels.
     class Rows {
         constructor(holder, label, height) {
-            this.height = height;
+            Object.assign(this, { height, top: 0 });
             this.holder = holder;
             holder.className = 'rows';
             holder.setAttribute('role', 'table');
@@ -34,13 +34,14 @@
 
         // So many rows under the names of their columns; `cellsOf` gives the cells of one, each a text or an element.
         show(heads, count, cellsOf) {
+            // to scroll makes the browser lay out all of the page
+            if (this.top > 0) this.view.scrollTop = 0;
             Object.assign(this, { count, cellsOf, marked: -1, top: 0, first: -1 });
             this.head.replaceChildren(...heads.map((name) => cell('columnheader', name)));
             this.holder.setAttribute('aria-rowcount', count + 1);
             this.holder.hidden = count === 0;
             this.space.style.height = `${count * this.height}px`;
             this.view.style.height = `${Math.min(count, IN_SIGHT) * this.height}px`;
-            this.view.scrollTop = 0;
             this.draw();
         }
 
