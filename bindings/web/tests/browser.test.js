@@ -245,34 +245,44 @@ async function screenshot(width, scheme) {
     fs.writeFileSync(path.join(process.env.SCREENSHOTS, `page-${width}-${scheme}.png`), Buffer.from(data, 'base64'));
 }
 
-test('a chart of 1,000 tempos and 5,000 notes is shown within a tenth of a second', { skip }, async () => {
+// Shows a file and lays out the page; the milliseconds that it took, and those of the page's own thread, which other work on the machine does not change much.
+async function showing(name, bytes) {
+    const busy = async () => (await page.send('Performance.getMetrics')).metrics.find((one) => one.name === 'TaskDuration').value * 1000;
+    await page.value(`globalThis.given = new DataTransfer(); given.items.add(new File([${JSON.stringify(bytes)}], ${JSON.stringify(name)}))`);
+    const before = await busy();
     const took = await page.value(`(async () => {
-        const bytes = new TextEncoder().encode(${JSON.stringify(largeChart())});
-        const times = [];
-        for (let turn = 0; turn < 6; turn++) {
-            const given = new DataTransfer();
-            given.items.add(new File([bytes], 'large-' + turn + '.ssc'));
-            const input = document.getElementById('file');
-            input.files = given.files;
-            const start = performance.now();
-            input.dispatchEvent(new Event('change'));
-            while (!document.getElementById('said').textContent.includes('large-' + turn)) await new Promise((resolve) => { const { port1, port2 } = new MessageChannel(); port1.onmessage = resolve; port2.postMessage(0); });
-            document.body.getBoundingClientRect();
-            times.push(performance.now() - start);
-        }
-        return times;
+        const input = document.getElementById('file');
+        input.files = given.files;
+        const start = performance.now();
+        input.dispatchEvent(new Event('change'));
+        const soon = () => new Promise((resolve) => {
+            const { port1, port2 } = new MessageChannel();
+            port1.onmessage = resolve;
+            port2.postMessage(0);
+        });
+        while (!document.getElementById('said').textContent.includes(${JSON.stringify(name)})) await soon();
+        document.body.getBoundingClientRect();
+        return performance.now() - start;
     })()`);
+    return { took, busy: (await busy()) - before };
+}
+
+test('a chart of 1,000 tempos and 5,000 notes is shown within a tenth of a second', { skip }, async () => {
+    await page.send('Performance.enable', { timeDomain: 'threadTicks' });
+    const runs = [];
+    for (let turn = 0; turn < 6; turn++) runs.push(await showing(`large-${turn}.ssc`, largeChart()));
     assert.match(await page.text('notes-said'), /^50\d\d rows with notes/);
-    const drag = await page.value(`(() => {
+    const move = await page.value(`(() => {
         const box = document.getElementById('picture');
         const start = performance.now();
         for (let turn = 0; turn < 50; turn++) box.dispatchEvent(new KeyboardEvent('keydown', { key: turn % 2 ? 'ArrowLeft' : 'PageUp' }));
         return (performance.now() - start) / 50;
     })()`);
-    const best = Math.min(...took);
-    console.log(`1,000 tempos and 5,000 notes shown in ${took[0].toFixed(0)} ms at first, ${best.toFixed(0)} ms at best; a move of the cursor takes ${drag.toFixed(1)} ms`);
-    // ten times what is promised, for a machine with much other work
-    assert.ok(best < 1000 && drag < 100, `${took}, ${drag}`);
+    const least = (name) => Math.min(...runs.map((run) => run[name]));
+    const figures = (name) => `${runs[0][name].toFixed(0)} ms at first, ${least(name).toFixed(0)} at best`;
+    console.log(`1,000 tempos and 5,000 notes shown in ${figures('busy')}, of a processor, ${figures('took')} by the clock; a move of the cursor takes ${move.toFixed(1)} ms`);
+    // twice what is promised, and by the clock ten times, for a machine with much other work
+    assert.ok(least('busy') < 200 && least('took') < 1000 && move < 100, `${JSON.stringify(runs)}, ${move}`);
     await page.choose('example', 'chart-dozens');
 });
 
