@@ -69,7 +69,7 @@
 
     function tooLong(list, entries) {
         if (entries.length <= MOST_ENTRIES) return undefined;
-        const line = Math.min(...entries.map((entry) => entry.line));
+        const line = entries.reduce((first, entry) => Math.min(first, entry.line), Infinity);
         return { line, what: `the ${list} from line ${line} on: ${entries.length} entries are above 1,024` };
     }
 

@@ -7,6 +7,7 @@ const os = require('os');
 const path = require('path');
 const { root, read, engine, Marrighentu } = require('./load.js');
 const { pictured, assertSaysTheSame, skip } = require('./pictured.js');
+const { Chance, chartText, damaged } = require('./chance.js');
 const { largeChart } = require('./large.js');
 
 const { readChartFile, see, askBeat, askTime, tempoAt, document: documentOf, picture, wholeSpan } = Marrighentu;
@@ -14,7 +15,7 @@ const seenOf = (text, format, chart = 0) => see(engine, readChartFile(engine, Bu
 const FILES = [['bindings/picture/tests/example.ssc', [0, 1]], ['bindings/picture/tests/dozens.ssc', [0, 1, 2]], ['bindings/picture/tests/many.sm', [0, 1]], ['bindings/web/charts/pause-in-warp.sm', [0, 1]]];
 
 test('the document says what chart-picture says', { skip }, () => {
-    const [beats, times] = [[4, 5.5, 17, -3, 0.1, 121], [-1, 0, 2.5, 2.75, 60]];
+    const [beats, times] = [[4, 5.5, 17, -3, 0.1, 24.5, 101, 121], [-1, 0, 2.5, 2.75, 60]];
     for (const [name, charts] of FILES) {
         const file = readChartFile(engine, read(name), path.extname(name).slice(1));
         for (const chart of charts) {
@@ -109,6 +110,26 @@ test('pictures are whole', () => {
     const { svg } = picture(strange, { ...wholeSpan(strange), width: 700 });
     assertWellFormed(svg);
     assert.match(svg, />never ends<.*>no note can be drawn by these scrolls \(refusal 5\)</s);
+});
+
+test('charts of all kinds are seen, told and drawn', () => {
+    const chance = new Chance(4);
+    let timed = 0;
+    for (let round = 0; round < 1500; round++) {
+        const text = chance.is(3) ? damaged(chance, chartText(chance)) : chartText(chance);
+        const file = readChartFile(engine, text, chance.one([undefined, 'sm', 'ssc']));
+        const seen = see(engine, file, chance.below(file.charts.length + 1), { mend: chance.is(2) });
+        const document = JSON.parse(documentOf('a', seen));
+        if (seen.refused) assert.ok(document.refused.number > 0);
+        else {
+            const { svg } = picture(seen, { ...wholeSpan(seen), width: 800 });
+            assertWellFormed(svg);
+            assert.ok(!/NaN|undefined|Infinity/.test(svg), `${text}`);
+            for (const entries of Object.values(seen.raw)) for (const { words, fate } of entries) assert.ok(words && fate !== 'gone', `${text}: ${words}`);
+            timed++;
+        }
+    }
+    assert.ok(timed > 300, `${timed} are timed`);
 });
 
 // every tag that is opened is closed, in order

@@ -57,7 +57,8 @@
             const entries = list === CHANGED ? this.changed() : seen.raw[list].map((entry) => [list, entry]);
             const timed = list === CHANGED ? seen.tidy.warps.filter(({ made }) => made) : seen.tidy[list];
             this.raw.show(['Entry'], entries.length, (place) => [fateCell(...entries[place])]);
-            this.tidyTitle.textContent = list !== CHANGED ? 'As the machine times it' : timed.length ? 'Warps that SM made' : '';
+            this.tidyTitle.textContent = list === CHANGED ? 'Warps that SM made' : 'As the machine times it';
+            this.tidyTitle.hidden = !timed.length;
             const unit = capital(VALUES[list] ?? VALUES.warps);
             const origins = timed.some(({ made }) => made !== undefined);
             this.tidy.show(['Beat', unit, ...(origins ? ['Origin'] : [])], timed.length, (place) => {
@@ -71,7 +72,7 @@
 
         showNotes() {
             const { rows, noteFault, chart } = this.seen;
-            const most = Math.max(0, ...rows.flatMap(({ notes }) => notes.map(({ lane }) => lane + 1)));
+            const most = rows.reduce((count, { notes }) => Math.max(count, notes.at(-1).lane + 1), 0);
             const judged = rows.filter((row) => row.judged).length;
             if (noteFault) this.notesSaid.textContent = `The notes can't be read: ${noteFault.line ? `line ${noteFault.line}: ` : ''}${noteFault.what}`;
             else if (!rows.length) this.notesSaid.textContent = chart ? 'This chart has no notes.' : 'The whole file has no notes of its own.';

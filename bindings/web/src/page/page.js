@@ -41,8 +41,8 @@
         const file = readChartFile(engine, bytes, formatOf(name));
         shown = { name, file };
         const named = ({ number, stepsType, difficulty, meter }) => [`${number}:`, stepsType, difficulty, meter].filter((word) => word !== '').join(' ');
-        const options = file.charts.map((one) => new Option(named(one), one.number));
-        byId('chart').replaceChildren(...options, new Option('the whole file', 0));
+        byId('chart').replaceChildren(new Option('the whole file', 0));
+        for (const one of file.charts) byId('chart').append(new Option(named(one), one.number));
         byId('chart').value = Math.min(chart, file.charts.length);
         byId('list').value = '';
         showChart();
@@ -141,12 +141,19 @@
     // ---- what is listened to
 
     async function take(file) {
-        if (file) open(file.name, new Uint8Array(await file.arrayBuffer()));
+        if (!file) return;
+        const bytes = await file.arrayBuffer().catch(() => null);
+        if (bytes) open(file.name, new Uint8Array(bytes));
+        else byId('said').textContent = `${file.name} can't be read.`;
     }
 
     byId('example').replaceChildren(...EXAMPLES.map(({ words, id }) => new Option(words, id)));
     byId('example').addEventListener('change', () => openExample(byId('example').value));
-    byId('file').addEventListener('change', (event) => take(event.target.files[0]));
+    byId('file').addEventListener('change', ({ target }) => {
+        take(target.files[0]);
+        // the same file may be chosen again, once it is changed
+        target.value = '';
+    });
     byId('chart').addEventListener('change', showChart);
     byId('mend').addEventListener('change', showChart);
     byId('whole').addEventListener('click', () => {
