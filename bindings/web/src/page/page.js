@@ -56,8 +56,9 @@
         byId('asked-said').textContent = '';
         const { file } = shown;
         const whose = number === 0 ? 'the whole file' : `chart ${number} of ${file.charts.length}, ${seen.read.own ? 'its own timing' : "the file's timing"}`;
-        byId('said').textContent = `${file.title || shown.name} (${shown.name}, .${file.format}): ${whose}`;
-        showStrange([...file.warnings, ...seen.read.faults.map((fault) => ({ ...fault, what: `${fault.what}; passed over` }))]);
+        byId('said').textContent = `${file.title ? `${file.title} (${shown.name}, .${file.format})` : `${shown.name} (.${file.format})`}: ${whose}`;
+        const passedOver = seen.read.faults.map((fault) => ({ ...fault, what: `${fault.what}; passed over` }));
+        showStrange([...file.warnings, ...passedOver].sort((one, other) => one.line - other.line || one.column - other.column));
         byId('refused').hidden = !seen.refused;
         byId('seen').hidden = Boolean(seen.refused);
         if (seen.refused) byId('refused-why').textContent = `${seen.refused.what[0].toUpperCase()}${seen.refused.what.slice(1)}. Nothing of it is timed.`;
