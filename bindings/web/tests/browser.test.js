@@ -18,6 +18,12 @@ const skip = !program ? 'chromium is not installed' : fs.existsSync(page_) ? fal
 const { short } = Marrighentu.axes;
 const scratch = fs.mkdtempSync(path.join(os.tmpdir(), 'page-'));
 const WIDTHS = [390, 1280];
+const DROPPED = [
+    ['bindings/picture/tests/example.ssc', [1, 0]], ['bindings/picture/tests/dozens.ssc', [1, 2]], ['bindings/picture/tests/many.sm', [1]], ['bindings/web/charts/pause-in-warp.sm', [1]],
+];
+const REACHED = [
+    'file', 'example', 'chart', 'mend', 'picture', 'along', 'ask-beat', 'ask-time', 'from', 'to', 'whole', 'save-svg', 'save-json', 'list', 'view', 'before', 'next', 'incident-beat',
+];
 let [browser, page] = [null, null];
 
 test.before(async () => {
@@ -64,7 +70,7 @@ test('without a file an example is shown', { skip }, async () => {
 
 test('dropped charts show the numbers of chart-picture', { skip: skip || noPicture }, async () => {
     const [beats, times] = [[4, 17, 24.5], [2.75, 6]];
-    for (const [name, charts] of [['bindings/picture/tests/example.ssc', [1, 0]], ['bindings/picture/tests/dozens.ssc', [1, 2]], ['bindings/picture/tests/many.sm', [1]], ['bindings/web/charts/pause-in-warp.sm', [1]]]) {
+    for (const [name, charts] of DROPPED) {
         await dropped(name);
         for (const chart of charts) {
             await page.choose('chart', chart);
@@ -149,7 +155,7 @@ test('it is used by the keyboard, and what has the focus is seen', { skip }, asy
         assert.ok(now[1], `${now[0]} has no visible focus`);
         reached.push(now[0]);
     }
-    for (const id of ['file', 'example', 'chart', 'picture', 'along', 'ask-beat', 'ask-time', 'from', 'to', 'whole', 'save-svg', 'save-json', 'list', 'view', 'next', 'incident-beat']) assert.ok(reached.includes(id), `${id} is not reached: ${reached}`);
+    for (const id of REACHED) assert.ok(reached.includes(id), `${id} is not reached: ${reached}`);
 
     await page.value("document.getElementById('picture').focus()");
     await page.key('Home');
@@ -163,14 +169,21 @@ test('it is used by the keyboard, and what has the focus is seen', { skip }, asy
     const before = await readout('second');
     await page.key('ArrowLeft');
     assert.notStrictEqual(await readout('second'), before);
-    for (const control of await page.value("[...document.querySelectorAll('input, select, button, [tabindex]')].map((one) => [one.outerHTML.slice(0, 80), (one.labels?.[0]?.textContent || one.getAttribute('aria-label') || one.textContent || '').trim()])")) {
-        assert.ok(control[1], `${control[0]} has no label`);
-    }
+    const labels = await page.value(`[...document.querySelectorAll('input, select, button, [tabindex]')].map((one) => {
+        const label = one.labels?.[0]?.textContent || one.getAttribute('aria-label') || one.textContent || '';
+        return [one.outerHTML.slice(0, 80), label.trim()];
+    })`);
+    for (const [control, label] of labels) assert.ok(label, `${control} has no label`);
 });
 
 test('the cursor is dragged, and in a stop time goes on', { skip }, async () => {
     await page.choose('example', 'chart-example');
-    const { left, top, width } = await page.value("(() => { const box = document.getElementById('picture').getBoundingClientRect(); scrollTo(0, scrollY + box.top - 100); const now = document.getElementById('picture').getBoundingClientRect(); return { left: now.left, top: now.top, width: now.width }; })()");
+    const { left, top, width } = await page.value(`(() => {
+        const box = () => document.getElementById('picture').getBoundingClientRect();
+        scrollTo(0, scrollY + box().top - 100);
+        const { left, top, width } = box();
+        return { left, top, width };
+    })()`);
     const mouse = (type, x) => page.send('Input.dispatchMouseEvent', { type, x, y: top + 80, button: 'left', buttons: 1, clickCount: 1 });
     await mouse('mousePressed', left + width * 0.3);
     const first = Number(await readout('beat'));
@@ -205,8 +218,15 @@ test('the arrows light up as the cursor passes the changes', { skip }, async () 
 // Words whose colour stands out by less than 4.5 to 1 from the nearest background behind them; pictures' words stand on the paper or on a state.
 const FAINT = `(() => {
     const numbers = (colour) => colour.match(/[\\d.]+/g).map(Number);
-    const light = (colour) => { const [r, g, b] = numbers(colour).map((part) => part / 255).map((part) => (part <= 0.04045 ? part / 12.92 : ((part + 0.055) / 1.055) ** 2.4)); return 0.2126 * r + 0.7152 * g + 0.0722 * b; };
-    const behind = (one) => { for (let at = one; at; at = at.parentElement) { const { backgroundColor } = getComputedStyle(at); if ((numbers(backgroundColor)[3] ?? 1) === 1) return backgroundColor; } return 'rgb(255, 255, 255)'; };
+    const part = (of) => (of / 255 <= 0.04045 ? of / 255 / 12.92 : ((of / 255 + 0.055) / 1.055) ** 2.4);
+    const light = (colour) => numbers(colour).slice(0, 3).map(part).reduce((sum, one, place) => sum + one * [0.2126, 0.7152, 0.0722][place], 0);
+    const behind = (one) => {
+        for (let at = one; at; at = at.parentElement) {
+            const { backgroundColor } = getComputedStyle(at);
+            if ((numbers(backgroundColor)[3] ?? 1) === 1) return backgroundColor;
+        }
+        return 'rgb(255, 255, 255)';
+    };
     const faint = [];
     for (const one of document.querySelectorAll('body *')) {
         const own = [...one.childNodes].some((node) => node.nodeType === 3 && node.textContent.trim());

@@ -6,6 +6,7 @@ const path = require('path');
 const { spawn, spawnSync } = require('child_process');
 
 const NAMES = ['chromium', 'chromium-browser', 'google-chrome'];
+const WORDS = ['--headless=new', '--no-sandbox', '--disable-gpu', '--no-first-run', '--disable-dev-shm-usage', '--disable-background-networking', '--remote-debugging-pipe'];
 const WAIT = 20000;
 
 // The browser that is installed; undefined where there is none.
@@ -17,8 +18,7 @@ function found() {
 class Chromium {
     constructor(program) {
         this.folder = fs.mkdtempSync(path.join(os.tmpdir(), 'chromium-'));
-        const words = ['--headless=new', '--no-sandbox', '--disable-gpu', '--no-first-run', '--disable-dev-shm-usage', '--disable-background-networking', '--remote-debugging-pipe', `--user-data-dir=${this.folder}`, 'about:blank'];
-        this.process = spawn(program, words, { stdio: ['ignore', 'ignore', 'ignore', 'pipe', 'pipe'] });
+        this.process = spawn(program, [...WORDS, `--user-data-dir=${this.folder}`, 'about:blank'], { stdio: ['ignore', 'ignore', 'ignore', 'pipe', 'pipe'] });
         this.number = 0;
         this.waiting = new Map();
         this.listeners = [];

@@ -25,7 +25,10 @@ test('every other arrow is told too', () => {
     assert.deepStrictEqual(lawsOf('#BPMS:0=120,9=60;#STOPS:4=-1;'), ['opening-written', 'time-outside stop-opens', 'time-ends tempo-written', 'end-outside']);
     // nothing is owed on beat 6, and the warp is open still
     assert.deepStrictEqual(lawsOf('#BPMS:0=120,6=60;#STOPS:4=-1;'), ['opening-written', 'time-outside stop-opens', 'time-keeps tempo-keeps', 'end-in-warp']);
-    const told = new Set(['#BPMS:0=120,4=-120;#STOPS:8=3;', '#BPMS:0=-120,4=60;#STOPS:8=1;', '#BPMS:0=120;#STOPS:4=-1,5=2;', '#BPMS:0=120,9=60;#STOPS:4=-1;', '#BPMS:0=120,4=-120,8=120;#STOPS:10=0.5;'].flatMap((text) => lawsOf(text).join(' ').split(' ')));
+    const charts = [
+        '#BPMS:0=120,4=-120;#STOPS:8=3;', '#BPMS:0=-120,4=60;#STOPS:8=1;', '#BPMS:0=120;#STOPS:4=-1,5=2;', '#BPMS:0=120,9=60;#STOPS:4=-1;', '#BPMS:0=120,4=-120,8=120;#STOPS:10=0.5;',
+    ];
+    const told = new Set(charts.flatMap((text) => lawsOf(text).join(' ').split(' ')));
     assert.deepStrictEqual(arrows.map(({ law }) => law).filter((law) => !told.has(law)), []);
 });
 

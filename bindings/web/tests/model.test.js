@@ -12,7 +12,9 @@ const { largeChart } = require('./large.js');
 
 const { readChartFile, see, askBeat, askTime, tempoAt, document: documentOf, picture, wholeSpan } = Marrighentu;
 const seenOf = (text, format, chart = 0) => see(engine, readChartFile(engine, Buffer.from(text), format), chart);
-const FILES = [['bindings/picture/tests/example.ssc', [0, 1]], ['bindings/picture/tests/dozens.ssc', [0, 1, 2]], ['bindings/picture/tests/many.sm', [0, 1]], ['bindings/web/charts/pause-in-warp.sm', [0, 1]]];
+const FILES = [
+    ['bindings/picture/tests/example.ssc', [0, 1]], ['bindings/picture/tests/dozens.ssc', [0, 1, 2]], ['bindings/picture/tests/many.sm', [0, 1]], ['bindings/web/charts/pause-in-warp.sm', [0, 1]],
+];
 
 test('the document says what chart-picture says', { skip }, () => {
     const [beats, times] = [[4, 5.5, 17, -3, 0.1, 24.5, 101, 121], [-1, 0, 2.5, 2.75, 60]];
