@@ -81,7 +81,7 @@
     }
 
     // The document of a file and of what is seen of one chart, with beats and seconds that were asked; where it is refused, why.
-    function document(name, seen, asked = { beats: [], times: [] }) {
+    function jsonOf(name, seen, asked = { beats: [], times: [] }) {
         const { file } = seen;
         const charts = file.charts.map((chart) => ({
             number: chart.number,
@@ -96,5 +96,5 @@
         return `${write({ ...fields, ...(seen.refused ? { refused: seen.refused } : timingFields(seen, asked)) }, 0)}\n`;
     }
 
-    root.Marrighentu = { ...root.Marrighentu, document };
+    root.Marrighentu = { ...root.Marrighentu, jsonOf };
 })(globalThis);

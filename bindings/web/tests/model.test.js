@@ -10,7 +10,7 @@ const { pictured, assertSaysTheSame, skip } = require('./pictured.js');
 const { Chance, chartText, damaged } = require('./chance.js');
 const { largeChart } = require('./large.js');
 
-const { readChartFile, see, askBeat, askTime, tempoAt, document: documentOf, picture, wholeSpan } = Marrighentu;
+const { readChartFile, see, askBeat, askTime, tempoAt, jsonOf, picture, wholeSpan } = Marrighentu;
 const seenOf = (text, format, chart = 0) => see(engine, readChartFile(engine, Buffer.from(text), format), chart);
 const FILES = [
     ['bindings/picture/tests/example.ssc', [0, 1]], ['bindings/picture/tests/dozens.ssc', [0, 1, 2]], ['bindings/picture/tests/many.sm', [0, 1]], ['bindings/web/charts/pause-in-warp.sm', [0, 1]],
@@ -23,7 +23,7 @@ test('the document says what chart-picture says', { skip }, () => {
         for (const chart of charts) {
             const seen = see(engine, file, chart);
             const asked = { beats: beats.map((beat) => askBeat(seen.timing, beat)), times: times.map((time) => askTime(seen.timing, time)) };
-            const document = JSON.parse(documentOf(name, seen, asked));
+            const document = JSON.parse(jsonOf(name, seen, asked));
             assertSaysTheSame(document, pictured(path.join(root, name), chart, beats, times));
         }
     }
@@ -36,7 +36,7 @@ test('lists that lost their order are mended as chart-picture mends them', { ski
     fs.writeFileSync(file, text);
     const seen = see(engine, readChartFile(engine, Buffer.from(text), 'ssc'), 0, { mend: true });
     const asked = { beats: [askBeat(seen.timing, 6)], times: [] };
-    assertSaysTheSame(JSON.parse(documentOf(file, seen, asked)), pictured(file, 0, [6], [], ['--mend']));
+    assertSaysTheSame(JSON.parse(jsonOf(file, seen, asked)), pictured(file, 0, [6], [], ['--mend']));
     assert.deepStrictEqual(seen.raw.scrolls.map(({ words }) => words), [
         'kept', 'kept', 'replaced, a later entry is on its row', 'kept', 'merged, it is as the one kept before it; moved onto the grid, to beat 12',
     ]);
@@ -45,7 +45,7 @@ test('lists that lost their order are mended as chart-picture mends them', { ski
 
 test('the form and the digits are chart-picture\'s', () => {
     const seen = seenOf('#TITLE:a"\x7f\x08;\n#BPMS:0=174.3,4.01=60;#STOPS:8=0.1;', 'sm');
-    const lines = documentOf('a.sm', seen).split('\n');
+    const lines = jsonOf('a.sm', seen).split('\n');
     for (const line of [
         '  "title": "a\\"\\u007f\\u0008",', '  "warnings": [],', '    {"beat": 0, "beats_a_minute": 174.3},', '    {"beat": 8, "seconds": 0.1}',
         '    {"list": "tempo", "entry": 2, "line": 2, "beat": 4.01, "to": 4, "by": -0.010000228881835938}',
@@ -84,7 +84,7 @@ test('every entry that assembly counts as moved is told', () => {
 test('a refusal has its entry and its line', () => {
     const { refused } = seenOf('#BPMS:0=120;\n#STOPS:1=1,\n2=1,\n3=1e-7;', 'sm');
     assert.deepStrictEqual(refused, { number: 4, line: 4, what: 'stop 3, line 4: 1e-7 s is below 2^-20 (refusal 4)' });
-    const document = JSON.parse(documentOf('a.sm', seenOf('#DELAYS:70000=1;', 'sm')));
+    const document = JSON.parse(jsonOf('a.sm', seenOf('#DELAYS:70000=1;', 'sm')));
     assert.strictEqual(document.refused.what, 'delay 1, line 1: beat 70000 is above 65,536 (refusal 3)');
 });
 
@@ -121,7 +121,7 @@ test('charts of all kinds are seen, told and drawn', () => {
         const text = chance.is(3) ? damaged(chance, chartText(chance)) : chartText(chance);
         const file = readChartFile(engine, text, chance.one([undefined, 'sm', 'ssc']));
         const seen = see(engine, file, chance.below(file.charts.length + 1), { mend: chance.is(2) });
-        const document = JSON.parse(documentOf('a', seen));
+        const document = JSON.parse(jsonOf('a', seen));
         if (seen.refused) assert.ok(document.refused.number > 0);
         else {
             const { svg } = picture(seen, { ...wholeSpan(seen), width: 800 });

@@ -2,7 +2,7 @@
 (function (root) {
     'use strict';
 
-    const { engine: engineOf, readChartFile, see, askBeat, askTime, picture, wholeSpan, document: jsonOf, refusalMeanings } = root.Marrighentu;
+    const { engine: engineOf, readChartFile, see, askBeat, askTime, picture, wholeSpan, jsonOf, refusalMeanings } = root.Marrighentu;
     const { Cursor, Tables, Incident, axes: { short }, text: { parseF64 } } = root.Marrighentu;
     const byId = (id) => document.getElementById(id);
     const textOf = (id) => byId(id).textContent;
