@@ -11,7 +11,7 @@
     // The notes of each row together, with the row's second, whether it is judged, its colour and where it is drawn.
     function noteRows(timing, notes) {
         const far = notes.find((note) => note.row > LAST_ROW);
-        if (far) return { rows: [], fault: { line: far.line, what: `note, line ${far.line}: row ${far.row} is above 3,145,728 (refusal 3)` } };
+        if (far) return { rows: [], fault: { what: `note, line ${far.line}: row ${far.row} is above 3,145,728 (refusal 3)` } };
         const byRow = new Map();
         for (const note of notes) {
             if (byRow.has(note.row)) byRow.get(note.row).push(note);

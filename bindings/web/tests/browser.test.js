@@ -62,7 +62,7 @@ async function dropped(name) {
 }
 
 test('without a file an example is shown', { skip }, async () => {
-    assert.match(await page.text('said'), /^Some dozens \(dozens\.ssc, \.ssc\): chart 2 of 2, its own timing$/);
+    assert.match(await page.text('said'), /^Some dozens \(dozens\.ssc, \.ssc\): chart 2 of 2, its own timing, offset -0\.25 s$/);
     assert.ok(await page.value("document.querySelectorAll('#picture svg path').length") > 10);
     assert.ok(await page.value("document.querySelectorAll('#notes .line').length") > 5);
     assert.match(await page.text('proof'), /not proved[\s\S]*PROVED\.md[\s\S]*pause-keeps-warp/);
@@ -96,6 +96,9 @@ test('dropped charts show the numbers of chart-picture', { skip: skip || noPictu
                 assert.ok(shown.length > 0 || wanted[list].length === 0, `${name}: ${list}`);
                 assert.deepStrictEqual(shown, rows, `${name}: ${list}`);
             }
+            await page.choose('list', 'warps');
+            assert.ok((await page.text('list-said')).includes(` ${wanted.warped_rows} rows`), `${name}: warped rows`);
+            assert.ok((await page.text('said')).endsWith(`, offset ${wanted.offset} s`), `${name}: offset`);
             await page.type('ask-beat', 0);
             const notes = await cells('notes');
             const rows = (wanted.notes ?? []).slice(0, notes.length).map((row) => [short(row.beat), short(row.time), row.snap, row.judged ? 'yes' : 'no', short(row.displayed)]);

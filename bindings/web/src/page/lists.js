@@ -17,6 +17,11 @@
         return one;
     }
 
+    function changedWords(changed, made) {
+        const entries = changed ? 'These entries are not timed as they are written' : 'Every entry is timed as it is written';
+        return `${entries}; SM made ${made} warp${made === 1 ? '' : 's'}.`;
+    }
+
     // An entry in two lines: where it stands, and what became of it.
     function fateCell(list, entry) {
         const where = `${listWords[list].name} ${entry.number}, line ${entry.line}: beat ${shown(entry.beat)}, ${valueOf(entry)}`;
@@ -65,9 +70,8 @@
                 const { beat, made } = timed[place];
                 return [shownF64(beat), valueOf(timed[place]), ...(origins ? [made ? 'made by SM' : 'written'] : [])];
             });
-            this.said.textContent = list === CHANGED
-                ? `${entries.length ? 'These entries are not timed as they are written' : 'Every entry is timed as it is written'}; SM made ${timed.length} warp${timed.length === 1 ? '' : 's'}.`
-                : `${entries.length} written, ${timed.length} timed.`;
+            this.said.textContent = list === CHANGED ? changedWords(entries.length, timed.length) : `${entries.length} written, ${timed.length} timed.`;
+            if (list === 'warps') this.said.textContent += ` They pass over ${seen.timing.warpedRows()} rows, each counted once.`;
         }
 
         showNotes() {

@@ -3,7 +3,7 @@
     'use strict';
 
     const { engine: engineOf, readChartFile, see, askBeat, askTime, picture, wholeSpan, jsonOf, refusalMeanings } = root.Marrighentu;
-    const { Cursor, Tables, Incident, axes: { short }, text: { parseF64 } } = root.Marrighentu;
+    const { Cursor, Tables, Incident, axes: { short }, text: { parseF64, shownF64 } } = root.Marrighentu;
     const byId = (id) => document.getElementById(id);
     const textOf = (id) => byId(id).textContent;
 
@@ -56,7 +56,8 @@
         byId('asked-said').textContent = '';
         const { file } = shown;
         const whose = number === 0 ? 'the whole file' : `chart ${number} of ${file.charts.length}, ${seen.read.own ? 'its own timing' : "the file's timing"}`;
-        byId('said').textContent = `${file.title ? `${file.title} (${shown.name}, .${file.format})` : `${shown.name} (.${file.format})`}: ${whose}`;
+        const title = file.title ? `${file.title} (${shown.name}, .${file.format})` : `${shown.name} (.${file.format})`;
+        byId('said').textContent = `${title}: ${whose}${seen.refused ? '' : `, offset ${shownF64(seen.timing.offset)} s`}`;
         const passedOver = seen.read.faults.map((fault) => ({ ...fault, what: `${fault.what}; passed over` }));
         showStrange([...file.warnings, ...passedOver].sort((one, other) => one.line - other.line || one.column - other.column));
         byId('refused').hidden = !seen.refused;
