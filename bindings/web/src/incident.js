@@ -29,7 +29,8 @@
         stops: changes.filter(({ kind }) => kind === 'stop'),
     });
 
-    // Whether a warp is open where the walk has come to a beat: a stop below 0 there goes into an open one, and else makes one of its own.
+    // Whether a warp is open where the walk has come to a beat: a stop below 0 there goes into an open one, and else makes one of its own. A warp that begins on
+    // that beat and owes nothing under a tempo that fits leaves no trace in what is written, and is told as none.
     function isOpen(engine, lists, beat) {
         const probed = { tempos: lists.tempos, stops: [...lists.stops, { beat, value: -1 }] };
         return processSm(engine, probed).warps.length === processSm(engine, lists).warps.length;
