@@ -106,9 +106,11 @@
         });
 
         const fateOf = (entry, place) => {
+            const row = rows[place];
+            // assembly goes through f32, where two entries that mending kept may be one
+            if (mended?.[place] === 'kept' && !there.has(row)) return ['merged', 'kept when it was mended, and merged when it was timed'];
             if (mended) return [mended[place], mendWords[mended[place]]];
             if (!isTaken(entry)) return ['left out', LEFT_OUT[read.format]];
-            const row = rows[place];
             const warp = made.findLast((one) => one.row <= row && row <= one.row + one.value * 48);
             const backward = warp && BACKWARD[list]?.(entry);
             if (backward) return ['warp', backward];
