@@ -5,7 +5,8 @@
 const fs = require('fs');
 const path = require('path');
 const { execFileSync } = require('child_process');
-const { root, header, engine, Marrighentu } = require('./tests/load.js');
+const { root, engine } = require('./tests/load.js');
+const { Chance } = require('./tests/chance.js');
 
 const [seed, rounds] = [Number(process.argv[2] || 1), Number(process.argv[3] || 200)];
 const { functions, structs } = engine;
@@ -72,16 +73,8 @@ ${names.map(caseOf).join('\n')}
 
 // ---- what is asked
 
-let state = seed >>> 0;
-function next() {
-    state = (state + 0x6d2b79f5) >>> 0;
-    let mixed = Math.imul(state ^ (state >>> 15), state | 1);
-    mixed ^= mixed + Math.imul(mixed ^ (mixed >>> 7), mixed | 61);
-    return (mixed ^ (mixed >>> 14)) >>> 0;
-}
-const below = (limit) => next() % limit;
-const one = (list) => list[below(list.length)];
-const chance = (of) => below(of) === 0;
+const dice = new Chance(seed);
+const [next, below, one, chance] = [() => dice.next(), (limit) => dice.below(limit), (list) => dice.one(list), (of) => dice.is(of)];
 const STRANGE = [NaN, Infinity, -Infinity, -0, 5e-324, 65536, -65536, 65536.00001, 2 ** 30, 2 ** 31, 2 ** 50, -(2 ** 50), 1e300];
 const bits = new DataView(new ArrayBuffer(8));
 function anyNumber() {
@@ -208,8 +201,13 @@ function readBack(view, at, type) {
 // ---- the run
 
 const folder = path.join(root, 'target/web');
-fs.writeFileSync(path.join(folder, 'driver.c'), program);
-execFileSync(process.env.CC || 'cc', ['-std=c11', '-O1', '-w', '-I', path.join(root, 'bindings/c'), path.join(folder, 'driver.c'), path.join(root, 'target/native/libmarrighentu.a'), '-o', path.join(folder, 'driver')]);
+const [source, driver, library] = [path.join(folder, 'driver.c'), path.join(folder, 'driver'), path.join(root, 'target/native/libmarrighentu.a')];
+const newer = (than) => fs.statSync(driver).mtimeMs > fs.statSync(than).mtimeMs;
+const isBuilt = fs.existsSync(driver) && fs.readFileSync(source, 'utf8') === program && newer(library) && newer(path.join(root, 'bindings/c/marrighentu.h'));
+if (!isBuilt) {
+    fs.writeFileSync(source, program);
+    execFileSync(process.env.CC || 'cc', ['-std=c11', '-O1', '-w', '-I', path.join(root, 'bindings/c'), source, library, '-o', driver]);
+}
 
 let compared = 0;
 let different = 0;
@@ -232,7 +230,7 @@ for (const name of chosen) {
     }
     taken += own;
     if (!own) never.push(name);
-    const said = execFileSync(path.join(folder, 'driver'), { input: Buffer.concat(asked.map(({ given }) => bytesOf(name, given))), maxBuffer: 1 << 30 });
+    const said = execFileSync(driver, { input: Buffer.concat(asked.map(({ given }) => bytesOf(name, given))), maxBuffer: 1 << 30 });
     const view = new DataView(said.buffer, said.byteOffset, said.byteLength);
     let at = 0;
     for (const { given, wanted } of asked) {

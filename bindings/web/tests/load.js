@@ -1,14 +1,15 @@
-// The page's own scripts, as node sees them, and the module that `bindings/web/build` made.
+// The page's own scripts but for those that need a page, as node sees them, and the module that `bindings/web/build` made.
 'use strict';
 const fs = require('fs');
 const path = require('path');
 const vm = require('vm');
 
 const root = path.join(__dirname, '..', '..', '..');
-const scripts = ['engine.js'];
-for (const name of scripts) vm.runInThisContext(fs.readFileSync(path.join(__dirname, '..', 'src', name), 'utf8'), { filename: name });
+const read = (name) => fs.readFileSync(path.join(root, name));
+const scripts = [...read('bindings/web/page.html').toString().matchAll(/^@script (bindings\/web\/src\/[^/]+)$/gm)].map((found) => found[1]);
+for (const name of scripts) vm.runInThisContext(read(name).toString(), { filename: name });
 
-const header = fs.readFileSync(path.join(root, 'bindings/c/marrighentu.h'), 'utf8');
-const module_ = fs.readFileSync(path.join(root, 'target/web/marrighentu.wasm'));
+const header = read('bindings/c/marrighentu.h').toString();
+const engine = Marrighentu.engine(read('target/web/marrighentu.wasm'), header);
 
-module.exports = { root, header, engine: Marrighentu.engine(module_, header), Marrighentu };
+module.exports = { root, read, header, engine, Marrighentu };
