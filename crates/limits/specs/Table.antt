@@ -17,7 +17,7 @@ badBeat = 3
 abbrev pub badValue : ℕ
 badValue = 4
 
--- rows of a list do not rise strictly, or the tempos do not start at beat 0
+-- rows do not rise strictly, the tempos do not start at beat 0, the scrolls that a beat is drawn by fall, or a mark is not that of its timing
 abbrev pub notRising : ℕ
 notRising = 5
 

@@ -21,7 +21,7 @@ pub const UNEVEN: u32 = 2;
 pub const BAD_BEAT: u32 = 3;
 // A value, a unit or an offset is beyond its limit.
 pub const BAD_VALUE: u32 = 4;
-// A list's rows do not rise strictly, or the tempos do not start at beat 0.
+// Rows do not rise strictly, the tempos do not start at beat 0, the scrolls that a beat is drawn by fall, or a mark is not that of its timing.
 pub const NOT_RISING: u32 = 5;
 // Scrolls or speeds: an entry is to be placed in a kept list that falls.
 pub const FALLS: u32 = 6;

@@ -4,21 +4,20 @@ use mathlib.Core.Bool.{Bool, true, false}
 use mathlib.Core.List.{List}
 use Prim.Native.Nat.{ℕ, _+_, _-_, _≤_, _<_}
 use native.Mathlib.Omega.{arith}
-use borrow.Author.Tests.{eq-eqb}
 use lib.Dec.{ltb, eqb}
 use lib.ListN.{length, getD, set, drop, length-set}
 use lib.Ieee.{Float, nan}
 use Rattle.picks.specs.Pick.{pick}
 use Rattle.limits.specs.Refusals.{sizesNumber}
-use Rattle.limits.proofs.Sizes.{taken-sizes}
 use Rattle.order.specs.Order.{isLast}
 use Rattle.order.specs.Entries.{entries}
 use Rattle.order.specs.Packed.{upperHalf, lowerHalf}
 use Rattle.order.proofs.Columns.{length-entries, entries-getD}
 use Rattle.rows.specs.RowKey.{rowKeyAt}
+use Rattle.tidy_rows_sort.specs.RowOrder.{placesByRow}
+use Rattle.tidy_rows_sort.proofs.PlacesInOrder.{sorted-places}
 use Rattle.tidy_kept.specs.Keeping.{rowOf, nearby}
 use Rattle.mend_fates.specs.Mending.{fateByte}
-use Rattle.mend_fates.specs.RowOrder.{placesByRow}
 use Rattle.mend_fates.specs.inside.Walking.{InRowOrder, fateBy, fateAt, WorkFor, WalkedBeats}
 use Rattle.mend_fates.proofs.SortedPlaces.{in-row-order}
 use Rattle.mend_fates.proofs.Turns.{Mending, mending-begins, mending-ends, numbers-long, settled}
@@ -34,7 +33,7 @@ kept-long fate count place kept e = ap length e ∙ by (eqb fate 0)
 -- the working columns are as long as the sort asks
 pub work-sorted : (beats : List Float) {numbers fates kept sorted : List ℕ} → WorkFor (length beats) numbers fates kept
     → sorted ≡ pick (eqb (sizesNumber (length beats) (length numbers)) 0) (placesByRow beats) numbers → sorted ≡ placesByRow beats
-work-sorted beats {numbers} w e = e ∙ rw (eq-eqb _ 0 (taken-sizes (length beats) (length numbers) (w .few) (sym (w .numbersLong))))
+work-sorted beats {numbers} w e = sorted-places beats (w .few) numbers (w .numbersLong) e
 
 module _ {W : Type 0} (none : W) (near : W → W → Bool) (beats : List Float) (values : List W) where
   abbrev pub Walking : (fatesOld fatesNow keptNow : List ℕ) (count i : ℕ) → Type 0

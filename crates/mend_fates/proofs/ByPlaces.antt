@@ -16,6 +16,7 @@ use Rattle.order.specs.Entries.{placesFrom, places}
 use Rattle.order.proofs.Compare.{below?, same?}
 use Rattle.order.proofs.OrderedList.{only-nil, only-same, only-other, only-append, only-ordered, ordered-length, Each, each-ordered}
 use Rattle.order_sort.proofs.GatheredByPlaces.{places-length, read-places}
+use Rattle.tidy_rows_sort.proofs.PlacesInOrder.{each-places}
 use Rattle.mend_fates.specs.Mending.{EntryFate, Kept, Replaced, Merged, mended, someOn, lastBelow, nearOne, fateIn, fates}
 use Rattle.mend_fates.specs.inside.Walking.{walkFate}
 use Rattle.mend_fates.proofs.KeptAreWritten.{none-on, some-on, fate-of-place}
@@ -104,11 +105,6 @@ map-drop g zero list = refl
 map-drop g (suc i) [] = refl
 map-drop g (suc i) (x ∷ list) = map-drop g i list
 
-pub each-places : (k at n : ℕ) → at + n ≤ k → Each self (λ (p : ℕ). p < k) (placesFrom at n)
-unfolding placesFrom
-each-places k at zero h = tt
-each-places k at (suc n) h = (omega arith, each-places k (suc at) n (omega arith))
-
 each-get : (key : ℕ → ℕ) (P : ℕ → Type 0) (list : List ℕ) (i : ℕ) → Each key P list → i < length list → P (getD list i 0)
 each-get key P [] i e h = absurd (omega arith)
 each-get key P (x ∷ list) zero e h = e .0
@@ -191,7 +187,7 @@ module _ {A : Type 0} (none : A) (key : A → ℕ) (near : A → A → Bool) (ra
   unfolding places
   place-within i h =
       each-get rowAt (λ (p : ℕ). p < length raw) inOrder i
-      (each-ordered rowAt (λ (p : ℕ). p < length raw) (placesFrom 0 (length raw)) (each-places (length raw) 0 (length raw) (omega arith))) (omega (arith, order-length))
+      (each-ordered rowAt (λ (p : ℕ). p < length raw) (placesFrom 0 (length raw)) (each-places rowAt (length raw) 0 (length raw) (omega arith))) (omega (arith, order-length))
 
   later-entries : (p : ℕ) → map entryAt (placesFrom (suc p) (length raw - suc p)) ≡ drop (p + 1) raw
   unfolding places

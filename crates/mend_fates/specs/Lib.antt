@@ -1,4 +1,3 @@
 pub mod Mending
 pub mod MendedLists
-pub mod RowOrder
 pub mod inside

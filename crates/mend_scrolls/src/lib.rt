@@ -53,7 +53,7 @@ fn walk(
     requires { ⌜ WorkFor (length beats.now) numbers.now fates.now kept.now ⌝ }
     ensures { λ r. ⌜ WalkedBeats nan nearTo beats.entry.now values.entry.now r fates.exit.now kept.exit.now ⌝ }
 {
-    mend_fates::sort_places(beats, numbers);
+    tidy_rows_sort::sort_places(beats, numbers);
     let mut count: usize = 0;
     let mut i = 0;
     while i < numbers.len() {

@@ -88,7 +88,7 @@ fn walk(
         let values = speedValues ratios.entry.now delays.entry.now units.entry.now in
         ⌜ WalkedBeats noSpeed nearSpeed beats.entry.now values r fates.exit.now kept.exit.now ⌝ }
 {
-    mend_fates::sort_places(beats, numbers);
+    tidy_rows_sort::sort_places(beats, numbers);
     let mut count: usize = 0;
     let mut i = 0;
     while i < numbers.len() {

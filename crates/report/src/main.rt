@@ -49,6 +49,7 @@ fn write_input(page: &mut [u8]) -> usize
         &mut scroll_values,
         &mut fake_beats,
         &mut fake_lengths,
+        usize::MAX,
     );
     report_whole::write_report(
         page,

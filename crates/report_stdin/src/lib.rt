@@ -47,8 +47,23 @@ fn answered(got: isize, reading: Reading) -> Piece
     }
 }
 
-// All of standard input, fed from the first byte on, and a byte that no form has where a read failed. A proved loop has to end, and nothing
-// says that the input does: the turns are counted down from a number that no run uses up.
+// A piece of the input, of no more bytes than are left: what the read answered.
+fn read_piece(piece: &mut [u8], left: usize) -> isize {
+    if left < piece.len() {
+        return libc::read(STDIN_FILENO, &mut piece[..left]);
+    }
+    libc::read(STDIN_FILENO, piece)
+}
+
+fn less(left: usize, count: usize) -> usize {
+    if count < left {
+        return left - count;
+    }
+    0
+}
+
+// All of standard input, or as many bytes of it as `most`, fed from the first on, and a byte that no form has where a read failed. A proved loop
+// has to end, and nothing says that the input does: the turns are counted down from a number that no run uses up.
 pub fn read_all(
     counts: &mut [u64],
     tempo_beats: &mut [f64],
@@ -67,6 +82,7 @@ pub fn read_all(
     scroll_values: &mut [f64],
     fake_beats: &mut [f64],
     fake_lengths: &mut [f64],
+    most: usize,
 ) -> Reading
     ensures { λ r.
         let lists : LentChart = record {
@@ -81,10 +97,11 @@ pub fn read_all(
         ⌜ Fed start r counts.entry.now counts.exit.now (before lists) (after lists) ⌝ }
 {
     let mut reading = report_form::begin();
+    let mut left = most;
     let mut turns = u64::MAX;
     while turns > 0 {
         let mut piece = [0u8; PIECE];
-        let got = libc::read(STDIN_FILENO, &mut piece);
+        let got = read_piece(&mut piece, left);
         let count = io::count(got, &piece);
         let fed = report_feed::feed(
             reading,
@@ -112,6 +129,7 @@ pub fn read_all(
         if !after.more {
             return reading;
         }
+        left = less(left, count);
         turns -= 1;
     }
     cut_short(reading)

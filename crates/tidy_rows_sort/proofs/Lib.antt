@@ -1,1 +1,2 @@
+pub mod PlacesInOrder
 pub mod SortedWay

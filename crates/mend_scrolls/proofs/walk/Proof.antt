@@ -5,7 +5,7 @@ use native.Mathlib.Omega.{arith}
 use lib.ListN.{length}
 use lib.Ieee.{nan}
 use Rattle.tidy_kept.specs.Near.{nearTo}
-use Rattle.mend_fates.specs.RowOrder.{placesByRow}
+use Rattle.tidy_rows_sort.specs.RowOrder.{placesByRow}
 use Rattle.mend_fates.proofs.BeatsWalked.{Walking, kept-long, work-sorted, walking-begins, as-many, walking-turns, walking-ends}
 use borrow.Author.Needs.{needs}
 use Rattle.mend_scrolls.proofs.walk.Statement.{statement}

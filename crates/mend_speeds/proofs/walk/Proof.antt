@@ -5,7 +5,7 @@ use Prim.Native.Nat.{_-_}
 use native.Mathlib.Omega.{arith}
 use lib.ListN.{length}
 use Rattle.tidy_speeds_entries.specs.Speed.{SpeedValue, nearSpeed, noSpeed, speedValues}
-use Rattle.mend_fates.specs.RowOrder.{placesByRow}
+use Rattle.tidy_rows_sort.specs.RowOrder.{placesByRow}
 use Rattle.mend_fates.proofs.BeatsWalked.{Walking, kept-long, work-sorted, walking-begins, as-many, walking-turns, walking-ends}
 use Rattle.mend_speeds.proofs.SpeedAtPlace.{values-long}
 use borrow.Author.Needs.{needs}

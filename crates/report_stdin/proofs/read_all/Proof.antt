@@ -13,7 +13,7 @@ use Rattle.report_stdin.proofs.read_all.Statement.{statement}
 use Rattle.report_stdin.proofs.read_all.Tie as tie
 
 abbrev Inv-loop : tie.InvT-loop
-Inv-loop counts₀ tempo-beats₀ tempo-values₀ stop-beats₀ stop-values₀ delay-beats₀ delay-values₀ warp-beats₀ warp-lengths₀ speed-beats₀ speed-ratios₀ speed-delays₀ speed-units₀ scroll-beats₀ scroll-values₀ fake-beats₀ fake-lengths₀ reading₀ turns₀ counts tempo-beats tempo-values stop-beats stop-values delay-beats delay-values warp-beats warp-lengths speed-beats speed-ratios speed-delays speed-units scroll-beats scroll-values fake-beats fake-lengths reading turns =
+Inv-loop counts₀ tempo-beats₀ tempo-values₀ stop-beats₀ stop-values₀ delay-beats₀ delay-values₀ warp-beats₀ warp-lengths₀ speed-beats₀ speed-ratios₀ speed-delays₀ speed-units₀ scroll-beats₀ scroll-values₀ fake-beats₀ fake-lengths₀ most reading₀ left₀ turns₀ counts tempo-beats tempo-values stop-beats stop-values delay-beats delay-values warp-beats warp-lengths speed-beats speed-ratios speed-delays speed-units scroll-beats scroll-values fake-beats fake-lengths reading left turns =
     (length counts ≡ length counts₀)
     × (length tempo-beats ≡ length tempo-beats₀)
     × (length tempo-values ≡ length tempo-values₀)
@@ -36,7 +36,7 @@ Inv-loop counts₀ tempo-beats₀ tempo-values₀ stop-beats₀ stop-values₀ d
     (chartColumns (listColumns tempo-beats tempo-values) (listColumns stop-beats stop-values) (listColumns delay-beats delay-values) (listColumns warp-beats warp-lengths) (speedColumns speed-beats speed-ratios speed-delays speed-units) (listColumns scroll-beats scroll-values) (listColumns fake-beats fake-lengths))
 
 abbrev μ-loop : tie.MeasureT-loop
-μ-loop counts₀ tempo-beats₀ tempo-values₀ stop-beats₀ stop-values₀ delay-beats₀ delay-values₀ warp-beats₀ warp-lengths₀ speed-beats₀ speed-ratios₀ speed-delays₀ speed-units₀ scroll-beats₀ scroll-values₀ fake-beats₀ fake-lengths₀ reading₀ turns₀ counts tempo-beats tempo-values stop-beats stop-values delay-beats delay-values warp-beats warp-lengths speed-beats speed-ratios speed-delays speed-units scroll-beats scroll-values fake-beats fake-lengths reading turns = turns
+μ-loop counts₀ tempo-beats₀ tempo-values₀ stop-beats₀ stop-values₀ delay-beats₀ delay-values₀ warp-beats₀ warp-lengths₀ speed-beats₀ speed-ratios₀ speed-delays₀ speed-units₀ scroll-beats₀ scroll-values₀ fake-beats₀ fake-lengths₀ most reading₀ left₀ turns₀ counts tempo-beats tempo-values stop-beats stop-values delay-beats delay-values warp-beats warp-lengths speed-beats speed-ratios speed-delays speed-units scroll-beats scroll-values fake-beats fake-lengths reading left turns = turns
 
 loop-holds : tie.Need-loop-holds Inv-loop μ-loop
 loop-holds c = (refl, refl, refl, refl, refl, refl, refl, refl, refl, refl, refl, refl, refl, refl, refl, refl, refl, fed-none (c .begin .ensures))
@@ -63,7 +63,7 @@ piece-fed : (c : tie.After-answered Inv-loop μ-loop) →
 piece-fed c =
     let feeding = fed-of c in
     let fed = feeding .feed .ensures in
-    fed-answered (toZ w64 (ofZ w64 (feeding .before .before .before .before .before .before .before .before .before .before .before .before .before .before .before .before .before .before .before .before .before .before .read .result)))
+    fed-answered (toZ w64 (ofZ w64 (feeding .before .before .before .before .before .before .before .before .before .before .before .before .before .before .before .before .before .before .before .before .before .before .read-piece .result)))
     (record {
       bytes = _;
       read = fed .0;
@@ -88,11 +88,11 @@ piece-fed c =
     (c .answered .ensures .1)
 
 sub-turns : tie.Need-sub-turns Inv-loop μ-loop
-sub-turns c = let positive = c .before .before .before .before .before .before .before .before .before .before .before .before .before .before .before .before .before .before .before .before .before .before .before .before .before .before .before .before .before .before .before .before .before .before .before .before .before .before .before .before .before .before .before .before .before .before .before .before .before .before .before .before .before .before .before .before .before .before .before .before .before .before .loop-test .taken in search needs
+sub-turns c = let positive = c .before .before .before .before .before .before .before .before .before .before .before .before .before .before .before .before .before .before .before .before .before .before .before .before .before .before .before .before .before .before .before .before .before .before .before .before .before .before .before .before .before .before .before .before .before .before .before .before .before .before .before .before .before .before .before .before .before .before .before .before .before .before .before .loop-test .taken in search needs
 
 loop-again : tie.Need-loop-again Inv-loop μ-loop
 loop-again c =
-    let feeding = fed-of (c .before .before .before) in
+    let feeding = fed-of (c .before .before .before .before) in
     let at = begun feeding in (
       feeding .feed .kept .1 .1 .0 ∙ at .loop .inv .0,
       feeding .feed .kept .1 .1 .1 .0 ∙ at .loop .inv .1,
@@ -111,7 +111,7 @@ loop-again c =
       feeding .feed .kept .1 .1 .1 .1 .1 .1 .1 .1 .1 .1 .1 .1 .1 .1 .1 .1 .0 ∙ at .loop .inv .14,
       feeding .feed .kept .1 .1 .1 .1 .1 .1 .1 .1 .1 .1 .1 .1 .1 .1 .1 .1 .1 .0 ∙ at .loop .inv .15,
       feeding .feed .kept .1 .1 .1 .1 .1 .1 .1 .1 .1 .1 .1 .1 .1 .1 .1 .1 .1 .1 .0 ∙ at .loop .inv .16,
-      fed-join (at .loop .inv .17) (piece-fed (c .before .before .before)),
+      fed-join (at .loop .inv .17) (piece-fed (c .before .before .before .before)),
     )
 
 pub read-all-spec : {M : Type 1} → statement M
@@ -148,8 +148,9 @@ read-all-spec =
     (λ c. let feeding = fed-of (c .before .before .before) in feeding .feed .kept .1 .1 .1 .1 .1 .1 .1 .1 .1 .1 .1 .1 .1 .1 .1 .1 .1 .0 ∙ begun feeding .loop .inv .15)
     (λ c. let feeding = fed-of (c .before .before .before) in feeding .feed .kept .1 .1 .1 .1 .1 .1 .1 .1 .1 .1 .1 .1 .1 .1 .1 .1 .1 .1 .0 ∙ begun feeding .loop .inv .16)
     (λ c. fed-join (begun (fed-of (c .before .before .before)) .loop .inv .17) (piece-fed (c .before .before .before)))
+    (λ c κs. search needs)
     sub-turns
-    (λ c. omega (arith, c .before .before .before .before .before .before .before .before .before .before .before .before .before .before .before .before .before .before .before .before .before .before .before .before .before .before .before .before .before .before .before .before .before .before .before .before .before .before .before .before .before .before .before .before .before .before .before .before .before .before .before .before .before .before .before .before .before .before .before .before .before .before .loop-test .taken))
+    (λ c. omega (arith, c .before .before .before .before .before .before .before .before .before .before .before .before .before .before .before .before .before .before .before .before .before .before .before .before .before .before .before .before .before .before .before .before .before .before .before .before .before .before .before .before .before .before .before .before .before .before .before .before .before .before .before .before .before .before .before .before .before .before .before .before .before .before .before .loop-test .taken))
     loop-again
     (λ c κs. search needs)
     (λ c. c .before .before .loop .inv .0)

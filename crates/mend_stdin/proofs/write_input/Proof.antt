@@ -1,10 +1,10 @@
--- `mend::write_input` meets its contract: what was read is fed, and the answer to what it left is written. Assumes nothing.
+-- `mend_stdin::write_input` meets its contract: what was read is fed, and the answer to what it left is written. Assumes nothing.
 use mathlib.Core.Path.{sym}
 use lib.Ieee.{ofBits}
 use Rattle.mend_text.proofs.ReadText.{read-text, told-as}
 use borrow.Author.Needs.{needs}
-use Rattle.mend.proofs.write_input.Statement.{statement}
-use Rattle.mend.proofs.write_input.Tie as tie
+use Rattle.mend_stdin.proofs.write_input.Statement.{statement}
+use Rattle.mend_stdin.proofs.write_input.Tie as tie
 
 returns : tie.Need-returns
 unfolding ofBits

@@ -1,16 +1,16 @@
--- `replay_reports::replay_all` counts without overflow and ends. Assumes nothing.
+-- `replay_cases::replay_all` counts without overflow and ends. Assumes nothing.
 use Prim.Native.Nat.{_≤_, _-_}
 use mathlib.Core.Logic.{⊎-elim}
 use native.Mathlib.Omega.{arith}
 use borrow.Author.Needs.{needs}
-use Rattle.replay_reports.proofs.replay_all.Statement.{statement}
-use Rattle.replay_reports.proofs.replay_all.Tie as tie
+use Rattle.replay_cases.proofs.replay_all.Statement.{statement}
+use Rattle.replay_cases.proofs.replay_all.Tie as tie
 
 abbrev Inv-loop : tie.InvT-loop
-Inv-loop reports₀ different₀ reports different = (different ≤ reports) × (reports ≤ 1000000)
+Inv-loop program answers₀ different₀ answers different = (different ≤ answers) × (answers ≤ 1000000)
 
 abbrev μ-loop : tie.MeasureT-loop
-μ-loop reports₀ different₀ reports different = 1000000 - reports
+μ-loop program answers₀ different₀ answers different = 1000000 - answers
 
 loop-holds : tie.Need-loop-holds Inv-loop μ-loop
 loop-holds c = search needs
@@ -27,8 +27,8 @@ replay-requires c κs = search needs
 add-different : tie.Need-add-different Inv-loop μ-loop
 add-different c = search needs
 
-add-reports : tie.Need-add-reports Inv-loop μ-loop
-add-reports c = search needs
+add-answers : tie.Need-add-answers Inv-loop μ-loop
+add-answers c = search needs
 
 loop-less : tie.Need-loop-less Inv-loop μ-loop
 loop-less c = omega arith
@@ -50,7 +50,7 @@ replay-all-spec =
     returns
     replay-requires
     add-different
-    add-reports
+    add-answers
     loop-less
     loop-again
     returns-2)

@@ -1,10 +1,10 @@
--- `replay_reports::read_text` writes within its text. Assumes nothing.
+-- `replay_cases::read_text` writes within its text. Assumes nothing.
 use mathlib.Core.Path.{sym}
 use native.Mathlib.Omega.{arith}
 use lib.Seq.{length-take-le}
 use borrow.Author.Needs.{needs}
-use Rattle.replay_reports.proofs.read_text.Statement.{statement}
-use Rattle.replay_reports.proofs.read_text.Tie as tie
+use Rattle.replay_cases.proofs.read_text.Statement.{statement}
+use Rattle.replay_cases.proofs.read_text.Tie as tie
 
 returns : tie.Need-returns
 returns c = search needs

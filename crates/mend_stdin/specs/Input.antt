@@ -1,4 +1,4 @@
--- What the program leaves on its page. Definitions only.
+-- What is left on the page. Definitions only.
 use Prim.Native.Nat.{ℕ}
 use mathlib.Core.List.{List}
 use Rattle.mend_text.specs.MendedText.{mendOf, MendTold}
