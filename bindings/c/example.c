@@ -241,9 +241,22 @@ int main(void) {
 
     /* rows of the lists, one part behind another */
     int32_t store[8];
-    marrighentu_stored stored = marrighentu_build_segment_row_storage(LOOKUP_COLUMNS(t), store, 8);
+    const uint8_t written[] = {MARRIGHENTU_WRITTEN};
+    uint8_t row_marks[] = {9, 9};
+    marrighentu_stored stored = marrighentu_build_segment_row_storage(LOOKUP_COLUMNS(t), written, 1, store, 8, row_marks, 2);
     expect(stored.number == MARRIGHENTU_TAKEN && stored.stops == 1 && stored.delays == 0 && stored.warps == 1 && stored.fakes == 1, "the row store");
     expect(store[0] == 16 * 48 && store[1] == 4 * 48 && store[2] == 20 * 48, "the rows of the row store");
+    expect(row_marks[0] == MARRIGHENTU_WRITTEN && row_marks[1] == 9, "the mark of the warp's row");
+
+    /* warps by their rows, each with its mark: of two on one row the last */
+    const double marked_beats[] = {4, 0, 4}, marked_lengths[] = {1, 1, 2};
+    const uint8_t marks[] = {MARRIGHENTU_WRITTEN, MARRIGHENTU_WRITTEN, MARRIGHENTU_MADE};
+    double tidy_beats[3], tidy_lengths[3];
+    uint8_t tidy_marks[3];
+    marrighentu_outcome tidied = marrighentu_tidy_warp_segments(
+        marked_beats, 3, marked_lengths, 3, marks, 3, tidy_beats, 3, tidy_lengths, 3, tidy_marks, 3);
+    expect(tidied.number == MARRIGHENTU_TAKEN && tidied.count == 2, "two rows with a warp");
+    expect(tidy_beats[0] == 0 && tidy_marks[0] == MARRIGHENTU_WRITTEN && tidy_beats[1] == 4 && tidy_lengths[1] == 2 && tidy_marks[1] == MARRIGHENTU_MADE, "each with its mark");
 
     /* the same timing as stops of an SM file */
     const float flat[] = {16.0f, 1.0f};

@@ -340,6 +340,20 @@ marrighentu_outcome marrighentu_tidy_row_segments(
     double *out_beats, size_t out_beats_length,
     double *out_values, size_t out_values_length);
 
+/* Where a warp came from: it was written, or SM processing made it. */
+#define MARRIGHENTU_WRITTEN 0
+#define MARRIGHENTU_MADE 1
+
+/* Warps by their rows, as marrighentu_tidy_row_segments has entries: each row with the length and the mark of the warp that came last. Refused with the lowest number
+ * that the list or its marks answer: 1 for more than 1,024 marks, 2 for another number of them than beats, 4 for a mark that is none; 7 counts all three rooms. */
+marrighentu_outcome marrighentu_tidy_warp_segments(
+    const double *beats, size_t beats_length,
+    const double *lengths, size_t lengths_length,
+    const uint8_t *marks, size_t marks_length,
+    double *out_beats, size_t out_beats_length,
+    double *out_lengths, size_t out_lengths_length,
+    uint8_t *out_marks, size_t out_marks_length);
+
 /* Changes of tempo: by beat, the last of equal beats, the first at beat 0, none that changes nothing; a tempo of 60 at 0 for none. */
 marrighentu_outcome marrighentu_tidy_bpms(
     const double *beats, size_t beats_length,
@@ -924,7 +938,9 @@ marrighentu_outcome marrighentu_judgable_rows(
     const int32_t *rows, size_t rows_length,
     uint8_t *out, size_t out_length);
 
-/* The rows of positive stops, positive delays, warps and fakes, one part behind another, each rising. */
+/* The rows of positive stops, positive delays, warps and fakes, one part behind another, each rising; and in a room of its own the mark of each row of the
+ * warps' part. warp_marks has one mark for each warp, MARRIGHENTU_WRITTEN or MARRIGHENTU_MADE. Rows of warps that repeat stay, in the order given, each with its
+ * mark. The marks are tested with the lists, and MARRIGHENTU_NO_ROOM counts their room too. */
 marrighentu_stored marrighentu_build_segment_row_storage(
     const float *stop_beats, size_t stop_beats_length,
     const float *stop_values, size_t stop_values_length,
@@ -934,7 +950,9 @@ marrighentu_stored marrighentu_build_segment_row_storage(
     const float *warp_lengths, size_t warp_lengths_length,
     const float *fake_beats, size_t fake_beats_length,
     const float *fake_lengths, size_t fake_lengths_length,
-    int32_t *rows, size_t rows_length);
+    const uint8_t *warp_marks, size_t warp_marks_length,
+    int32_t *rows, size_t rows_length,
+    uint8_t *row_marks, size_t row_marks_length);
 
 /* How many rows warps pass over, each row once: the different rows r with start row <= r < start row + length in rows for some warp of a length above 0. Rows are
  * those of the beats and lengths at double, the start and the length each held at the ends of int32_t, the end itself not; so a warp without an end counts

@@ -331,7 +331,9 @@ calls! {
         list delays: f32,
         list warps: f32,
         list fakes: f32,
+        slice warp_marks: u8,
         room rows: i32,
+        room row_marks: u8,
     ) -> Stored = "marrighentu_build_segment_row_storage";
     fn check_lookups(list stops: f32, list delays: f32, list warps: f32, list fakes: f32) -> u32 = "marrighentu_check_lookups";
     fn warped_rows(list warps: f32) -> u64 = "marrighentu_warped_rows";

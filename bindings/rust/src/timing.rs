@@ -518,7 +518,17 @@ impl Timing {
     pub fn row_store(&self) -> Result<RowStore, Refusal> {
         let room = self.stops.len() + self.delays.len() + self.warps.len() + self.fakes.len();
         let mut rows = vec![0; room];
-        let stored = ffi::build_segment_row_storage(&self.stops, &self.delays, &self.warps, &self.fakes, &mut rows);
+        // a timing does not keep marks, so none are handed up
+        let (marks, mut row_marks) = (vec![0; self.warps.len()], vec![0; self.warps.len()]);
+        let stored = ffi::build_segment_row_storage(
+            &self.stops,
+            &self.delays,
+            &self.warps,
+            &self.fakes,
+            &marks,
+            &mut rows,
+            &mut row_marks,
+        );
         taken(stored.number, ())?;
         let mut end = 0;
         let ends = [stored.stops, stored.delays, stored.warps, stored.fakes].map(|count| {
