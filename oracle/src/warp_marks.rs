@@ -1,5 +1,6 @@
 //! Marks of warps, which the original has not: a plain reading of where each warp came from, and its comparison with the port's calls that carry them.
 
+pub use crate::assembly::marks_number;
 use crate::cases::{Work, power};
 use crate::clock::Found;
 use crate::lists;
@@ -14,19 +15,6 @@ use std::collections::BTreeMap;
 
 /// A beat, a length, and the mark: 0 written, 1 made.
 pub type Warp = (f64, f64, u8);
-
-/// What a column of marks answers beside so many beats.
-pub fn marks_number(beats: usize, marks: &[u8]) -> u32 {
-    if marks.len() > 1_024 {
-        1
-    } else if marks.len() != beats {
-        2
-    } else if marks.iter().any(|mark| *mark > 1) {
-        4
-    } else {
-        0
-    }
-}
 
 /// The lowest of some numbers, where 0 is no refusal.
 pub fn lowest<const N: usize>(numbers: [u32; N]) -> u32 {

@@ -28,3 +28,8 @@ module _ (beats lengths : List Float) (marks : List ℕ) (even : length lengths 
   pub marks-carried : map warpMark (assembledMarked beats lengths marks) ≡ assembledMarks beats marks
   unfolding assembledMarked
   marks-carried = map-map warpMark narrowedWarp tidy ∙ tidied.marks-carried (map quantized beats) (map quantized lengths) marks even-after
+
+  pub as-many-marks : length (assembledMarks beats marks) ≡ length (assembledRows (changeBy Lengths) beats lengths)
+  as-many-marks =
+      sym (ap length marks-carried) ∙ length-map (assembledMarked beats lengths marks) warpMark
+      ∙ sym (length-map (assembledMarked beats lengths marks) withoutMark) ∙ ap length without-marks

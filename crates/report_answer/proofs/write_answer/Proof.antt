@@ -22,10 +22,10 @@ taken-returns c =
     (wrote-join (c .before .before .before .before .before .before .before .before .before .before .before .before .before .before .before .before .before .before .before .before .before .before .before .before .before .before .before .before .before .before .before .before .before .before .before .before .before .before .before .put-pairs .ensures)
     (wrote-join (c .before .before .before .before .before .before .before .before .before .before .before .before .before .before .before .before .before .before .before .before .before .before .before .before .before .before .before .before .before .before .before .before .before .before .put-pairs2 .ensures)
     (wrote-join (c .before .before .before .before .before .before .before .before .before .before .before .before .before .before .before .before .before .before .before .before .before .before .before .before .before .before .before .before .before .put-pairs3 .ensures)
-    (wrote-join (c .before .before .before .before .before .before .before .before .before .before .before .before .before .before .before .before .before .before .before .before .before .before .before .before .put-pairs4 .ensures)
+    (wrote-join (c .before .before .before .before .before .before .before .before .before .before .before .before .before .before .before .before .before .before .before .before .before .before .before .before .put-warps .ensures)
     (wrote-join (c .before .before .before .before .before .before .before .before .before .before .before .before .before .before .before .before .before .before .before .before .put-speeds .ensures)
-    (wrote-join (c .before .before .before .before .before .before .before .before .before .before .before .before .before .before .before .put-pairs5 .ensures)
-    (wrote-join (c .before .before .before .before .before .before .before .before .before .before .put-pairs6 .ensures)
+    (wrote-join (c .before .before .before .before .before .before .before .before .before .before .before .before .before .before .before .put-pairs4 .ensures)
+    (wrote-join (c .before .before .before .before .before .before .before .before .before .before .put-pairs5 .ensures)
     (wrote-join (c .before .before .before .before .before .before .put-warped .ensures)
     (c .before .before .put-moved .ensures))))))))) in
     let wrote = wrote-join (c .before .before .before .before .before .before .before .before .before .before .before .before .before .before .before .before .before .before .before .before .before .before .before .before .before .before .before .before .before .before .before .before .before .before .before .before .before .before .before .before .before .before .before .before .before .before .before .before .before .put-answer .ensures) (wrote-as (taken-lists _ _ (c .before .before .before .before .before .before .before .before .before .before .before .before .before .before .before .before .before .before .before .before .before .before .before .before .before .before .before .before .before .before .before .before .before .before .before .before .before .before .before .before .before .before .before .before .before .before .if1 .left)) lists) in
