@@ -3,7 +3,7 @@
 use Prim.Native.Nat.{ℕ, zero, suc, _+_, _≤_}
 use mathlib.Core.Path.{_≡_, refl, sym, ap, _∙_}
 use mathlib.Core.Bool.{true}
-use mathlib.Core.List.{List, map}
+use mathlib.Core.List.{List, map, append-nil}
 use native.Mathlib.Omega.{arith}
 use lib.ListN.{length, take, replicate, length-map}
 use lib.Seq.{length-take-le}
@@ -33,10 +33,14 @@ use Rattle.assembly_marks.proofs.CarriedMarks.{as-many-marks}
 use Rattle.assembly_marks.proofs.MergedMarks.{merged-length}
 use Rattle.assembly_marks.proofs.SameMarks.{same-front}
 use Rattle.process_raw.specs.LentLists.{ThreeColumns}
-use Rattle.assembly_tempos.specs.AssembledTempos.{assembledWarps}
+use Rattle.assembly_tempos.specs.AssembledTempos.{assembledWarps, fitNumber}
 use Rattle.assembly_tempos.specs.inside.ProcessedColumns.{Processed, MarksBeside, MarksFit, listsOf}
-use Rattle.assembly_tempos.proofs.ProcessedColumns.{warps-are}
+use Rattle.assembly_tempos.proofs.ProcessedColumns.{fitting, warps-are}
 use Rattle.assembly_tempos.proofs.WorkColumns.{every-append}
+
+-- where none is made
+pub none-made : (marks : List ℕ) (made : ℕ) → made ≡ 0 → mergedMarks marks made ≡ marks
+none-made marks made h = rw h (append-nil marks)
 
 -- ---- marks that fit are laid
 module _ (beats : List Float) (marks old : List ℕ) (count : ℕ) (fit : MarksFit beats marks count (length old)) where
@@ -81,20 +85,22 @@ module _ (columns : ThreeColumns) (offset : Float) (p : Processed columns) (few 
   even : length beats ≡ length (mergedMarks marks made)
   even = sym (beside .asMany) ∙ sym (merged-length marks made)
 
-  pub marks-fit : (count room : ℕ) → count ≡ length (assembledWarps (listsOf columns offset)) → count ≤ room → MarksFit beats (mergedMarks marks made) count room
-  marks-fit count room counted fits = record {
+  pub marks-fit : {count room : ℕ} (least : ℕ) → count ≡ length (given 0 (assembledWarps (listsOf columns offset))) → fitNumber (assembledWarps (listsOf columns offset)) least ≡ 0
+      → least ≤ room → MarksFit beats (mergedMarks marks made) count room
+  unfolding given
+  marks-fit {count} {room} least counted fit longer = record {
     taken = marked-passes (map quantized beats) (mergedMarks marks made)
-    (record {
-      few = omega (arith, length-map beats quantized, few);
-      even = length-map beats quantized ∙ even;
-      beatsIn = quantized-beats-taken beats (list-taken (p .warps few) .beatsIn);
-      marksIn = every-append isMark marks (replicate made 1) (beside .areMarks) (ones made);
-    });
+        (record {
+          few = omega (arith, length-map beats quantized, few);
+          even = length-map beats quantized ∙ even;
+          beatsIn = quantized-beats-taken beats (list-taken (p .warps few) .beatsIn);
+          marksIn = every-append isMark marks (replicate made 1) (beside .areMarks) (ones made);
+        });
     counted = counted ∙ ap length (warps-are columns offset p) ∙ sym (as-many-marks beats (columns .warps .values) (mergedMarks marks made) (sym (p .even) ∙ even));
-    fits = fits;
+    fits = omega (arith, counted, fitting _ least fit);
   }
 
   -- over the warps as a list
-  pub of-list : {new old : List ℕ} → new ≡ laid (assembledMarks beats (mergedMarks marks made)) old
+  pub of-list : {new : List ℕ} (old : List ℕ) → new ≡ laid (assembledMarks beats (mergedMarks marks made)) old
       → new ≡ laid (assembledMarks (map first (listsOf columns offset .warps)) (mergedMarks marks made)) old
-  of-list {old = old} e = e ∙ ap (λ (l : List Float). laid (assembledMarks l (mergedMarks marks made)) old) (sym (first-entries beats (columns .warps .values) (p .even)))
+  of-list old e = e ∙ ap (λ (l : List Float). laid (assembledMarks l (mergedMarks marks made)) old) (sym (first-entries beats (columns .warps .values) (p .even)))

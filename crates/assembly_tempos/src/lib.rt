@@ -349,7 +349,10 @@ fn assemble_in(
         work_warp_lengths,
     );
     let lists = limits::lower_of(processed.number, other);
-    let number = limits::lower_of(lists, tidy_warps::marks_number(warp_beats.len(), warp_marks));
+    let number = limits::lower_of(
+        lists,
+        tidy_warps::marks_number(warp_beats.len(), warp_marks),
+    );
     if number != limits::TAKEN {
         return refused(number);
     }
