@@ -8,7 +8,7 @@ use lib.Ieee.{Float, toBits, binary32}
 use Rattle.ieee_patterns.specs.Hex.{hexText}
 use Rattle.chart.specs.ChartColumns.{ChartColumns}
 use Rattle.report_form.specs.Text.{bpm, stop, delay, scroll, fake}
-use Rattle.text_page.specs.Digits.{decimalText}
+use Rattle.text_page.specs.Digits.{decimalDigits, decimalText}
 use Rattle.text_page.proofs.DigitSizes.{decimal-size}
 use Rattle.report_text.specs.Output.{number, answerLine, offsetLine, named, pairLine, pairLines, speedLine, speedLines, warpLine, warpLines, warpedLine, movedLine, listsText}
 
@@ -40,8 +40,8 @@ answer-size n = omega (arith, line-size (97 ∷ 110 ∷ 115 ∷ 119 ∷ 101 ∷ 
 
 -- of a chart that is taken it says answer=0
 pub taken-answer-size : length (answerLine 0) ≡ 9
-unfolding answerLine
-taken-answer-size = line-size (97 ∷ 110 ∷ 115 ∷ 119 ∷ 101 ∷ 114 ∷ 61 ∷ []) (decimalText 0) ∙ unfold decimalText in refl
+unfolding answerLine decimalDigits
+taken-answer-size = refl
 
 offset-size : (offset : Float) → length (offsetLine offset) ≡ 16
 unfolding offsetLine
