@@ -67,9 +67,9 @@ none-refused raw warps most later h = go (eqb raw 0) (leb warps (min most 1024))
     go false u a b k = let z : _≡_ {A = Bool} true false = sym (eq-eqb raw 0 k) ∙ a in let w : _≡_ {A = ℕ} 0 1 = cc in absurd (omega arith)
 
 -- what comes later counts only where the raw lists are taken
-pub same-later : {raw later later′ most : ℕ} {lists : ThreeLists} {marks : MarkColumns} {outcome : AssembledTempos} {old new : ThreeColumns} → (raw ≡ 0 → later ≡ later′)
-    → ThreeLaid raw later most lists marks outcome old new
-    → ThreeLaid raw later′ most lists marks outcome old new
+pub same-later : {raw later later′ most : ℕ} {lists : ThreeLists} {marks : MarkColumns} {outcome : AssembledTempos} {old new : ThreeColumns} {left : List ℕ} → (raw ≡ 0 → later ≡ later′)
+    → ThreeLaid raw later most lists marks outcome old new left
+    → ThreeLaid raw later′ most lists marks outcome old new left
 unfolding verdict
 same-later {raw} {later} {later′} {most} {lists} {marks} {outcome} {old} h p = record {
   number = p .number ∙ go (eqb raw 0) (eqb-true raw 0);
@@ -82,8 +82,8 @@ same-later {raw} {later} {later′} {most} {lists} {marks} {outcome} {old} h p =
 }
   where
     go : (t : Bool) → (t ≡ true → raw ≡ 0)
-        → pick t (pick (leb (length (lists .warps)) (min most 1024)) (lower later (roomsNumber lists old (length (marks .old)))) 1) raw
-        ≡ pick t (pick (leb (length (lists .warps)) (min most 1024)) (lower later′ (roomsNumber lists old (length (marks .old)))) 1) raw
+        → pick t (pick (leb (length (lists .warps)) (min most 1024)) (lower later (roomsNumber lists old (length (marks .room)))) 1) raw
+        ≡ pick t (pick (leb (length (lists .warps)) (min most 1024)) (lower later′ (roomsNumber lists old (length (marks .room)))) 1) raw
     go true e = rw (h (e refl))
     go false e = refl
 
@@ -155,15 +155,15 @@ rows-laid meaning beats values taken fit q = list-of-pair (rows-pair meaning bea
 
 -- ---- what tempos, stops and warps answer is the number of all
 
-module _ (three other′ marked later′ : ℕ) {other later most : ℕ} {lists : ThreeLists} {marks : MarkColumns} {outcome : AssembledTempos} {old new : ThreeColumns} where
+module _ (three other′ marked later′ : ℕ) {other later most : ℕ} {lists : ThreeLists} {marks : MarkColumns} {outcome : AssembledTempos} {old new : ThreeColumns} {left : List ℕ} where
   pub as-asked : other ≡ other′ → (other′ ≡ 0 → later ≡ later′)
-      → ThreeLaid (lower (lower three other) marked) later most lists marks outcome old new
-      → ThreeLaid (lower (lower three other′) marked) later′ most lists marks outcome old new
+      → ThreeLaid (lower (lower three other) marked) later most lists marks outcome old new left
+      → ThreeLaid (lower (lower three other′) marked) later′ most lists marks outcome old new left
   as-asked e h p = same-later (λ z. h (lower-none three other′ (lower-none (lower three other′) marked z .0) .1)) (rw e at p)
 
-module _ {raw later most : ℕ} {lists : ThreeLists} {marks : MarkColumns} {outcome : AssembledTempos} {old new : ThreeColumns}
-    (p : ThreeLaid raw later most lists marks outcome old new) (taken : outcome .number ≡ 0) where
-  pub taken-part : ThreeLaid raw later most lists marks (record { number = 0; tempos = outcome .tempos; stops = outcome .stops; warps = outcome .warps; offset = outcome .offset; moved = outcome .moved }) old new
+module _ {raw later most : ℕ} {lists : ThreeLists} {marks : MarkColumns} {outcome : AssembledTempos} {old new : ThreeColumns} {left : List ℕ}
+    (p : ThreeLaid raw later most lists marks outcome old new left) (taken : outcome .number ≡ 0) where
+  pub taken-part : ThreeLaid raw later most lists marks (record { number = 0; tempos = outcome .tempos; stops = outcome .stops; warps = outcome .warps; offset = outcome .offset; moved = outcome .moved }) old new left
   taken-part = record {
     number = sym taken ∙ p .number;
     temposLaid = rw taken at (p .temposLaid);
@@ -176,7 +176,7 @@ module _ {raw later most : ℕ} {lists : ThreeLists} {marks : MarkColumns} {outc
 
   pub all-passed : (raw ≡ 0) × (later ≡ 0)
   all-passed =
-      let rooms = roomsNumber lists old (length (marks .old)) in
+      let rooms = roomsNumber lists old (length (marks .room)) in
       let passed = none-refused raw (length (lists .warps)) most (lower later rooms) (sym (p .number) ∙ taken) in
       (passed .rawTaken, lower-none later rooms (passed .laterTaken) .0)
 
@@ -187,15 +187,15 @@ abbrev later : ChartColumns → ChartRoom → ℕ
 later raw room = othersLater (raw .delays) (raw .speeds) (raw .scrolls) (raw .fakes) (room .delays) (room .speeds) (room .scrolls) (room .fakes)
 
 -- what tempos, stops and warps leave, and what each other list does
-pub assembles : {most : ℕ} {format : TimingFormat} {raw : ChartColumns} {marks : MarkColumns} {outcome : Assembled} {old new : ChartColumns}
-    → ThreeLaid (sevenWithMarks raw (marks .given)) (later raw (roomOf old (length (marks .old)))) most (processedChart format raw)
-    (withMade (madeWarps format (processedTogether raw)) marks) (processedPart outcome) (processedTogether old) (processedTogether new)
+pub assembles : {most : ℕ} {format : TimingFormat} {raw : ChartColumns} {marks : MarkColumns} {outcome : Assembled} {old new : ChartColumns} {left : List ℕ}
+    → ThreeLaid (sevenWithMarks raw (marks .given)) (later raw (roomOf old (length (marks .room)))) most (processedChart format raw)
+    (withMade (madeWarps format (processedTogether raw)) marks) (processedPart outcome) (processedTogether old) (processedTogether new) left
     → ListWritten (outcome .number) (assembledDelays (raw .delays .beats) (raw .delays .values)) (outcome .delays) (old .delays) (new .delays)
     → SpeedsWritten (outcome .number) (assembledSpeeds (raw .speeds)) (outcome .speeds) (old .speeds) (new .speeds)
     → ListWritten (outcome .number) (assembledScrolls (raw .scrolls .beats) (raw .scrolls .values)) (outcome .scrolls) (old .scrolls) (new .scrolls)
     → ListWritten (outcome .number) (assembledFakes (raw .fakes .beats) (raw .fakes .values)) (outcome .fakes) (old .fakes) (new .fakes)
     → outcome .moved ≡ pick (eqb (outcome .number) 0) (movedBeats format raw) noneMoved
-    → Assembles most format raw marks outcome old new
+    → Assembles most format raw marks outcome old new left
 assembles three delays speeds scrolls fakes moved = record {
   numberIs = three .number;
   temposAre = three .temposLaid;

@@ -8,7 +8,7 @@ use Rattle.columns.proofs.OneOutcome.{one-list}
 use Rattle.chart.specs.declared.TimingFormat.{TimingFormat}
 use Rattle.chart.specs.ChartColumns.{SpeedColumns, ChartColumns}
 use Rattle.tidy_speeds_entries.specs.Speed.{SpeedEntry}
-use Rattle.assembly_marks.specs.LentMarks.{MarkColumns, markColumns}
+use Rattle.assembly_marks.specs.LentMarks.{MarkColumns}
 use Rattle.assembly.specs.declared.Assembled.{Assembled}
 use Rattle.assembly.specs.Assembly.{sevenWithMarks, SpeedsWritten, Assembles}
 
@@ -17,8 +17,8 @@ one-speeds : {number : ℕ} {result : List SpeedEntry} {countA countB : ℕ} {ol
 one-speeds x y = (cc, cc, cc, cc, cc)
 
 -- the marks decide of everything else only the number
-same-but-marks : {most : ℕ} {format : TimingFormat} {raw old newA newB : ChartColumns} {a b : Assembled} {marksA marksB : MarkColumns} → a .number ≡ b .number
-    → Assembles most format raw marksA a old newA → Assembles most format raw marksB b old newB
+same-but-marks : {most : ℕ} {format : TimingFormat} {raw old newA newB : ChartColumns} {a b : Assembled} {marksA marksB : MarkColumns} {leftA leftB : List ℕ} → a .number ≡ b .number
+    → Assembles most format raw marksA a old newA leftA → Assembles most format raw marksB b old newB leftB
     → (a ≡ b) × (newA ≡ newB)
 same-but-marks {a = a} {b = b} number x y =
     let tempos = one-list (x .temposAre) (rw (sym number) at (y .temposAre)) in
@@ -53,18 +53,18 @@ same-but-marks {a = a} {b = b} number x y =
       },
     )
 
-pub one-outcome : {most : ℕ} {format : TimingFormat} {raw old newA newB : ChartColumns} {a b : Assembled} {marks room marksA marksB : List ℕ}
-    → Assembles most format raw (markColumns marks room marksA) a old newA → Assembles most format raw (markColumns marks room marksB) b old newB
-    → (a ≡ b) × (newA ≡ newB) × (marksA ≡ marksB)
+pub one-outcome : {most : ℕ} {format : TimingFormat} {raw old newA newB : ChartColumns} {a b : Assembled} {marks : MarkColumns} {leftA leftB : List ℕ}
+    → Assembles most format raw marks a old newA leftA → Assembles most format raw marks b old newB leftB
+    → (a ≡ b) × (newA ≡ newB) × (leftA ≡ leftB)
 one-outcome {a = a} {b = b} x y =
     let number : a .number ≡ b .number = x .numberIs ∙ sym (y .numberIs) in
     let same = same-but-marks number x y in
     (same .0, same .1, x .marksAre ∙ sym (rw (sym number) at (y .marksAre)))
 
 -- Whatever the marks are: where they are taken and have the same room, all lists, counts and the offset are the same.
-pub marks-change-nothing : {most : ℕ} {format : TimingFormat} {raw old newA newB : ChartColumns} {a b : Assembled} {marksA marksB : MarkColumns}
-    → sevenWithMarks raw (marksA .given) ≡ 0 → sevenWithMarks raw (marksB .given) ≡ 0 → length (marksA .old) ≡ length (marksB .old)
-    → Assembles most format raw marksA a old newA → Assembles most format raw marksB b old newB
+pub marks-change-nothing : {most : ℕ} {format : TimingFormat} {raw old newA newB : ChartColumns} {a b : Assembled} {marksA marksB : MarkColumns} {leftA leftB : List ℕ}
+    → sevenWithMarks raw (marksA .given) ≡ 0 → sevenWithMarks raw (marksB .given) ≡ 0 → length (marksA .room) ≡ length (marksB .room)
+    → Assembles most format raw marksA a old newA leftA → Assembles most format raw marksB b old newB leftB
     → (a ≡ b) × (newA ≡ newB)
 marks-change-nothing {a = a} {b = b} p q room x y =
     let number : a .number ≡ b .number = x .numberIs ∙ rw (p, sym q, room) (sym (y .numberIs)) in

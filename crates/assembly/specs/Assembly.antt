@@ -147,13 +147,13 @@ pub record SpeedsWritten (number : ℕ) (result : List SpeedEntry) (count : ℕ)
 
 -- THE CALL: of a raw chart, the marks of its warps, and the rooms as they were, the one outcome and the rooms as they are left. After a refusal no list has an
 -- entry, the offset is 0, and nothing is counted.
-pub record Assembles (most : ℕ) (format : TimingFormat) (raw : ChartColumns) (marks : MarkColumns) (outcome : Assembled) (old new : ChartColumns) : Type 0 where
-  pub numberIs : outcome .number ≡ assemblyNumber most format raw (marks .given) (roomOf old (length (marks .old)))
+pub record Assembles (most : ℕ) (format : TimingFormat) (raw : ChartColumns) (marks : MarkColumns) (outcome : Assembled) (old new : ChartColumns) (marksLeft : List ℕ) : Type 0 where
+  pub numberIs : outcome .number ≡ assemblyNumber most format raw (marks .given) (roomOf old (length (marks .room)))
   pub temposAre : ListWritten (outcome .number) (assembledTempos (processedChart format raw)) (outcome .tempos) (old .tempos) (new .tempos)
   pub stopsAre : ListWritten (outcome .number) (assembledStops (processedChart format raw)) (outcome .stops) (old .stops) (new .stops)
   pub delaysAre : ListWritten (outcome .number) (assembledDelays (raw .delays .beats) (raw .delays .values)) (outcome .delays) (old .delays) (new .delays)
   pub warpsAre : ListWritten (outcome .number) (assembledWarps (processedChart format raw)) (outcome .warps) (old .warps) (new .warps)
-  pub marksAre : MarksWritten (outcome .number) (map first (processedChart format raw .warps)) (withMade (madeWarps format (processedTogether raw)) marks)
+  pub marksAre : MarksWritten (outcome .number) (map first (processedChart format raw .warps)) (withMade (madeWarps format (processedTogether raw)) marks) marksLeft
   pub speedsAre : SpeedsWritten (outcome .number) (assembledSpeeds (raw .speeds)) (outcome .speeds) (old .speeds) (new .speeds)
   pub scrollsAre : ListWritten (outcome .number) (assembledScrolls (raw .scrolls .beats) (raw .scrolls .values)) (outcome .scrolls) (old .scrolls) (new .scrolls)
   pub fakesAre : ListWritten (outcome .number) (assembledFakes (raw .fakes .beats) (raw .fakes .values)) (outcome .fakes) (old .fakes) (new .fakes)

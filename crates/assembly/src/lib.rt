@@ -199,7 +199,7 @@ pub fn compute_timing_segments(
           fakes = lentColumns «out_fake_beats» «out_fake_lengths»;
         } in
         let marks = lentMarks «warp_marks» «out_warp_marks» in
-        ⌜ Assembles «most_warps» format (before raw) marks r (before rooms) (after rooms) ⌝ }
+        ⌜ Assembles «most_warps» format (before raw) marks r (before rooms) (after rooms) «out_warp_marks».exit.now ⌝ }
 {
     let other = others_number(
         delay_beats,

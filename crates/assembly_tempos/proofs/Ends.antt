@@ -36,7 +36,7 @@ by-later raw warps most later h l = rw (eq-eqb raw 0 h, le-leb warps (min most 1
 module _ (raw later most : ℕ) (lists : ThreeLists) {marks markRoom : List ℕ} {old : ThreeColumns} where
   refused : {number : ℕ} → (number ≡ 0 → ⊥)
       → number ≡ verdict raw (length (lists .warps)) most (lower later (roomsNumber lists old (length markRoom)))
-      → ThreeLaid raw later most lists (markColumns marks markRoom markRoom) (nothingAssembled number) old old
+      → ThreeLaid raw later most lists (markColumns marks markRoom) (nothingAssembled number) old old markRoom
   unfolding laid
   refused {number} h e = record {
     number = e;
@@ -49,16 +49,16 @@ module _ (raw later most : ℕ) (lists : ThreeLists) {marks markRoom : List ℕ}
   }
 
   pub raw-refused : (raw ≡ 0 → ⊥)
-      → ThreeLaid raw later most lists (markColumns marks markRoom markRoom) (nothingAssembled raw) old old
+      → ThreeLaid raw later most lists (markColumns marks markRoom) (nothingAssembled raw) old old markRoom
   raw-refused h = refused h (by-raw raw _ most _ h)
 
   pub too-many : raw ≡ 0 → min most 1024 < length (lists .warps)
-      → ThreeLaid raw later most lists (markColumns marks markRoom markRoom) (nothingAssembled 1) old old
+      → ThreeLaid raw later most lists (markColumns marks markRoom) (nothingAssembled 1) old old markRoom
   too-many h l = refused (λ e. omega arith) (by-warps raw _ most _ h l)
 
   pub later-refused : {number : ℕ} → raw ≡ 0 → length (lists .warps) ≤ min most 1024
       → number ≡ lower later (roomsNumber lists old (length markRoom)) → (number ≡ 0 → ⊥)
-      → ThreeLaid raw later most lists (markColumns marks markRoom markRoom) (nothingAssembled number) old old
+      → ThreeLaid raw later most lists (markColumns marks markRoom) (nothingAssembled number) old old markRoom
   later-refused h l e some = refused some (e ∙ by-later raw _ most _ h l)
 
   module _ {markNew : List ℕ} {new : ThreeColumns} where
@@ -70,7 +70,7 @@ module _ (raw later most : ℕ) (lists : ThreeLists) {marks markRoom : List ℕ}
         → markNew ≡ laid (assembledMarks (map first (lists .warps)) marks) markRoom
         → offset ≡ narrow (lists .offset)
         → moved ≡ movedIn (map first (lists .warps))
-        → ThreeLaid raw later most lists (markColumns marks markRoom markNew)
-        (record { number = 0; tempos = tempos; stops = stops; warps = warps; offset = offset; moved = moved }) old new
+        → ThreeLaid raw later most lists (markColumns marks markRoom)
+        (record { number = 0; tempos = tempos; stops = stops; warps = warps; offset = offset; moved = moved }) old new markNew
     unfolding given
     all-laid h l e t s w k o m = record { number = sym e ∙ by-later raw _ most _ h l; temposLaid = t; stopsLaid = s; warpsLaid = w; marksLaid = k; offsetIs = o; warpsMoved = m }

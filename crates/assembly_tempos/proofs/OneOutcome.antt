@@ -7,13 +7,13 @@ use Rattle.columns.proofs.OneOutcome.{one-list}
 use Rattle.process.specs.ByFormat.{ThreeLists}
 use Rattle.process_raw.specs.LentLists.{ThreeColumns}
 use Rattle.assembly_warps.proofs.OneOutcome.{eachColumn}
-use Rattle.assembly_marks.specs.LentMarks.{markColumns}
+use Rattle.assembly_marks.specs.LentMarks.{MarkColumns}
 use Rattle.assembly_tempos.specs.declared.AssembledTempos.{AssembledTempos}
 use Rattle.assembly_tempos.specs.AssembledTempos.{ThreeLaid}
 
-pub one-outcome : {raw later most : ℕ} {lists : ThreeLists} {a b : AssembledTempos} {old newA newB : ThreeColumns} {marks room marksA marksB : List ℕ}
-    → ThreeLaid raw later most lists (markColumns marks room marksA) a old newA → ThreeLaid raw later most lists (markColumns marks room marksB) b old newB
-    → (a ≡ b) × (newA ≡ newB) × (marksA ≡ marksB)
+pub one-outcome : {raw later most : ℕ} {lists : ThreeLists} {a b : AssembledTempos} {old newA newB : ThreeColumns} {marks : MarkColumns} {leftA leftB : List ℕ}
+    → ThreeLaid raw later most lists marks a old newA leftA → ThreeLaid raw later most lists marks b old newB leftB
+    → (a ≡ b) × (newA ≡ newB) × (leftA ≡ leftB)
 one-outcome {a = a} {b = b} {newA = newA} {newB = newB} x y =
     let number : a .number ≡ b .number = cc in
     let tempos = one-list (x .temposLaid) (rw (sym number) at (y .temposLaid)) in

@@ -97,9 +97,9 @@ module _ {lists : ThreeLists} {outcome : processed.Processed} {work : ThreeColum
       rw (f .tempoBeatsAre, f .tempoValuesAre, f .stopBeatsAre, f .stopValuesAre, f .warpBeatsAre, f .warpLengthsAre, f .offsetIs, entries-columns (lists .tempos), entries-columns (lists .stops), entries-columns (lists .warps))
 
   -- what is assembled of the columns is assembled of the lists
-  pub as-read : {raw later most : ℕ} {r : AssembledTempos} {old new : ThreeColumns} (marks : MarkColumns) (behind made : ℕ) → raw ≡ 0 → behind ≡ made
-      → ThreeLaid 0 later most (listsOf (frontColumns outcome work) (outcome .offset)) (withMade behind marks) r old new
-      → ThreeLaid raw later most lists (withMade made marks) r old new
+  pub as-read : {raw later most : ℕ} {r : AssembledTempos} {old new : ThreeColumns} {left : List ℕ} (marks : MarkColumns) (behind made : ℕ) → raw ≡ 0 → behind ≡ made
+      → ThreeLaid 0 later most (listsOf (frontColumns outcome work) (outcome .offset)) (withMade behind marks) r old new left
+      → ThreeLaid raw later most lists (withMade made marks) r old new left
   as-read marks behind made h m q = rw h (rw (lists-read, m) at q)
 
 inside : (count : ℕ) (column : List Float) {front : List Float} → take count column ≡ front → (size : ℕ) → length front ≡ size → count ≡ size → count ≤ length column

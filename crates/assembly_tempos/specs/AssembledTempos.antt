@@ -76,11 +76,11 @@ ListWritten number result count old new = LaidList number result count (old .bea
 
 -- The number of all lists, of which `raw` and `later` are known; under it the three lists, the marks of the warps, the offset, which is 0 after a refusal, and how
 -- many warps were off the grid, which none is then.
-pub record ThreeLaid (raw later most : ℕ) (lists : ThreeLists) (marks : MarkColumns) (outcome : AssembledTempos) (old new : ThreeColumns) : Type 0 where
-  pub number : outcome .number ≡ verdict raw (length (lists .warps)) most (lower later (roomsNumber lists old (length (marks .old))))
+pub record ThreeLaid (raw later most : ℕ) (lists : ThreeLists) (marks : MarkColumns) (outcome : AssembledTempos) (old new : ThreeColumns) (marksLeft : List ℕ) : Type 0 where
+  pub number : outcome .number ≡ verdict raw (length (lists .warps)) most (lower later (roomsNumber lists old (length (marks .room))))
   pub temposLaid : ListWritten (outcome .number) (assembledTempos lists) (outcome .tempos) (old .tempos) (new .tempos)
   pub stopsLaid : ListWritten (outcome .number) (assembledStops lists) (outcome .stops) (old .stops) (new .stops)
   pub warpsLaid : ListWritten (outcome .number) (assembledWarps lists) (outcome .warps) (old .warps) (new .warps)
-  pub marksLaid : MarksWritten (outcome .number) (map first (lists .warps)) marks
+  pub marksLaid : MarksWritten (outcome .number) (map first (lists .warps)) marks marksLeft
   pub offsetIs : outcome .offset ≡ pick (eqb (outcome .number) 0) (narrow (lists .offset)) plusZero
   pub warpsMoved : outcome .moved ≡ movedUnder (outcome .number) (movedIn (map first (lists .warps)))

@@ -230,7 +230,7 @@ fn lay_lists(
         «warp_beats».entry.now «warp_lengths».entry.now in
         let rooms = lentThree «out_tempo_beats» «out_tempo_values» «out_stop_beats» «out_stop_values» «out_warp_beats» «out_warp_lengths» in
         let marks = withMade made (lentMarks «warp_marks» «out_warp_marks») in
-        ⌜ ThreeLaid 0 later «most_warps» (listsOf columns offset) marks r (threeBefore rooms) (threeAfter rooms) ⌝ }
+        ⌜ ThreeLaid 0 later «most_warps» (listsOf columns offset) marks r (threeBefore rooms) (threeAfter rooms) «out_warp_marks».exit.now ⌝ }
 {
     if warp_beats.len() > columns::room_of(most_warps, limits::MOST_ENTRIES) {
         return refused(limits::TOO_LONG);
@@ -331,7 +331,7 @@ fn assemble_in(
         let rooms = lentThree «out_tempo_beats» «out_tempo_values» «out_stop_beats» «out_stop_values» «out_warp_beats» «out_warp_lengths» in
         let number = rawWith other raw «warp_marks».entry.now in
         let marks = withMade (madeWarps format raw) (lentMarks «warp_marks» «out_warp_marks») in
-        ⌜ ThreeLaid number later «most_warps» (mergedLists format raw) marks r (threeBefore rooms) (threeAfter rooms) ⌝ }
+        ⌜ ThreeLaid number later «most_warps» (mergedLists format raw) marks r (threeBefore rooms) (threeAfter rooms) «out_warp_marks».exit.now ⌝ }
 {
     let processed = assembly_warps::process_with_warps(
         format,
@@ -419,7 +419,7 @@ pub fn assemble_tempos(
         let rooms = lentThree «out_tempo_beats» «out_tempo_values» «out_stop_beats» «out_stop_values» «out_warp_beats» «out_warp_lengths» in
         let number = rawWith other raw «warp_marks».entry.now in
         let marks = withMade (madeWarps format raw) (lentMarks «warp_marks» «out_warp_marks») in
-        ⌜ ThreeLaid number later «most_warps» (mergedLists format raw) marks r (threeBefore rooms) (threeAfter rooms) ⌝ }
+        ⌜ ThreeLaid number later «most_warps» (mergedLists format raw) marks r (threeBefore rooms) (threeAfter rooms) «out_warp_marks».exit.now ⌝ }
 {
     if tempo_beats.len() <= limits::FEW {
         if stop_beats.len() <= limits::FEW {

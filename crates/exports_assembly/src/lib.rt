@@ -77,7 +77,7 @@ pub extern "C" fn marrighentu_compute_timing_segments(
           fakes = lentColumns «out_fake_beats» «out_fake_lengths»;
         } in
         let marks = lentMarks «warp_marks» «out_warp_marks» in
-        ⌜ Assembles mostEntries (formatOf format) (before raw) marks r (before rooms) (after rooms) ⌝ }
+        ⌜ Assembles mostEntries (formatOf format) (before raw) marks r (before rooms) (after rooms) «out_warp_marks».exit.now ⌝ }
 {
     let named = format_of(format);
     assembly::compute_timing_segments(

@@ -23,8 +23,8 @@ allRooms room units =
 
 module _ (format : TimingFormat) (raw : ChartColumns) {done : Assembled} {room : List Float} {units : List ℕ} {new : ChartColumns} {given marks : List ℕ} {warped moved : ℕ} where
   pub assembled-text : length room ≡ 256 → length units ≡ 256 → given ≡ allWritten (raw .warps)
-      → Assembles 256 format raw (markColumns given units marks) done (allRooms room units) new
+      → Assembles 256 format raw (markColumns given units) done (allRooms room units) new marks
       → warped ≡ onePass (entries (take (done .warps) (new .warps .beats)) (take (done .warps) (new .warps .values)))
       → moved ≡ movedTotal (done .moved)
       → doneText (done .number) (done .offset) warped moved marks (written done) new ≡ takenText format raw
-  assembled-text r u w made pass total = done-is-taken format raw done _ _ new made w pass total (rw (r, u, w) at (made .numberIs))
+  assembled-text r u w made pass total = done-is-taken format raw done _ _ new _ made w pass total (rw (r, u, w) at (made .numberIs))

@@ -52,7 +52,7 @@ written done = record {
 abbrev pub passOf : ListColumns → ℕ
 passOf warps = onePass (entries (warps .beats) (warps .values))
 
-module _ (format : TimingFormat) (raw : ChartColumns) (done : Assembled) (marks : MarkColumns) (old new : ChartColumns) (made : Assembles 256 format raw marks done old new)
+module _ (format : TimingFormat) (raw : ChartColumns) (done : Assembled) (marks : MarkColumns) (old new : ChartColumns) (left : List ℕ) (made : Assembles 256 format raw marks done old new left)
     (written-given : marks .given ≡ allWritten (raw .warps)) {warped moved : ℕ}
     (pass : warped ≡ passOf (frontLists (written done) new .warps)) (total : moved ≡ movedTotal (done .moved)) where
   -- the columns' fronts are the lists
@@ -78,16 +78,16 @@ module _ (format : TimingFormat) (raw : ChartColumns) (done : Assembled) (marks 
       })
 
   -- and so are the marks' front
-  marks-are : done .number ≡ 0 → takenNumber format raw ≡ 0 → take (done .warps) (marks .new) ≡ timingMarks format raw
+  marks-are : done .number ≡ 0 → takenNumber format raw ≡ 0 → take (done .warps) left ≡ timingMarks format raw
   unfolding given laid
   marks-are z taken =
       let passed = none-refused _ _ _ _ taken .rawTaken in
       let counted : done .warps ≡ length (assembledWarps (processedChart format raw)) = rw z at (made .warpsAre .counted) in
-      let all : marks .new ≡ laid (timingMarks format raw) (marks .old) = rw (z, written-given) at (made .marksAre) in
+      let all : left ≡ laid (timingMarks format raw) (marks .room) = rw (z, written-given) at (made .marksAre) in
       rw all (take-at (timingMarks format raw) _ (done .warps) (as-many-marks format raw (allWritten (raw .warps)) passed ∙ sym counted))
 
   abbrev lists : List ℕ
-  lists = listsText (done .offset) warped moved (take (done .warps) (marks .new)) (frontLists (written done) new)
+  lists = listsText (done .offset) warped moved (take (done .warps) left) (frontLists (written done) new)
 
   -- of the timing's warps the pass is the number of warped rows
   rows-are : takenNumber format raw ≡ 0 → frontLists (written done) new ≡ timingLists format raw → warped ≡ warpedRows (assembledWarps (processedChart format raw))
@@ -101,9 +101,9 @@ module _ (format : TimingFormat) (raw : ChartColumns) (done : Assembled) (marks 
       let rows = rows-are taken fronts in
       let offset : done .offset ≡ narrow (processedChart format raw .offset) = made .offsetIs ∙ rw z in
       let counts : done .moved ≡ movedBeats format raw = made .movedAre ∙ rw z in
-      ap (listsText (done .offset) warped moved (take (done .warps) (marks .new))) fronts ∙ rw (marks-are z taken, rows, offset, total, counts)
+      ap (listsText (done .offset) warped moved (take (done .warps) left)) fronts ∙ rw (marks-are z taken, rows, offset, total, counts)
 
-  pub done-is-taken : done .number ≡ takenNumber format raw → doneText (done .number) (done .offset) warped moved (marks .new) (written done) new ≡ takenText format raw
+  pub done-is-taken : done .number ≡ takenNumber format raw → doneText (done .number) (done .offset) warped moved left (written done) new ≡ takenText format raw
   unfolding doneText takenText
   done-is-taken n = ap (λ (k : ℕ). answerLine k ++ pick (eqb k 0) lists []) n ∙ by-case (eqb number 0) refl
     where

@@ -189,7 +189,7 @@ returns-2 c =
     let at = c .before .before .before .before .before .before .before .before .before .before .before .before .before .before .before .before .before .before .before .before .before .before .before .before .before .before .before .before in
     let s = start (at .before) in
     let behind = c .before .before .before .before .before .before .before .before .before .before .before .before .before .before .before .before .before .before .before .before .before .before .before .before .before .before .before .before .before .before .before .before .before .before .before .before .before .before .before .before .before .before .before .before .process-with-warps .result .warps - length (s .args .warp-beats .now) in
-    as-read (read at) (markColumns (s .args .warp-marks .now) (s .args .out-warp-marks .now) _) behind (madeWarps (s .args .format) (raw s)) (raw-taken at) (omega (arith, warps-are at)) (c .before .before .before .before .before .before .before .before .before .before .before .before .before .before .lay-lists .ensures)
+    as-read (read at) (markColumns (s .args .warp-marks .now) (s .args .out-warp-marks .now)) behind (madeWarps (s .args .format) (raw s)) (raw-taken at) (omega (arith, warps-are at)) (c .before .before .before .before .before .before .before .before .before .before .before .before .before .before .lay-lists .ensures)
 
 pub assemble-in-spec : {M : Type 1} → statement M
 assemble-in-spec =
