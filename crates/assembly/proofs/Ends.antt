@@ -107,6 +107,10 @@ module _ (delay : ListColumns) (speed : SpeedColumns) (scroll fake : ListColumns
       let three = lower-none d s (two .0) in
       record { delays = three .0; speeds = three .1; scrolls = two .1; fakes = one .1 }
 
+  -- rooms that are the same
+  pub same-rooms : {a a′ b b′ c c′ d d′ : ℕ} → a ≡ a′ → b ≡ b′ → c ≡ c′ → d ≡ d′ → othersLater delay speed scroll fake a b c d ≡ othersLater delay speed scroll fake a′ b′ c′ d′
+  same-rooms p q r s = rw (p, q, r, s)
+
   module _ (delayRoom speedRoom scrollRoom fakeRoom : ℕ) where
     pub later-is : othersNumber delay speed scroll fake ≡ 0
         → lower (lower (lower (pick (rowsFit Values (delay .beats) (delay .values) delayRoom) 0 7) (speedsLater speed speedRoom)) (scrollsLater (scroll .beats) (scroll .values) scrollRoom)) (pick (rowsFit Lengths (fake .beats) (fake .values) fakeRoom) 0 7)

@@ -1,7 +1,7 @@
 -- What is said of an assembled chart leaves one outcome: the number, the seven counts, the offset and the entries off the grid, and all rooms to their last place; and
 -- marks change nothing of it but themselves. Assumes nothing.
 use Prim.Native.Nat.{ℕ}
-use mathlib.Core.Path.{_≡_, sym, _∙_}
+use mathlib.Core.Path.{_≡_, sym, ap₂, _∙_}
 use mathlib.Core.List.{List}
 use lib.ListN.{length}
 use Rattle.columns.proofs.OneOutcome.{one-list}
@@ -10,7 +10,8 @@ use Rattle.chart.specs.ChartColumns.{SpeedColumns, ChartColumns}
 use Rattle.tidy_speeds_entries.specs.Speed.{SpeedEntry}
 use Rattle.assembly_marks.specs.LentMarks.{MarkColumns}
 use Rattle.assembly.specs.declared.Assembled.{Assembled}
-use Rattle.assembly.specs.Assembly.{sevenWithMarks, SpeedsWritten, Assembles}
+use Rattle.assembly_tempos.specs.AssembledTempos.{verdict}
+use Rattle.assembly.specs.Assembly.{processedChart, sevenWithMarks, laterNumber, roomOf, SpeedsWritten, Assembles}
 
 one-speeds : {number : ℕ} {result : List SpeedEntry} {countA countB : ℕ} {old newA newB : SpeedColumns} → SpeedsWritten number result countA old newA → SpeedsWritten number result countB old newB
     → (countA ≡ countB) × (newA .beats ≡ newB .beats) × (newA .ratios ≡ newB .ratios) × (newA .delays ≡ newB .delays) × (newA .units ≡ newB .units)
@@ -66,6 +67,7 @@ pub marks-change-nothing : {most : ℕ} {format : TimingFormat} {raw old newA ne
     → sevenWithMarks raw (marksA .given) ≡ 0 → sevenWithMarks raw (marksB .given) ≡ 0 → length (marksA .room) ≡ length (marksB .room)
     → Assembles most format raw marksA a old newA leftA → Assembles most format raw marksB b old newB leftB
     → (a ≡ b) × (newA ≡ newB)
-marks-change-nothing {a = a} {b = b} p q room x y =
-    let number : a .number ≡ b .number = x .numberIs ∙ rw (p, sym q, room) (sym (y .numberIs)) in
+marks-change-nothing {most} {format} {raw} {old} {a = a} {b = b} p q room x y =
+    let under : ℕ → ℕ → ℕ = λ number markRoom. verdict number (length (processedChart format raw .warps)) most (laterNumber format raw (roomOf old markRoom)) in
+    let number : a .number ≡ b .number = x .numberIs ∙ ap₂ under (p ∙ sym q) room ∙ sym (y .numberIs) in
     same-but-marks number x y
