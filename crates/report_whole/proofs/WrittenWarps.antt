@@ -17,12 +17,12 @@ use Rattle.report_form.specs.ReadColumns.{entriesCounted}
 none-over : (counts : List ℕ) → over counts ≡ false → (list : ℕ) → getD counts list 0 ≤ 256
 unfolding over
 none-over [] h list = omega arith
-none-over (count ∷ counts) h list = go (ltb 256 count) refl h list
+none-over (count ∷ counts) h list = go (ltb 256 count) refl h (λ (rest : over counts ≡ false) (i : ℕ). none-over counts rest i) list
   where
-    go : (t : Bool) → ltb 256 count ≡ t → pick t true (over counts) ≡ false → (list : ℕ) → getD (count ∷ counts) list 0 ≤ 256
-    go true e h list = let z : _≡_ {A = ℕ} 0 1 = cc in absurd (omega arith)
-    go false e h zero = ltb-false 256 count e
-    go false e h (suc list) = none-over counts h list
+    go : (t : Bool) → ltb 256 count ≡ t → pick t true (over counts) ≡ false → (over counts ≡ false → (i : ℕ) → getD counts i 0 ≤ 256) → (list : ℕ) → getD (count ∷ counts) list 0 ≤ 256
+    go true e h on list = let z : _≡_ {A = ℕ} 0 1 = cc in absurd (omega arith)
+    go false e h on zero = ltb-false 256 count e
+    go false e h on (suc list) = on h list
 
 not-over : (reading : Reading) (counts : List ℕ) → answerOf reading counts ≡ 0 → over counts ≡ false
 unfolding answerOf
