@@ -536,14 +536,6 @@ fn replay_sm_stops(words: &[u64], floats: &[f32], at: usize) -> Replayed {
     }
 }
 
-// So many marks of a column; all where it has fewer.
-fn so_many<'a>(marks: &'a [u8], count: usize) -> &'a [u8] {
-    if count > marks.len() {
-        return marks;
-    }
-    &marks[..count]
-}
-
 // The row store. The original has no marks, so that each warp is a written one.
 fn replay_row_store(words: &[u64], floats: &[f32], at: usize) -> Replayed {
     let stop_beats_at = further(at, 1);
@@ -558,6 +550,7 @@ fn replay_row_store(words: &[u64], floats: &[f32], at: usize) -> Replayed {
     let answer_at = behind(words, stored_at);
     let warp_beats = f32_column(floats, words, warp_beats_at);
     let marks = [0u8; limits::MOST_ENTRIES];
+    let count = columns::room_of(warp_beats.len(), marks.len());
     let mut stored_room = [77i32; ROOM];
     let mut marks_room = [77u8; limits::MOST_ENTRIES];
     let stored = lookup_row_store::build_segment_row_storage(
@@ -569,7 +562,7 @@ fn replay_row_store(words: &[u64], floats: &[f32], at: usize) -> Replayed {
         f32_column(floats, words, warp_lengths_at),
         f32_column(floats, words, fake_beats_at),
         f32_column(floats, words, fake_lengths_at),
-        so_many(&marks, warp_beats.len()),
+        &marks[..count],
         &mut stored_room,
         &mut marks_room,
     );
