@@ -550,7 +550,6 @@ fn replay_row_store(words: &[u64], floats: &[f32], at: usize) -> Replayed {
     let answer_at = behind(words, stored_at);
     let warp_beats = f32_column(floats, words, warp_beats_at);
     let marks = [0u8; limits::MOST_ENTRIES];
-    let count = columns::room_of(warp_beats.len(), marks.len());
     let mut stored_room = [77i32; ROOM];
     let mut marks_room = [77u8; limits::MOST_ENTRIES];
     let stored = lookup_row_store::build_segment_row_storage(
@@ -562,7 +561,7 @@ fn replay_row_store(words: &[u64], floats: &[f32], at: usize) -> Replayed {
         f32_column(floats, words, warp_lengths_at),
         f32_column(floats, words, fake_beats_at),
         f32_column(floats, words, fake_lengths_at),
-        &marks[..count],
+        report_answer::front_units(&marks, warp_beats.len()),
         &mut stored_room,
         &mut marks_room,
     );
