@@ -139,8 +139,11 @@ pub fn marks_number(warps: usize, marks: &[u8]) -> u32 {
 /// Of each row of warps the mark of the one that came last: the given marks are for the first, and made ones follow with 1.
 fn marks_by_rows(warps: &[Segment], given: &[u8]) -> Vec<u8> {
     let marks = given.iter().copied().chain(std::iter::repeat(1));
-    let rows: BTreeMap<i32, u8> =
-        warps.iter().zip(marks).map(|(warp, mark)| (probe::beat_to_note_row(probe::quantize_beat(warp.beat)), mark)).collect();
+    let rows: BTreeMap<i32, u8> = warps
+        .iter()
+        .zip(marks)
+        .map(|(warp, mark)| (probe::beat_to_note_row(probe::quantize_beat(warp.beat)), mark))
+        .collect();
     rows.into_values().collect()
 }
 
@@ -423,7 +426,8 @@ mod port {
                 place += 1;
                 (0..lengths[place - 1] + PAST).map(|_| f32::from_bits(random.bits() as u32)).collect()
             });
-            let [units, marks] = [UNITS, MARKS].map(|place| (0..lengths[place] + PAST).map(|_| random.bits() as u8).collect());
+            let [units, marks] =
+                [UNITS, MARKS].map(|place| (0..lengths[place] + PAST).map(|_| random.bits() as u8).collect());
             Self { numbers, units, marks, lengths }
         }
 

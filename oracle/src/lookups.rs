@@ -102,7 +102,15 @@ pub fn store(lists: &Lists, rows: &mut [i32]) -> Stored {
 const WRITTEN: [u8; 1_100] = [0; 1_100];
 
 pub fn store_marked(lists: &Lists, marks: &[u8], rows: &mut [i32], row_marks: &mut [u8]) -> Stored {
-    store_raw(lists, marks.as_ptr(), marks.len(), rows.as_mut_ptr(), rows.len(), row_marks.as_mut_ptr(), row_marks.len())
+    store_raw(
+        lists,
+        marks.as_ptr(),
+        marks.len(),
+        rows.as_mut_ptr(),
+        rows.len(),
+        row_marks.as_mut_ptr(),
+        row_marks.len(),
+    )
 }
 
 pub fn judge(lists: &Lists, rows: &[i32], out: &mut [u8]) -> Outcome {

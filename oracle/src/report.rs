@@ -124,7 +124,12 @@ fn written(lists: &Lists) -> String {
         .map(|((beat, length), mark)| format!("warp={},{},{mark}\n", bits(*beat), bits(*length)))
         .collect();
     let before = pairs("bpm", tempos) + &pairs("stop", stops) + &pairs("delay", delays) + &marked;
-    front + &before + &speeds + &pairs("scroll", scrolls) + &pairs("fake", fakes) + &format!("warped={warped}\nmoved={}\n", lists.moved.total())
+    front
+        + &before
+        + &speeds
+        + &pairs("scroll", scrolls)
+        + &pairs("fake", fakes)
+        + &format!("warped={warped}\nmoved={}\n", lists.moved.total())
 }
 
 /// The text of an input.

@@ -179,16 +179,26 @@ pub fn compare_tidying(work: Work, call: Tidy) -> Found {
         let (outcome, answer) =
             (tidy_plainly(&beats, &lengths, &marks, &mut wanted), call(&beats, &lengths, &marks, &mut got));
         if outcome.number == 0 {
-            let list = beats.iter().zip(&lengths).map(|(beat, value)| crate::timing::Segment { beat: *beat, value: *value });
+            let list =
+                beats.iter().zip(&lengths).map(|(beat, value)| crate::timing::Segment { beat: *beat, value: *value });
             let original = probe::tidy_row_segments(list.collect());
             let same = original.iter().enumerate().all(|(place, entry)| {
-                entry.beat.to_bits() == wanted.beats[place].to_bits() && entry.value.to_bits() == wanted.lengths[place].to_bits()
+                entry.beat.to_bits() == wanted.beats[place].to_bits()
+                    && entry.value.to_bits() == wanted.lengths[place].to_bits()
             });
-            assert!(same && original.len() == outcome.count, "{beats:?} {lengths:?}: the reading is not the original's");
+            assert!(
+                same && original.len() == outcome.count,
+                "{beats:?} {lengths:?}: the reading is not the original's"
+            );
         }
         found.check(outcome == answer && wanted.same(&got), || {
             let front = |column: &[f64]| format!("{} {:?}", column.len(), &column[..column.len().min(8)]);
-            format!("beats {}, lengths {}, {} marks, rooms {sizes:?}: {outcome:?}, port {answer:?}", front(&beats), front(&lengths), marks.len())
+            format!(
+                "beats {}, lengths {}, {} marks, rooms {sizes:?}: {outcome:?}, port {answer:?}",
+                front(&beats),
+                front(&lengths),
+                marks.len()
+            )
         });
     }
     found

@@ -57,8 +57,8 @@ fn compared_before_narrowing() {
 #[test]
 fn compared_with_the_f64_beat_of_the_row() {
     assert!(
-        different(|ssc, raw, rooms| by_beats(ssc, raw, rooms, |beat| beat
-            != (beat * 48.0).round_ties_even() / 48.0)) > 0
+        different(|ssc, raw, rooms| by_beats(ssc, raw, rooms, |beat| beat != (beat * 48.0).round_ties_even() / 48.0))
+            > 0
     );
 }
 
@@ -148,20 +148,24 @@ fn marks_as_they_are() {
 
 #[test]
 fn the_given_mark_where_a_made_warp_wins() {
-    assert!(different(|ssc, raw, rooms| marked(ssc, raw, rooms, |_, row, mark| given_mark(raw, row).unwrap_or(mark))) > 0);
+    assert!(
+        different(|ssc, raw, rooms| marked(ssc, raw, rooms, |_, row, mark| given_mark(raw, row).unwrap_or(mark))) > 0
+    );
 }
 
 #[test]
 fn marks_in_raw_order() {
     assert!(
-        different(|ssc, raw, rooms| marked(ssc, raw, rooms, |place, _, _| raw.marks.get(place).copied().unwrap_or(1))) > 0
+        different(|ssc, raw, rooms| marked(ssc, raw, rooms, |place, _, _| raw.marks.get(place).copied().unwrap_or(1)))
+            > 0
     );
 }
 
 #[test]
 fn made_warps_marked_as_written() {
     assert!(
-        different(|ssc, raw, rooms| marked(ssc, raw, rooms, |_, row, mark| given_mark(raw, row).map_or(0, |_| mark))) > 0
+        different(|ssc, raw, rooms| marked(ssc, raw, rooms, |_, row, mark| given_mark(raw, row).map_or(0, |_| mark)))
+            > 0
     );
 }
 

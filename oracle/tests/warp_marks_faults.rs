@@ -3,7 +3,9 @@
 
 use oracle::cases::Work;
 use oracle::lookups::{self, Lists};
-use oracle::warp_marks::{Rooms, Store, Tidy, by_rows, compare_storing, compare_tidying, tidied, tidy_plainly, tidy_warp_segments};
+use oracle::warp_marks::{
+    Rooms, Store, Tidy, by_rows, compare_storing, compare_tidying, tidied, tidy_plainly, tidy_warp_segments,
+};
 
 const WORK: Work = Work { seed: 1, seconds: 0 };
 
@@ -17,8 +19,7 @@ fn stored_wrong(call: Store) -> bool {
 
 #[test]
 fn the_port_has_none() {
-    let (tidying, storing) =
-        (compare_tidying(WORK, tidy_warp_segments), compare_storing(WORK, lookups::store_marked));
+    let (tidying, storing) = (compare_tidying(WORK, tidy_warp_segments), compare_storing(WORK, lookups::store_marked));
     assert!(tidying.compared > 100 && storing.compared > 100);
     assert_eq!((tidying.different, storing.different), (0, 0));
 }
@@ -54,7 +55,9 @@ fn the_first_mark_of_a_row() {
         let outcome = tidy_plainly(beats, lengths, marks, rooms);
         let turned = |column: &[f64]| column.iter().rev().copied().collect::<Vec<_>>();
         let last_first: Vec<u8> = marks.iter().rev().copied().collect();
-        for (place, warp) in tidied(&turned(beats), &turned(lengths), &last_first).iter().take(outcome.count).enumerate() {
+        for (place, warp) in
+            tidied(&turned(beats), &turned(lengths), &last_first).iter().take(outcome.count).enumerate()
+        {
             rooms.marks[place] = warp.2;
         }
         outcome

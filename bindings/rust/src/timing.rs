@@ -636,7 +636,10 @@ mod tests {
         let again = Timing::from_lists(&timing.lists(), timing.offset(), 0.0).unwrap();
         assert_eq!(marked(&again), marked(&timing));
         let unmarked = Lists { warps_made: vec![], ..timing.lists() };
-        assert_eq!(marked(&Timing::from_lists(&unmarked, 0.0, 0.0).unwrap()), [(0.0, false), (4.0, false), (8.0, false)]);
+        assert_eq!(
+            marked(&Timing::from_lists(&unmarked, 0.0, 0.0).unwrap()),
+            [(0.0, false), (4.0, false), (8.0, false)]
+        );
         let short = Lists { warps_made: vec![true], ..timing.lists() };
         assert_eq!(Timing::from_lists(&short, 0.0, 0.0), Err(Refusal::Uneven));
         assert_eq!(
