@@ -12,6 +12,7 @@ typedef struct {
     float stop_beats[ROOM], stop_values[ROOM];
     float delay_beats[ROOM], delay_values[ROOM];
     float warp_beats[ROOM], warp_lengths[ROOM];
+    uint8_t warp_marks[ROOM];
     float speed_beats[ROOM], speed_ratios[ROOM], speed_delays[ROOM];
     uint8_t speed_units[ROOM];
     float scroll_beats[ROOM], scroll_values[ROOM];
@@ -57,22 +58,24 @@ int main(void) {
     const double stop_beats[] = {16}, stop_values[] = {1};
     const double fake_beats[] = {20}, fake_lengths[] = {1};
     const double none[1] = {0};
-    const uint8_t no_units[1] = {0};
+    const uint8_t no_bytes[1] = {0};
     static timing chart;
     timing *t = &chart;
 
     t->made = marrighentu_compute_timing_segments(
-        MARRIGHENTU_SM, tempo_beats, 3, tempo_values, 3, stop_beats, 1, stop_values, 1, none, 0, none, 0, none, 0, none, 0,
-        none, 0, none, 0, none, 0, no_units, 0, none, 0, none, 0, fake_beats, 1, fake_lengths, 1,
+        MARRIGHENTU_SM, tempo_beats, 3, tempo_values, 3, stop_beats, 1, stop_values, 1, none, 0, none, 0, none, 0, none, 0, no_bytes, 0,
+        none, 0, none, 0, none, 0, no_bytes, 0, none, 0, none, 0, fake_beats, 1, fake_lengths, 1,
         t->tempo_beats, ROOM, t->tempo_values, ROOM, t->stop_beats, ROOM, t->stop_values, ROOM,
-        t->delay_beats, ROOM, t->delay_values, ROOM, t->warp_beats, ROOM, t->warp_lengths, ROOM,
+        t->delay_beats, ROOM, t->delay_values, ROOM, t->warp_beats, ROOM, t->warp_lengths, ROOM, t->warp_marks, ROOM,
         t->speed_beats, ROOM, t->speed_ratios, ROOM, t->speed_delays, ROOM, t->speed_units, ROOM,
         t->scroll_beats, ROOM, t->scroll_values, ROOM, t->fake_beats, ROOM, t->fake_lengths, ROOM);
     expect(t->made.number == MARRIGHENTU_TAKEN, "the chart is taken");
     expect(t->made.tempos == 1 && t->made.stops == 1 && t->made.warps == 1 && t->made.fakes == 1, "one of each list");
     t->offset = 0.0 + (double)t->made.offset;
     t->global_offset = 0.0;
-    printf("warp at beat %g for %g beats\n", (double)t->warp_beats[0], (double)t->warp_lengths[0]);
+    printf("warp at beat %g for %g beats, %s\n", (double)t->warp_beats[0], (double)t->warp_lengths[0],
+        t->warp_marks[0] == MARRIGHENTU_MADE ? "made of a tempo or a stop" : "written");
+    expect(t->warp_marks[0] == MARRIGHENTU_MADE, "the warp was made");
 
     /* the timing is tested once; then the player's question is asked, one cursor lent for each */
     expect(marrighentu_check_timing(CLOCK_COLUMNS(t)) == MARRIGHENTU_TAKEN, "the timing is taken");
@@ -241,9 +244,21 @@ int main(void) {
 
     /* rows of the lists, one part behind another */
     int32_t store[8];
-    marrighentu_stored stored = marrighentu_build_segment_row_storage(LOOKUP_COLUMNS(t), store, 8);
+    uint8_t row_marks[] = {9, 9};
+    marrighentu_stored stored = marrighentu_build_segment_row_storage(LOOKUP_COLUMNS(t), t->warp_marks, t->made.warps, store, 8, row_marks, 2);
     expect(stored.number == MARRIGHENTU_TAKEN && stored.stops == 1 && stored.delays == 0 && stored.warps == 1 && stored.fakes == 1, "the row store");
     expect(store[0] == 16 * 48 && store[1] == 4 * 48 && store[2] == 20 * 48, "the rows of the row store");
+    expect(row_marks[0] == MARRIGHENTU_MADE && row_marks[1] == 9, "the mark of the warp's row");
+
+    /* warps by their rows, each with its mark: of two on one row the last */
+    const double marked_beats[] = {4, 0, 4}, marked_lengths[] = {1, 1, 2};
+    const uint8_t marks[] = {MARRIGHENTU_WRITTEN, MARRIGHENTU_WRITTEN, MARRIGHENTU_MADE};
+    double tidy_beats[3], tidy_lengths[3];
+    uint8_t tidy_marks[3];
+    marrighentu_outcome tidied = marrighentu_tidy_warp_segments(
+        marked_beats, 3, marked_lengths, 3, marks, 3, tidy_beats, 3, tidy_lengths, 3, tidy_marks, 3);
+    expect(tidied.number == MARRIGHENTU_TAKEN && tidied.count == 2, "two rows with a warp");
+    expect(tidy_beats[0] == 0 && tidy_marks[0] == MARRIGHENTU_WRITTEN && tidy_beats[1] == 4 && tidy_lengths[1] == 2 && tidy_marks[1] == MARRIGHENTU_MADE, "each with its mark");
 
     /* the same timing as stops of an SM file */
     const float flat[] = {16.0f, 1.0f};

@@ -37,19 +37,20 @@ void expect(bool met, const char *what) {
 int main() {
     // 120 beats a minute, a warp of two beats on beat 4, and nothing else
     const std::vector<double> tempo_beats{0}, tempo_values{120}, warp_beats{4}, warp_lengths{2}, none;
-    const std::vector<std::uint8_t> no_units;
+    const std::vector<std::uint8_t> no_units, warp_marks{MARRIGHENTU_WRITTEN};
     constexpr std::size_t room = MARRIGHENTU_MOST_ENTRIES;
     List tempos(room), stops(room), delays(room), warps(room), scrolls(room), fakes(room);
     std::vector<float> speed_beats(room), speed_ratios(room), speed_delays(room);
-    std::vector<std::uint8_t> speed_units(room);
+    std::vector<std::uint8_t> speed_units(room), out_warp_marks(room, MARRIGHENTU_MADE);
 
     expect(marrighentu_version() == MARRIGHENTU_VERSION, "the header is that of the library");
     const marrighentu_assembled made = marrighentu_compute_timing_segments(
         MARRIGHENTU_SSC, column(tempo_beats), 1, column(tempo_values), 1, column(none), 0, column(none), 0, column(none), 0, column(none), 0,
-        column(warp_beats), 1, column(warp_lengths), 1, column(none), 0, column(none), 0, column(none), 0, column(no_units), 0,
+        column(warp_beats), 1, column(warp_lengths), 1, column(warp_marks), 1, column(none), 0, column(none), 0, column(none), 0, column(no_units), 0,
         column(none), 0, column(none), 0, column(none), 0, column(none), 0, LIST(tempos), LIST(stops), LIST(delays), LIST(warps),
-        column(speed_beats), room, column(speed_ratios), room, column(speed_delays), room, column(speed_units), room, LIST(scrolls), LIST(fakes));
+        column(out_warp_marks), room, column(speed_beats), room, column(speed_ratios), room, column(speed_delays), room, column(speed_units), room, LIST(scrolls), LIST(fakes));
     expect(made.number == MARRIGHENTU_TAKEN && made.tempos == 1 && made.warps == 1 && made.stops == 0, "the chart is taken");
+    expect(out_warp_marks[0] == MARRIGHENTU_WRITTEN, "the warp was written");
     tempos.cut(made.tempos);
     stops.cut(made.stops);
     delays.cut(made.delays);

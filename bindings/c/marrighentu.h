@@ -292,10 +292,16 @@ void marrighentu_each_narrow_f64(
 
 /* ---- assembly */
 
+/* Where a warp came from: it was written, or SM processing made it. */
+#define MARRIGHENTU_WRITTEN 0
+#define MARRIGHENTU_MADE 1
+
 /* The timing lists of a chart from its raw lists, in any order: tempos in beats a minute, stops and delays in seconds, warps and fakes in beats.
  * The format is MARRIGHENTU_SM, where tempos that are negative or beyond 9,999,999 and negative stops become warps, or MARRIGHENTU_SSC, where
  * tempos and stops that are not positive are left out; any other number is taken for SSC. A room of MARRIGHENTU_MOST_ENTRIES is always enough.
- */
+ * warp_marks has one mark for each given warp, and out_warp_marks gets that of each warp that is written: MARRIGHENTU_WRITTEN, or MARRIGHENTU_MADE, which every
+ * warp has that this call makes. Of warps on one row the last counts, with its own mark, and made ones come behind the given. Refused with 1 for more than 1,024
+ * marks, 2 for another number of them than warps, 4 for a mark that is none; MARRIGHENTU_NO_ROOM counts the room for marks too. */
 marrighentu_assembled marrighentu_compute_timing_segments(
     uint32_t format,
     const double *tempo_beats, size_t tempo_beats_length,
@@ -306,6 +312,7 @@ marrighentu_assembled marrighentu_compute_timing_segments(
     const double *delay_values, size_t delay_values_length,
     const double *warp_beats, size_t warp_beats_length,
     const double *warp_lengths, size_t warp_lengths_length,
+    const uint8_t *warp_marks, size_t warp_marks_length,
     const double *speed_beats, size_t speed_beats_length,
     const double *speed_ratios, size_t speed_ratios_length,
     const double *speed_delays, size_t speed_delays_length,
@@ -322,6 +329,7 @@ marrighentu_assembled marrighentu_compute_timing_segments(
     float *out_delay_values, size_t out_delay_values_length,
     float *out_warp_beats, size_t out_warp_beats_length,
     float *out_warp_lengths, size_t out_warp_lengths_length,
+    uint8_t *out_warp_marks, size_t out_warp_marks_length,
     float *out_speed_beats, size_t out_speed_beats_length,
     float *out_speed_ratios, size_t out_speed_ratios_length,
     float *out_speed_delays, size_t out_speed_delays_length,
@@ -339,6 +347,16 @@ marrighentu_outcome marrighentu_tidy_row_segments(
     const double *values, size_t values_length,
     double *out_beats, size_t out_beats_length,
     double *out_values, size_t out_values_length);
+
+/* Warps by their rows, as marrighentu_tidy_row_segments has entries: each row with the length and the mark of the warp that came last. Refused with the lowest number
+ * that the list or its marks answer: 1 for more than 1,024 marks, 2 for another number of them than beats, 4 for a mark that is none; 7 counts all three rooms. */
+marrighentu_outcome marrighentu_tidy_warp_segments(
+    const double *beats, size_t beats_length,
+    const double *lengths, size_t lengths_length,
+    const uint8_t *marks, size_t marks_length,
+    double *out_beats, size_t out_beats_length,
+    double *out_lengths, size_t out_lengths_length,
+    uint8_t *out_marks, size_t out_marks_length);
 
 /* Changes of tempo: by beat, the last of equal beats, the first at beat 0, none that changes nothing; a tempo of 60 at 0 for none. */
 marrighentu_outcome marrighentu_tidy_bpms(
@@ -924,7 +942,9 @@ marrighentu_outcome marrighentu_judgable_rows(
     const int32_t *rows, size_t rows_length,
     uint8_t *out, size_t out_length);
 
-/* The rows of positive stops, positive delays, warps and fakes, one part behind another, each rising. */
+/* The rows of positive stops, positive delays, warps and fakes, one part behind another, each rising; and in a room of its own the mark of each row of the
+ * warps' part. warp_marks has one mark for each warp, MARRIGHENTU_WRITTEN or MARRIGHENTU_MADE. Rows of warps that repeat stay, in the order given, each with its
+ * mark. The marks are tested with the lists, and MARRIGHENTU_NO_ROOM counts their room too. */
 marrighentu_stored marrighentu_build_segment_row_storage(
     const float *stop_beats, size_t stop_beats_length,
     const float *stop_values, size_t stop_values_length,
@@ -934,7 +954,9 @@ marrighentu_stored marrighentu_build_segment_row_storage(
     const float *warp_lengths, size_t warp_lengths_length,
     const float *fake_beats, size_t fake_beats_length,
     const float *fake_lengths, size_t fake_lengths_length,
-    int32_t *rows, size_t rows_length);
+    const uint8_t *warp_marks, size_t warp_marks_length,
+    int32_t *rows, size_t rows_length,
+    uint8_t *row_marks, size_t row_marks_length);
 
 /* How many rows warps pass over, each row once: the different rows r with start row <= r < start row + length in rows for some warp of a length above 0. Rows are
  * those of the beats and lengths at double, the start and the length each held at the ends of int32_t, the end itself not; so a warp without an end counts

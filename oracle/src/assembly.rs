@@ -1,14 +1,17 @@
-//! Assembly of the seven lists: the rules read plainly over the original's functions, and the entries off the grid, which the original does not count; and the
-//! port, and their comparison.
+//! Assembly of the seven lists: the rules read plainly over the original's functions, and the entries off the grid and the marks of warps, which the original has
+//! not; and the port, and their comparison.
 
 use crate::cases::power;
 use crate::timing::{Segment, SpeedSegment, SpeedUnit, probe};
+use std::collections::BTreeMap;
 
 /// The raw lists with their places among the columns of numbers: beats first, then values. Speeds have two columns of values and one of units.
 #[derive(Clone, Debug, Default)]
 pub struct Raw {
     pub numbers: [Vec<f64>; 15],
     pub units: Vec<u8>,
+    /// of each warp 0 where it was written, 1 where it was made
+    pub marks: Vec<u8>,
 }
 
 pub const TEMPOS: usize = 0;
@@ -19,12 +22,13 @@ pub const SPEEDS: usize = 8;
 pub const SCROLLS: usize = 11;
 pub const FAKES: usize = 13;
 
-/// What assembly writes: tempos, stops, delays, warps, scrolls and fakes, and the speeds; and how many raw entries were off the grid.
+/// What assembly writes: tempos, stops, delays, warps, scrolls and fakes, and the speeds; the mark of each warp; and how many raw entries were off the grid.
 #[derive(Clone, Debug, Default)]
 pub struct Lists {
     pub offset: f32,
     pub pairs: [Vec<(f32, f32)>; 6],
     pub speeds: Vec<(f32, f32, f32, u8)>,
+    pub marks: Vec<u8>,
     pub moved: Moved,
 }
 
@@ -119,6 +123,30 @@ impl Raw {
     }
 }
 
+/// What a column of marks answers beside so many warps.
+pub fn marks_number(warps: usize, marks: &[u8]) -> u32 {
+    if marks.len() > 1_024 {
+        1
+    } else if marks.len() != warps {
+        2
+    } else if marks.iter().any(|mark| *mark > 1) {
+        4
+    } else {
+        0
+    }
+}
+
+/// Of each row of warps the mark of the one that came last: the given marks are for the first, and made ones follow with 1.
+fn marks_by_rows(warps: &[Segment], given: &[u8]) -> Vec<u8> {
+    let marks = given.iter().copied().chain(std::iter::repeat(1));
+    let rows: BTreeMap<i32, u8> = warps
+        .iter()
+        .zip(marks)
+        .map(|(warp, mark)| (probe::beat_to_note_row(probe::quantize_beat(warp.beat)), mark))
+        .collect();
+    rows.into_values().collect()
+}
+
 /// Whether the original's way with entries that are not in order meets a kept list that falls.
 fn falls<T: Copy>(list: &[T], beat: impl Fn(&T) -> f64, add: impl Fn(&mut Vec<T>, T)) -> bool {
     let fallen = |list: &[T]| list.windows(2).any(|pair| beat(&pair[1]) < beat(&pair[0]));
@@ -183,6 +211,7 @@ pub fn original(ssc: bool, raw: &Raw) -> Lists {
 fn laid(raw: &Raw, (tempos, stops, made, offset): Processed) -> Lists {
     let mut warps = raw.segments(WARPS);
     warps.extend(made);
+    let marks = marks_by_rows(&warps, &raw.marks);
     let narrowed = |list: Vec<Segment>| list.iter().map(|entry| (entry.beat as f32, entry.value as f32)).collect();
     Lists {
         offset: offset as f32,
@@ -201,6 +230,7 @@ fn laid(raw: &Raw, (tempos, stops, made, offset): Processed) -> Lists {
                 (entry.beat as f32, entry.ratio as f32, entry.delay as f32, unit)
             })
             .collect(),
+        marks,
         moved: Moved::default(),
     }
 }
@@ -208,7 +238,9 @@ fn laid(raw: &Raw, (tempos, stops, made, offset): Processed) -> Lists {
 /// The lists, or the number by which they are refused: raw tests, then warps given and made above `most`, then scrolls or speeds that fall.
 pub fn assembled(ssc: bool, raw: &Raw, most: usize) -> Result<Lists, u32> {
     let lists = [TEMPOS, STOPS, DELAYS, WARPS, SPEEDS, SCROLLS, FAKES];
-    if let Some(number) = lists.into_iter().map(|list| raw.list_number(list)).filter(|number| *number != 0).min() {
+    let numbers = lists.into_iter().map(|list| raw.list_number(list));
+    let numbers = numbers.chain([marks_number(raw.numbers[WARPS].len(), &raw.marks)]);
+    if let Some(number) = numbers.filter(|number| *number != 0).min() {
         return Err(number);
     }
     let processed = processed(ssc, raw);
@@ -231,7 +263,7 @@ pub fn assembled(ssc: bool, raw: &Raw, most: usize) -> Result<Lists, u32> {
 }
 
 #[cfg(feature = "port")]
-pub use port::{Assembled, Call, Rooms, assemble, compare, compare_all, typical};
+pub use port::{Assembled, Call, MARKS, Rooms, assemble, compare, compare_all, typical};
 
 #[cfg(feature = "port")]
 mod port {
@@ -241,7 +273,7 @@ mod port {
     use crate::numbers::Number;
     use crate::random::Random;
     use crate::tally::Total;
-    use crate::{charts, lists};
+    use crate::{charts, lists, warp_marks};
 
     #[derive(Clone, Copy, Debug, PartialEq)]
     #[repr(C)]
@@ -266,11 +298,13 @@ mod port {
     pub struct Rooms {
         pub numbers: [Vec<f32>; 15],
         pub units: Vec<u8>,
-        pub lengths: [usize; 16],
+        pub marks: Vec<u8>,
+        pub lengths: [usize; 17],
     }
 
-    /// The place of the units among the lengths.
+    /// The places of the units and of the marks among the lengths.
     const UNITS: usize = 15;
+    pub const MARKS: usize = 16;
     /// How many places past each room are looked at too.
     const PAST: usize = 4;
 
@@ -278,7 +312,7 @@ mod port {
 
     /// A slice crosses as its pointer and its length.
     pub fn assemble(ssc: bool, raw: &Raw, rooms: &mut Rooms) -> Assembled {
-        let fit = rooms.numbers.iter().map(Vec::len).chain([rooms.units.len()]).zip(rooms.lengths);
+        let fit = rooms.numbers.iter().map(Vec::len).chain([rooms.units.len(), rooms.marks.len()]).zip(rooms.lengths);
         assert!(fit.into_iter().all(|(room, length)| length <= room));
         #[rustfmt::skip]
         unsafe extern "C" {
@@ -287,10 +321,12 @@ mod port {
                 format: u32,
                 a: *const f64, al: usize, b: *const f64, bl: usize, c: *const f64, cl: usize, d: *const f64, dl: usize,
                 e: *const f64, el: usize, f: *const f64, fl: usize, g: *const f64, gl: usize, h: *const f64, hl: usize,
+                marks: *const u8, marks_length: usize,
                 i: *const f64, il: usize, j: *const f64, jl: usize, k: *const f64, kl: usize, u: *const u8, ul: usize,
                 l: *const f64, ll: usize, m: *const f64, ml: usize, n: *const f64, nl: usize, o: *const f64, ol: usize,
                 oa: *const f32, oal: usize, ob: *const f32, obl: usize, oc: *const f32, ocl: usize, od: *const f32, odl: usize,
                 oe: *const f32, oel: usize, of: *const f32, ofl: usize, og: *const f32, ogl: usize, oh: *const f32, ohl: usize,
+                out_marks: *const u8, out_marks_length: usize,
                 oi: *const f32, oil: usize, oj: *const f32, ojl: usize, ok: *const f32, okl: usize, ou: *const u8, oul: usize,
                 ol: *const f32, oll: usize, om: *const f32, oml: usize, on: *const f32, onl: usize, oo: *const f32, ool: usize,
             ) -> Assembled;
@@ -303,6 +339,7 @@ mod port {
             (room.as_mut_ptr().cast_const(), rooms.lengths[place - 1])
         });
         let (out_unit, out_units) = (rooms.units.as_mut_ptr().cast_const(), rooms.lengths[UNITS]);
+        let (out_mark, out_marks) = (rooms.marks.as_mut_ptr().cast_const(), rooms.lengths[MARKS]);
         let [a, b, c, d, e, f, g, h, i, j, k, l, m, n, o] = from;
         let [oa, ob, oc, od, oe, of, og, oh, oi, oj, ok, ol, om, on, oo] = out;
         // SAFETY: the columns are lent whole and apart, those of results from pointers that may be written.
@@ -325,6 +362,8 @@ mod port {
                 g.1,
                 h.0,
                 h.1,
+                raw.marks.as_ptr(),
+                raw.marks.len(),
                 i.0,
                 i.1,
                 j.0,
@@ -357,6 +396,8 @@ mod port {
                 og.1,
                 oh.0,
                 oh.1,
+                out_mark,
+                out_marks,
                 oi.0,
                 oi.1,
                 oj.0,
@@ -379,17 +420,19 @@ mod port {
 
     impl Rooms {
         /// Of the given lengths, filled with numbers of every kind.
-        pub fn new(lengths: [usize; 16], random: &mut Random) -> Self {
+        pub fn new(lengths: [usize; 17], random: &mut Random) -> Self {
             let mut place = 0;
             let numbers = [(); 15].map(|()| {
                 place += 1;
                 (0..lengths[place - 1] + PAST).map(|_| f32::from_bits(random.bits() as u32)).collect()
             });
-            Self { numbers, units: (0..lengths[UNITS] + PAST).map(|_| random.bits() as u8).collect(), lengths }
+            let [units, marks] =
+                [UNITS, MARKS].map(|place| (0..lengths[place] + PAST).map(|_| random.bits() as u8).collect());
+            Self { numbers, units, marks, lengths }
         }
 
-        fn bits(&self) -> (Vec<u64>, &[u8]) {
-            (self.numbers.iter().flatten().map(|number| number.answer()).collect(), &self.units)
+        fn bits(&self) -> (Vec<u64>, &[u8], &[u8]) {
+            (self.numbers.iter().flatten().map(|number| number.answer()).collect(), &self.units, &self.marks)
         }
 
         fn lay(&mut self, column: usize, values: impl Iterator<Item = f32>) {
@@ -400,13 +443,14 @@ mod port {
     /// The first column of each list of pairs, in the order of `Lists`.
     const PAIRS: [usize; 6] = [TEMPOS, STOPS, DELAYS, WARPS, SCROLLS, FAKES];
 
-    fn counts(lists: &Lists) -> [usize; 16] {
-        let mut counts = [0; 16];
+    fn counts(lists: &Lists) -> [usize; 17] {
+        let mut counts = [0; 17];
         for (list, column) in lists.pairs.iter().zip(PAIRS) {
             counts[column..column + 2].fill(list.len());
         }
         counts[SPEEDS..SPEEDS + 3].fill(lists.speeds.len());
         counts[UNITS] = lists.speeds.len();
+        counts[MARKS] = lists.marks.len();
         counts
     }
 
@@ -439,6 +483,7 @@ mod port {
         rooms.lay(SPEEDS + 1, lists.speeds.iter().map(|entry| entry.1));
         rooms.lay(SPEEDS + 2, lists.speeds.iter().map(|entry| entry.2));
         lists.speeds.iter().enumerate().for_each(|(place, entry)| rooms.units[place] = entry.3);
+        rooms.marks[..lists.marks.len()].copy_from_slice(&lists.marks);
         let [tempos, stops, delays, warps, scrolls, fakes] = lists.pairs.each_ref().map(Vec::len);
         let Lists { offset, moved, .. } = *lists;
         Assembled { number: 0, tempos, stops, delays, warps, speeds: lists.speeds.len(), scrolls, fakes, offset, moved }
@@ -485,6 +530,7 @@ mod port {
                     raw.numbers[list + 1] = values;
                 }
             }
+            raw.marks = warp_marks::marks(raw.numbers[WARPS].len(), random);
             raw
         }
 
@@ -494,6 +540,7 @@ mod port {
                 self.numbers[list].reverse();
                 self.numbers[list + 1].reverse();
             }
+            self.marks.reverse();
         }
     }
 
@@ -526,6 +573,7 @@ mod port {
         fill(FAKES, fakes, &|random, _| 0.25 + random.part());
         raw.numbers[SPEEDS + 2] = (0..speeds).map(|place| place as f64 * 0.5).collect();
         raw.units = vec![0; speeds];
+        raw.marks = vec![0; warps];
         raw
     }
 
@@ -535,15 +583,15 @@ mod port {
         for turn in 0..work.lists() {
             let raw = Raw::by_chance(turn, &mut random);
             let lists = assembled(ssc, &raw, 1_024);
-            let mut lengths = lists.as_ref().map_or([12; 16], counts);
+            let mut lengths = lists.as_ref().map_or([12; 17], counts);
             match random.below(6) {
                 0 => {
-                    let column = random.below(16) as usize;
+                    let column = random.below(17) as usize;
                     lengths[column] = lengths[column].saturating_sub(1);
                 }
-                1 => lengths[random.below(16) as usize] = 0,
+                1 => lengths[random.below(17) as usize] = 0,
                 2 => lengths = lengths.map(|length| length + random.below(5) as usize),
-                3 => lengths = [1_030; 16],
+                3 => lengths = [1_030; 17],
                 _ => (),
             }
             let mut wanted = Rooms::new(lengths, &mut random);

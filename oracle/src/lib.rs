@@ -57,4 +57,6 @@ pub mod tempo_text;
 #[cfg(feature = "port")]
 pub mod tidying;
 pub mod timings;
+#[cfg(feature = "port")]
+pub mod warp_marks;
 pub mod warped;

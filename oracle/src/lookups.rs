@@ -88,12 +88,29 @@ port! {
     fn fake_at_beat_checked(lists: (3); beat: f64) -> Looked = "marrighentu_is_fake_at_beat_checked";
     fn judgable_at_row_checked(lists: (0 1 2 3); row: i32) -> Looked = "marrighentu_is_judgable_at_row_checked";
     fn judgable_at_beat_checked(lists: (0 1 2 3); beat: f64) -> Looked = "marrighentu_is_judgable_at_beat_checked";
-    fn store_raw(lists: (0 1 2 3); rows: *mut i32, rows_len: usize) -> Stored = "marrighentu_build_segment_row_storage";
+    fn store_raw(lists: (0 1 2 3); marks: *const u8, marks_len: usize, rows: *mut i32, rows_len: usize, row_marks: *mut u8, row_marks_len: usize) -> Stored = "marrighentu_build_segment_row_storage";
     fn judge_raw(lists: (0 1 2 3); rows: *const i32, rows_len: usize, out: *mut u8, out_len: usize) -> Outcome = "marrighentu_judgable_rows";
 }
 
+/// All warps written, and room for their marks.
 pub fn store(lists: &Lists, rows: &mut [i32]) -> Stored {
-    store_raw(lists, rows.as_mut_ptr(), rows.len())
+    let warps = lists.columns[2].0.len();
+    store_marked(lists, &WRITTEN[..warps.min(WRITTEN.len())], rows, &mut [0; 1_024])
+}
+
+/// Longer than a list may be.
+const WRITTEN: [u8; 1_100] = [0; 1_100];
+
+pub fn store_marked(lists: &Lists, marks: &[u8], rows: &mut [i32], row_marks: &mut [u8]) -> Stored {
+    store_raw(
+        lists,
+        marks.as_ptr(),
+        marks.len(),
+        rows.as_mut_ptr(),
+        rows.len(),
+        row_marks.as_mut_ptr(),
+        row_marks.len(),
+    )
 }
 
 pub fn judge(lists: &Lists, rows: &[i32], out: &mut [u8]) -> Outcome {
@@ -143,7 +160,7 @@ impl Lists {
     }
 
     /// Lists in any order, one in five of them spoiled.
-    fn any(turn: u64, random: &mut Random) -> Self {
+    pub fn any(turn: u64, random: &mut Random) -> Self {
         let mut lists = Self::default();
         for column in &mut lists.columns {
             let length = if random.below(3) == 0 { lists::length(turn, random) } else { random.below(12) as usize };
@@ -158,7 +175,7 @@ impl Lists {
     }
 
     /// Lists whose rows rise, near each other: pauses on the rows of warps, lengths of every sign; a few with a beat that repeats.
-    fn near(random: &mut Random) -> Self {
+    pub fn near(random: &mut Random) -> Self {
         let mut lists = Self::default();
         let start = match random.below(4) {
             0 => -LAST_ROW,

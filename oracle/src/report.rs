@@ -99,6 +99,8 @@ fn columns(input: &Input) -> Raw {
             }
         }
     }
+    // the form has no marks
+    raw.marks = vec![0; input.lists[WORDS.iter().position(|word| *word == "warp").unwrap()].len()];
     raw
 }
 
@@ -116,8 +118,18 @@ fn written(lists: &Lists) -> String {
     let (beats, lengths): (Vec<f32>, Vec<f32>) = warps.iter().copied().unzip();
     let warped = warped::count(&warped::spans(&beats, &lengths));
     let front = format!("answer=0\noffset={}\n", bits(lists.offset));
-    let before = pairs("bpm", tempos) + &pairs("stop", stops) + &pairs("delay", delays) + &pairs("warp", warps);
-    front + &before + &speeds + &pairs("scroll", scrolls) + &pairs("fake", fakes) + &format!("warped={warped}\nmoved={}\n", lists.moved.total())
+    let marked: String = warps
+        .iter()
+        .zip(&lists.marks)
+        .map(|((beat, length), mark)| format!("warp={},{},{mark}\n", bits(*beat), bits(*length)))
+        .collect();
+    let before = pairs("bpm", tempos) + &pairs("stop", stops) + &pairs("delay", delays) + &marked;
+    front
+        + &before
+        + &speeds
+        + &pairs("scroll", scrolls)
+        + &pairs("fake", fakes)
+        + &format!("warped={warped}\nmoved={}\n", lists.moved.total())
 }
 
 /// The text of an input.

@@ -1,7 +1,7 @@
-//! The comparison of assembly finds counts of entries off the grid that are wrong: calls that are the port's but for one thing each.
+//! The comparison of assembly finds counts of entries off the grid and marks of warps that are wrong: calls that are the port's but for one thing each.
 #![cfg(feature = "port")]
 
-use oracle::assembly::{Assembled, Call, Moved, Raw, Rooms, assemble, compare, off_grid, stays};
+use oracle::assembly::{Assembled, Call, MARKS, Moved, Raw, Rooms, WARPS, assemble, compare, off_grid, stays};
 use oracle::cases::Work;
 
 const WORK: Work = Work { seed: 1, seconds: 0 };
@@ -57,8 +57,8 @@ fn compared_before_narrowing() {
 #[test]
 fn compared_with_the_f64_beat_of_the_row() {
     assert!(
-        different(|ssc, raw, rooms| by_beats(ssc, raw, rooms, |beat| beat
-            != (beat * 48.0).round_ties_even() / 48.0)) > 0
+        different(|ssc, raw, rooms| by_beats(ssc, raw, rooms, |beat| beat != (beat * 48.0).round_ties_even() / 48.0))
+            > 0
     );
 }
 
@@ -118,5 +118,90 @@ fn lengths_counted() {
             let lengths = raw.numbers[oracle::assembly::FAKES + 1].iter().filter(|length| off_grid(**length)).count();
             Moved { fakes: right.moved.fakes + lengths as u32, ..right.moved }
         })) > 0
+    );
+}
+
+// ---- marks
+
+/// The port's answer, with another mark for each warp that it wrote: by its place, its row and its own mark.
+fn marked(ssc: bool, raw: &Raw, rooms: &mut Rooms, mark: impl Fn(usize, f64, u8) -> u8) -> Assembled {
+    let assembled = assemble(ssc, raw, rooms);
+    if assembled.number == 0 {
+        for place in 0..assembled.warps {
+            let row = (f64::from(rooms.numbers[WARPS][place]) * 48.0).round_ties_even();
+            rooms.marks[place] = mark(place, row, rooms.marks[place]);
+        }
+    }
+    assembled
+}
+
+/// The mark that is given for the last warp on a row.
+fn given_mark(raw: &Raw, row: f64) -> Option<u8> {
+    let on_row = |beat: f64| (f64::from(beat as f32) * 48.0).round_ties_even() == row;
+    raw.numbers[WARPS].iter().zip(&raw.marks).filter(|(beat, _)| on_row(**beat)).map(|(_, mark)| *mark).next_back()
+}
+
+#[test]
+fn marks_as_they_are() {
+    assert_eq!(different(|ssc, raw, rooms| marked(ssc, raw, rooms, |_, _, mark| mark)), 0);
+}
+
+#[test]
+fn the_given_mark_where_a_made_warp_wins() {
+    assert!(
+        different(|ssc, raw, rooms| marked(ssc, raw, rooms, |_, row, mark| given_mark(raw, row).unwrap_or(mark))) > 0
+    );
+}
+
+#[test]
+fn marks_in_raw_order() {
+    assert!(
+        different(|ssc, raw, rooms| marked(ssc, raw, rooms, |place, _, _| raw.marks.get(place).copied().unwrap_or(1)))
+            > 0
+    );
+}
+
+#[test]
+fn made_warps_marked_as_written() {
+    assert!(
+        different(|ssc, raw, rooms| marked(ssc, raw, rooms, |_, row, mark| given_mark(raw, row).map_or(0, |_| mark)))
+            > 0
+    );
+}
+
+#[test]
+fn a_mark_of_two_taken() {
+    assert!(
+        different(|ssc, raw, rooms| {
+            let marks = raw.marks.iter().map(|mark| (*mark).min(1)).collect();
+            assemble(ssc, &Raw { marks, ..raw.clone() }, rooms)
+        }) > 0
+    );
+}
+
+#[test]
+fn marks_of_another_length_taken() {
+    assert!(
+        different(|ssc, raw, rooms| {
+            let mut marks = raw.marks.clone();
+            marks.resize(raw.numbers[WARPS].len(), 0);
+            assemble(ssc, &Raw { marks, ..raw.clone() }, rooms)
+        }) > 0
+    );
+}
+
+#[test]
+fn the_room_for_marks_not_counted() {
+    assert!(
+        different(|ssc, raw, rooms| {
+            let given = rooms.lengths[MARKS];
+            let mut roomy = rooms.clone();
+            roomy.marks.resize(1_030, 0);
+            roomy.lengths[MARKS] = 1_030;
+            let assembled = assemble(ssc, raw, &mut roomy);
+            (rooms.numbers, rooms.units) = (roomy.numbers, roomy.units);
+            rooms.marks[..given].copy_from_slice(&roomy.marks[..given]);
+            assembled
+        }) > 0
     );
 }

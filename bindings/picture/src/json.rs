@@ -206,6 +206,13 @@ fn mended(mended: &Mended) -> Json {
 fn timing(seen: &Seen) -> Vec<(&'static str, Json)> {
     let timing = &seen.timing;
     let speeds = timing.speeds().iter().map(|speed| Json::Fields(speed_fields(speed)));
+    let warps = timing.marked_warps().map(|warp| {
+        Json::Fields(vec![
+            ("beat", Json::number(warp.beat)),
+            ("beats", Json::number(warp.length)),
+            ("made", Json::Truth(warp.made)),
+        ])
+    });
     let asked = seen.asked.iter().map(|asked| {
         Json::Fields(vec![
             ("beat", Json::number(asked.beat)),
@@ -227,7 +234,7 @@ fn timing(seen: &Seen) -> Vec<(&'static str, Json)> {
         ("tempo_text", timing.tempo_text().map_or(Json::Null, Json::text)),
         ("stops", columns(timing.stops(), "seconds")),
         ("delays", columns(timing.delays(), "seconds")),
-        ("warps", columns(timing.warps(), "beats")),
+        ("warps", Json::List(warps.collect())),
         ("warped_rows", Json::Number(timing.warped_rows().to_string())),
         ("speeds", Json::List(speeds.collect())),
         ("scrolls", columns(timing.scrolls(), "times")),

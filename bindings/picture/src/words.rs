@@ -43,7 +43,10 @@ fn lists(out: &mut String, timing: &Timing) {
     }
     list(out, "stop", timing.stops(), "s");
     list(out, "delay", timing.delays(), "s");
-    list(out, "warp", timing.warps(), "beats");
+    for warp in timing.marked_warps() {
+        let from = if warp.made { ", made of a tempo or a stop" } else { "" };
+        let _ = writeln!(out, "warp    beat {} {} beats{from}", warp.beat, warp.length);
+    }
     if !timing.warps().is_empty() {
         let _ = writeln!(out, "warped  {} rows", timing.warped_rows());
     }

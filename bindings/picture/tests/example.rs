@@ -207,7 +207,11 @@ fn pictures_have_what_they_are_for() {
     has(1, ">drawn at beat</text>");
     has(1, "; -1 times as far apart from there on");
     // values that can be read among more than three hundred tempos
-    has(2, "338 tempos, 42 stops, 3 warps");
+    has(2, "338 tempos, 42 stops, 3 made warps");
+    // made warps apart from written ones, of which the other charts have some
+    has(2, ">made warp</text>");
+    has(2, " beats, made of a tempo or a stop</title>");
+    assert!(!all[1].1.contains("made warp") && all[1].1.contains(">warp</text>"));
     let values =
         texts(&all[2].1).iter().filter(|shown| shown.text.parse::<f64>().is_ok_and(|value| value > 60.0)).count();
     assert!(values > 30, "{values}");

@@ -206,6 +206,7 @@ calls! {
         list stops: f64,
         list delays: f64,
         list warps: f64,
+        slice warp_marks: u8,
         slice speed_beats: f64,
         slice speed_ratios: f64,
         slice speed_delays: f64,
@@ -216,6 +217,7 @@ calls! {
         rooms out_stops: f32,
         rooms out_delays: f32,
         rooms out_warps: f32,
+        room out_warp_marks: u8,
         room out_speed_beats: f32,
         room out_speed_ratios: f32,
         room out_speed_delays: f32,
@@ -331,7 +333,9 @@ calls! {
         list delays: f32,
         list warps: f32,
         list fakes: f32,
+        slice warp_marks: u8,
         room rows: i32,
+        room row_marks: u8,
     ) -> Stored = "marrighentu_build_segment_row_storage";
     fn check_lookups(list stops: f32, list delays: f32, list warps: f32, list fakes: f32) -> u32 = "marrighentu_check_lookups";
     fn warped_rows(list warps: f32) -> u64 = "marrighentu_warped_rows";

@@ -35,7 +35,7 @@ mod timing;
 pub use by_time::BeatInfo;
 pub use cursor::{Answer, Cursor, CursorState};
 pub use events::{BenchAnswer, Event, EventKind};
-pub use lists::{Chart, Columns, Entries, Format, Lists, Speed, SpeedUnit};
+pub use lists::{Chart, Columns, Entries, Format, Lists, Speed, SpeedUnit, Warp};
 pub use mend::{Fate, Mended, mend_scrolls, mend_speeds};
 pub use moved::{Moved, Quantized, quantize};
 pub use refusal::{NoRefusal, Refusal};

@@ -57,6 +57,22 @@ pub struct Speed<Number> {
     pub unit: SpeedUnit,
 }
 
+/// A warp of a timing, and where it came from.
+#[derive(Clone, Copy, Debug, PartialEq)]
+pub struct Warp {
+    /// Where it begins.
+    pub beat: f32,
+    /// How many beats are skipped.
+    pub length: f32,
+    /// Whether SM processing made it of a negative or fast tempo or of a negative stop; else the charter wrote it.
+    pub made: bool,
+}
+
+/// Marks as the calls take them, one for each warp: those that are given, or, where none is, all written.
+pub(crate) fn marks(made: &[bool], warps: usize) -> Vec<u8> {
+    if made.is_empty() { vec![0; warps] } else { made.iter().map(|made| u8::from(*made)).collect() }
+}
+
 /// A chart's lists as it gives them: a beat and a value for each entry, in any order.
 ///
 /// Tempos are beats a minute; stops and delays seconds; warps and fakes beats.
@@ -70,6 +86,8 @@ pub struct Chart {
     pub delays: Vec<(f64, f64)>,
     /// Beats that are skipped.
     pub warps: Vec<(f64, f64)>,
+    /// Of each warp whether it was made of a tempo or a stop, and not written. A chart whose warps are all written leaves this empty.
+    pub warps_made: Vec<bool>,
     /// How fast notes come.
     pub speeds: Vec<Speed<f64>>,
     /// How far apart notes are drawn; 1 is as usual.
@@ -168,6 +186,8 @@ pub struct Lists {
     pub delays: Vec<(f32, f32)>,
     /// Beats that are skipped.
     pub warps: Vec<(f32, f32)>,
+    /// Of each warp whether it was made, and not written; empty where all are written.
+    pub warps_made: Vec<bool>,
     /// How fast notes come.
     pub speeds: Vec<Speed<f32>>,
     /// How far apart notes are drawn; 1 is as usual.

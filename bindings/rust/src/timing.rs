@@ -3,7 +3,7 @@
 use crate::TEMPO_TEXT_BYTES;
 use crate::cursor::Cursor;
 use crate::ffi;
-use crate::lists::{Chart, Columns, Format, Lists, Speed, SpeedUnit};
+use crate::lists::{Chart, Columns, Format, Lists, Speed, SpeedUnit, Warp, marks};
 use crate::moved::Moved;
 use crate::refusal::{Refusal, taken};
 use std::sync::atomic::{AtomicU32, Ordering};
@@ -20,6 +20,8 @@ pub struct Timing {
     pub(crate) stops: Columns<f32>,
     pub(crate) delays: Columns<f32>,
     pub(crate) warps: Columns<f32>,
+    /// of each warp 1 where it was made, else 0
+    warp_marks: Vec<u8>,
     speeds: Vec<Speed<f32>>,
     scrolls: Columns<f32>,
     pub(crate) fakes: Columns<f32>,
@@ -59,6 +61,7 @@ fn next_number() -> u32 {
 pub struct RowStore {
     rows: Vec<i32>,
     ends: [usize; 4],
+    warps_made: Vec<bool>,
 }
 
 impl RowStore {
@@ -83,6 +86,12 @@ impl RowStore {
     #[must_use]
     pub fn warps(&self) -> &[i32] {
         self.part(2)
+    }
+
+    /// Of each of these rows whether its warp was made, and not written.
+    #[must_use]
+    pub fn warps_made(&self) -> &[bool] {
+        &self.warps_made
     }
 
     /// The row of each fake, rising.
@@ -116,6 +125,7 @@ impl Timing {
         let stops = Columns::of(&chart.stops);
         let delays = Columns::of(&chart.delays);
         let warps = Columns::of(&chart.warps);
+        let warp_marks = marks(&chart.warps_made, chart.warps.len());
         let scrolls = Columns::of(&chart.scrolls);
         let fakes = Columns::of(&chart.fakes);
         let speed_beats: Vec<f64> = chart.speeds.iter().map(|speed| speed.beat).collect();
@@ -128,13 +138,14 @@ impl Timing {
         let [mut out_tempos, mut out_stops, mut out_delays, mut out_warps, mut out_scrolls, mut out_fakes] =
             std::array::from_fn(|_| room());
         let [mut out_beats, mut out_ratios, mut out_spans] = std::array::from_fn(|_| vec![0.0f32; MOST_ENTRIES]);
-        let mut out_units = vec![0u8; MOST_ENTRIES];
+        let (mut out_units, mut out_marks) = (vec![0u8; MOST_ENTRIES], vec![0u8; MOST_ENTRIES]);
         let made = ffi::compute_timing_segments(
             format.number(),
             &tempos,
             &stops,
             &delays,
             &warps,
+            &warp_marks,
             &speed_beats,
             &speed_ratios,
             &speed_delays,
@@ -145,6 +156,7 @@ impl Timing {
             &mut out_stops,
             &mut out_delays,
             &mut out_warps,
+            &mut out_marks,
             &mut out_beats,
             &mut out_ratios,
             &mut out_spans,
@@ -170,6 +182,7 @@ impl Timing {
             stops: front(out_stops, made.stops),
             delays: front(out_delays, made.delays),
             warps: front(out_warps, made.warps),
+            warp_marks: out_marks[..made.warps].to_vec(),
             speeds,
             scrolls: front(out_scrolls, made.scrolls),
             fakes: front(out_fakes, made.fakes),
@@ -187,13 +200,15 @@ impl Timing {
     ///
     /// # Errors
     /// What the clock or the lookups refuse: lists that are too long, numbers beyond their limits, rows that do not rise strictly, at f64
-    /// and for stops, delays, warps and fakes at f32 too, a first tempo that is not at beat 0. Scrolls and speeds are kept as they are given.
+    /// and for stops, delays, warps and fakes at f32 too, a first tempo that is not at beat 0. Scrolls and speeds are kept as they are given. Where it is said of warps
+    /// which were made, it is said of each, or the lists are refused as [`Refusal::Uneven`].
     pub fn from_lists(lists: &Lists, offset: f64, global_offset: f64) -> Result<Timing, Refusal> {
         Timing {
             tempos: Columns::of(&lists.tempos),
             stops: Columns::of(&lists.stops),
             delays: Columns::of(&lists.delays),
             warps: Columns::of(&lists.warps),
+            warp_marks: marks(&lists.warps_made, lists.warps.len()),
             speeds: lists.speeds.clone(),
             scrolls: Columns::of(&lists.scrolls),
             fakes: Columns::of(&lists.fakes),
@@ -212,7 +227,8 @@ impl Timing {
         let made = ffi::make_mark(&self.tempos, &self.stops, &self.delays, &self.warps, self.offset, self.global);
         self.mark = made.mark;
         let lookups = ffi::check_lookups(&self.stops, &self.delays, &self.warps, &self.fakes);
-        let lowest = [made.number, lookups].into_iter().filter(|number| *number != 0).min();
+        let uneven = if self.warp_marks.len() == self.warps.len() { 0 } else { Refusal::Uneven as u32 };
+        let lowest = [made.number, lookups, uneven].into_iter().filter(|number| *number != 0).min();
         let mut shown = vec![0.0; self.scrolls.len()];
         self.shown = (ffi::build_scroll_prefix(&self.scrolls, &mut shown).number == 0).then_some(shown);
         taken(lowest.unwrap_or(0), self)
@@ -240,6 +256,23 @@ impl Timing {
     #[must_use]
     pub fn warps(&self) -> &Columns<f32> {
         &self.warps
+    }
+
+    /// The warps, each with where it came from.
+    ///
+    /// ```
+    /// use marrighentu::{Chart, Format, Timing, Warp};
+    ///
+    /// // a stop below zero is a warp in SM: where one is written on its row, the made one counts
+    /// let chart = Chart { stops: vec![(4.0, -1.0)], warps: vec![(4.0, 1.0), (8.0, 1.0)], ..Chart::default() };
+    /// let timing = Timing::assemble(Format::Sm, &chart, 0.0, 0.0)?;
+    /// let warps = [Warp { beat: 4.0, length: 1.0, made: true }, Warp { beat: 8.0, length: 1.0, made: false }];
+    /// assert_eq!(timing.marked_warps().collect::<Vec<_>>(), warps);
+    /// # Ok::<(), marrighentu::Refusal>(())
+    /// ```
+    pub fn marked_warps(&self) -> impl Iterator<Item = Warp> + '_ {
+        let made = self.warp_marks.iter().map(|mark| *mark != 0);
+        self.warps.iter().zip(made).map(|((beat, length), made)| Warp { beat, length, made })
     }
 
     /// The speeds.
@@ -277,6 +310,7 @@ impl Timing {
             stops: self.stops.iter().collect(),
             delays: self.delays.iter().collect(),
             warps: self.warps.iter().collect(),
+            warps_made: self.warp_marks.iter().map(|mark| *mark != 0).collect(),
             speeds: self.speeds.clone(),
             scrolls: self.scrolls.iter().collect(),
             fakes: self.fakes.iter().collect(),
@@ -517,8 +551,16 @@ impl Timing {
     /// None for lists that [`assemble`](Timing::assemble) made.
     pub fn row_store(&self) -> Result<RowStore, Refusal> {
         let room = self.stops.len() + self.delays.len() + self.warps.len() + self.fakes.len();
-        let mut rows = vec![0; room];
-        let stored = ffi::build_segment_row_storage(&self.stops, &self.delays, &self.warps, &self.fakes, &mut rows);
+        let (mut rows, mut row_marks) = (vec![0; room], vec![0; self.warps.len()]);
+        let stored = ffi::build_segment_row_storage(
+            &self.stops,
+            &self.delays,
+            &self.warps,
+            &self.fakes,
+            &self.warp_marks,
+            &mut rows,
+            &mut row_marks,
+        );
         taken(stored.number, ())?;
         let mut end = 0;
         let ends = [stored.stops, stored.delays, stored.warps, stored.fakes].map(|count| {
@@ -526,7 +568,8 @@ impl Timing {
             end
         });
         rows.truncate(end);
-        Ok(RowStore { rows, ends })
+        row_marks.truncate(stored.warps);
+        Ok(RowStore { rows, ends, warps_made: row_marks.into_iter().map(|mark| mark != 0).collect() })
     }
 
     /// The stops that an SM file would need to play this timing without delays and warps: a beat and seconds each.
@@ -574,6 +617,35 @@ mod tests {
         // two rows for the clock, one for the lookups
         let warps = vec![(41_666.74, 1.0), (41_666.75, 1.0)];
         assert_eq!(made(Lists { warps, ..Lists::default() }), Err(Refusal::NotRising));
+    }
+
+    /// Marks go through the lists and back, and to the row store; a made warp wins its row, and a list of marks that is too short makes no timing.
+    #[test]
+    fn warps_keep_where_they_came_from() {
+        let chart = Chart {
+            stops: vec![(4.0, -1.0)],
+            warps: vec![(8.0, 1.0), (4.0, 3.0), (0.0, 0.5)],
+            warps_made: vec![true, false, false],
+            ..Chart::default()
+        };
+        let timing = Timing::assemble(Format::Sm, &chart, 0.0, 0.0).unwrap();
+        let marked = |timing: &Timing| timing.marked_warps().map(|warp| (warp.beat, warp.made)).collect::<Vec<_>>();
+        assert_eq!(marked(&timing), [(0.0, false), (4.0, true), (8.0, true)]);
+        let store = timing.row_store().unwrap();
+        assert_eq!((store.warps(), store.warps_made()), (&[0, 192, 384][..], &[false, true, true][..]));
+        let again = Timing::from_lists(&timing.lists(), timing.offset(), 0.0).unwrap();
+        assert_eq!(marked(&again), marked(&timing));
+        let unmarked = Lists { warps_made: vec![], ..timing.lists() };
+        assert_eq!(
+            marked(&Timing::from_lists(&unmarked, 0.0, 0.0).unwrap()),
+            [(0.0, false), (4.0, false), (8.0, false)]
+        );
+        let short = Lists { warps_made: vec![true], ..timing.lists() };
+        assert_eq!(Timing::from_lists(&short, 0.0, 0.0), Err(Refusal::Uneven));
+        assert_eq!(
+            Timing::assemble(Format::Sm, &Chart { warps_made: vec![true], ..chart }, 0.0, 0.0),
+            Err(Refusal::Uneven)
+        );
     }
 
     #[test]

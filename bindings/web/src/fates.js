@@ -3,13 +3,7 @@
 (function (root) {
     'use strict';
 
-    const { text: { shown, shownF64 }, processSm, listWords, mendWords } = root.Marrighentu;
-
-    // The rows on which SM made a warp. A made warp wins its row, so that a warp there is a made one.
-    function madeRows(engine, read) {
-        if (read.format !== 'sm') return new Set();
-        return new Set(rowsOf(engine, processSm(engine, read.lists).warps.map(({ beat }) => beat)));
-    }
+    const { text: { shown, shownF64 }, listWords, mendWords } = root.Marrighentu;
 
     const rowsOf = (engine, beats) => engine.each_beat_to_note_row({ beats, rows: beats.length }).rows;
 
@@ -79,14 +73,13 @@
         return ['gone', 'not in the tidy list'];
     }
 
-    // For each list its raw entries in the order of the text, with { row, to, moved, fate, words }; and its tidy entries, with { row }, warps with { made }.
+    // For each list its raw entries in the order of the text, with { row, to, moved, fate, words }; and its tidy entries, with { row }.
     // Of lists that were mended the fates are those of mending.
     function fates(engine, read, timing, quantized, mended = {}) {
-        const made = madeRows(engine, read);
         const tidy = {};
         for (const [list, entries] of Object.entries(timing.lists)) {
             const rows = rowsOf(engine, entries.map((entry) => entry.beat));
-            tidy[list] = entries.map((entry, place) => ({ ...entry, row: rows[place], ...(list === 'warps' && { made: made.has(rows[place]) }) }));
+            tidy[list] = entries.map((entry, place) => ({ ...entry, row: rows[place] }));
         }
         const raw = {};
         for (const list of Object.keys(tidy)) raw[list] = fatesOf(engine, read, list, tidy, quantized[list], mended[list]);

@@ -130,12 +130,17 @@
         }
     }
 
-    // The timing of lists that were read. `global` is the machine's offset in seconds.
+    // a warp's mark where it is made; 0 where it is written, as every warp of a file is
+    const MADE = 1;
+
+    // The timing of lists that were read, its warps with { made }. `global` is the machine's offset in seconds.
     function assemble(engine, read, global = 0) {
         const rooms = Object.fromEntries(LISTS.flatMap((list) => Object.keys(COLUMNS[list]).map((column) => [`out_${column}`, MOST_ENTRIES])));
-        const made = engine.compute_timing_segments({ format: FORMATS[read.format], ...columnsOf(read.lists, LISTS), ...rooms });
+        const marks = { warp_marks: new Uint8Array(read.lists.warps.length), out_warp_marks: MOST_ENTRIES };
+        const made = engine.compute_timing_segments({ format: FORMATS[read.format], ...columnsOf(read.lists, LISTS), ...marks, ...rooms });
         if (made.number !== 0) return { number: made.number, timing: null };
         const lists = Object.fromEntries(LISTS.map((list) => [list, entriesOf(made, list, made[list])]));
+        lists.warps.forEach((warp, place) => Object.assign(warp, { made: made.out_warp_marks[place] === MADE }));
         const timing = new Timing(engine, lists, read.offset + made.offset, global, made.moved);
         const number = timing.number();
         return { number, timing: number === 0 ? timing : null };

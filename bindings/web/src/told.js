@@ -1,4 +1,4 @@
-// What is seen as JSON, in the form and the digits of `chart-picture --json --pass-over --events --notes`; and besides it of each warp whether it was made.
+// What is seen as JSON, in the form and the digits of `chart-picture --json --pass-over --events --notes`.
 (function (root) {
     'use strict';
 

@@ -28,13 +28,14 @@ use Rattle.assembly_speeds.specs.AssembledSpeeds.{assembledSpeeds, speedsRoomNu
 use Rattle.assembly_speeds.proofs.Untested as speeds
 use Rattle.assembly_tempos.specs.declared.AssembledTempos.{AssembledTempos}
 use Rattle.process_raw.specs.LentLists.{ThreeColumns}
-use Rattle.assembly_tempos.specs.AssembledTempos.{verdict, fitNumber, roomsNumber, ListWritten, ThreeLaid}
+use Rattle.assembly_tempos.specs.AssembledTempos.{madeWarps, verdict, fitNumber, roomsNumber, ListWritten, ThreeLaid}
 use Rattle.assembly_tempos.proofs.RowsFit.{fit-number}
 use Rattle.chart.specs.declared.TimingFormat.{TimingFormat}
-use Rattle.chart.specs.ChartColumns.{ListColumns, SpeedColumns, ChartColumns}
+use Rattle.chart.specs.ChartColumns.{ListColumns, SpeedColumns, ChartColumns, ChartRoom}
+use Rattle.assembly_marks.specs.LentMarks.{MarkColumns, withMade}
 use Rattle.assembly.specs.declared.Assembled.{Assembled}
 use Rattle.assembly.specs.inside.ProcessedPart.{processedPart}
-use Rattle.assembly.specs.Assembly.{listTests, assembledDelays, assembledFakes, othersNumber, othersLater, sevenNumber, processedTogether, processedChart, roomOf, movedBeats, noneMoved, SpeedsWritten, Assembles}
+use Rattle.assembly.specs.Assembly.{listTests, assembledDelays, assembledFakes, othersNumber, othersLater, sevenNumber, sevenWithMarks, processedTogether, processedChart, roomOf, movedBeats, noneMoved, SpeedsWritten, Assembles}
 use Rattle.assembly_rows.specs.declared.Meaning.{Meaning}
 use Rattle.assembly_rows.specs.declared.Meaning.the-variants.{Lengths, Values}
 
@@ -66,16 +67,23 @@ none-refused raw warps most later h = go (eqb raw 0) (leb warps (min most 1024))
     go false u a b k = let z : _≡_ {A = Bool} true false = sym (eq-eqb raw 0 k) ∙ a in let w : _≡_ {A = ℕ} 0 1 = cc in absurd (omega arith)
 
 -- what comes later counts only where the raw lists are taken
-pub same-later : {raw later later′ most : ℕ} {lists : ThreeLists} {outcome : AssembledTempos} {old new : ThreeColumns} → (raw ≡ 0 → later ≡ later′)
-    → ThreeLaid raw later most lists outcome old new
-    → ThreeLaid raw later′ most lists outcome old new
+pub same-later : {raw later later′ most : ℕ} {lists : ThreeLists} {marks : MarkColumns} {outcome : AssembledTempos} {old new : ThreeColumns} {left : List ℕ} → (raw ≡ 0 → later ≡ later′)
+    → ThreeLaid raw later most lists marks outcome old new left
+    → ThreeLaid raw later′ most lists marks outcome old new left
 unfolding verdict
-same-later {raw} {later} {later′} {most} {lists} {outcome} {old} h p =
-    record { number = p .number ∙ go (eqb raw 0) (eqb-true raw 0); temposLaid = p .temposLaid; stopsLaid = p .stopsLaid; warpsLaid = p .warpsLaid; offsetIs = p .offsetIs; warpsMoved = p .warpsMoved }
+same-later {raw} {later} {later′} {most} {lists} {marks} {outcome} {old} h p = record {
+  number = p .number ∙ go (eqb raw 0) (eqb-true raw 0);
+  temposLaid = p .temposLaid;
+  stopsLaid = p .stopsLaid;
+  warpsLaid = p .warpsLaid;
+  marksLaid = p .marksLaid;
+  offsetIs = p .offsetIs;
+  warpsMoved = p .warpsMoved;
+}
   where
     go : (t : Bool) → (t ≡ true → raw ≡ 0)
-        → pick t (pick (leb (length (lists .warps)) (min most 1024)) (lower later (roomsNumber lists old)) 1) raw
-        ≡ pick t (pick (leb (length (lists .warps)) (min most 1024)) (lower later′ (roomsNumber lists old)) 1) raw
+        → pick t (pick (leb (length (lists .warps)) (min most 1024)) (lower later (roomsNumber lists old (length (marks .room)))) 1) raw
+        ≡ pick t (pick (leb (length (lists .warps)) (min most 1024)) (lower later′ (roomsNumber lists old (length (marks .room)))) 1) raw
     go true e = rw (h (e refl))
     go false e = refl
 
@@ -98,6 +106,10 @@ module _ (delay : ListColumns) (speed : SpeedColumns) (scroll fake : ListColumns
       let two = lower-none (lower d s) c (one .0) in
       let three = lower-none d s (two .0) in
       record { delays = three .0; speeds = three .1; scrolls = two .1; fakes = one .1 }
+
+  -- rooms that are the same
+  pub same-rooms : {a a′ b b′ c c′ d d′ : ℕ} → a ≡ a′ → b ≡ b′ → c ≡ c′ → d ≡ d′ → othersLater delay speed scroll fake a b c d ≡ othersLater delay speed scroll fake a′ b′ c′ d′
+  same-rooms p q r s = rw (p, q, r, s)
 
   module _ (delayRoom speedRoom scrollRoom fakeRoom : ℕ) where
     pub later-is : othersNumber delay speed scroll fake ≡ 0
@@ -147,48 +159,54 @@ rows-laid meaning beats values taken fit q = list-of-pair (rows-pair meaning bea
 
 -- ---- what tempos, stops and warps answer is the number of all
 
-module _ (three other′ later′ : ℕ) {other later most : ℕ} {lists : ThreeLists} {outcome : AssembledTempos} {old new : ThreeColumns} where
+module _ (three other′ marked later′ : ℕ) {other later most : ℕ} {lists : ThreeLists} {marks : MarkColumns} {outcome : AssembledTempos} {old new : ThreeColumns} {left : List ℕ} where
   pub as-asked : other ≡ other′ → (other′ ≡ 0 → later ≡ later′)
-      → ThreeLaid (lower three other) later most lists outcome old new
-      → ThreeLaid (lower three other′) later′ most lists outcome old new
-  as-asked e h p = same-later (λ z. h (lower-none three other′ z .1)) (rw e at p)
+      → ThreeLaid (lower (lower three other) marked) later most lists marks outcome old new left
+      → ThreeLaid (lower (lower three other′) marked) later′ most lists marks outcome old new left
+  as-asked e h p = same-later (λ z. h (lower-none three other′ (lower-none (lower three other′) marked z .0) .1)) (rw e at p)
 
-module _ {raw later most : ℕ} {lists : ThreeLists} {outcome : AssembledTempos} {old new : ThreeColumns}
-    (p : ThreeLaid raw later most lists outcome old new) (taken : outcome .number ≡ 0) where
-  pub taken-part : ThreeLaid raw later most lists (record { number = 0; tempos = outcome .tempos; stops = outcome .stops; warps = outcome .warps; offset = outcome .offset; moved = outcome .moved }) old new
+module _ {raw later most : ℕ} {lists : ThreeLists} {marks : MarkColumns} {outcome : AssembledTempos} {old new : ThreeColumns} {left : List ℕ}
+    (p : ThreeLaid raw later most lists marks outcome old new left) (taken : outcome .number ≡ 0) where
+  pub taken-part : ThreeLaid raw later most lists marks (record { number = 0; tempos = outcome .tempos; stops = outcome .stops; warps = outcome .warps; offset = outcome .offset; moved = outcome .moved }) old new left
   taken-part = record {
     number = sym taken ∙ p .number;
     temposLaid = rw taken at (p .temposLaid);
     stopsLaid = rw taken at (p .stopsLaid);
     warpsLaid = rw taken at (p .warpsLaid);
+    marksLaid = rw taken at (p .marksLaid);
     offsetIs = rw taken at (p .offsetIs);
     warpsMoved = rw taken at (p .warpsMoved);
   }
 
   pub all-passed : (raw ≡ 0) × (later ≡ 0)
   all-passed =
-      let rooms = roomsNumber lists old in
+      let rooms = roomsNumber lists old (length (marks .room)) in
       let passed = none-refused raw (length (lists .warps)) most (lower later rooms) (sym (p .number) ∙ taken) in
       (passed .rawTaken, lower-none later rooms (passed .laterTaken) .0)
 
 -- ---- the call
 
+-- what the other lists answer where they are taken
+abbrev later : ChartColumns → ChartRoom → ℕ
+later raw room = othersLater (raw .delays) (raw .speeds) (raw .scrolls) (raw .fakes) (room .delays) (room .speeds) (room .scrolls) (room .fakes)
+
 -- what tempos, stops and warps leave, and what each other list does
-pub assembles : {most : ℕ} {format : TimingFormat} {raw : ChartColumns} {outcome : Assembled} {old new : ChartColumns}
-    → ThreeLaid (sevenNumber raw) (othersLater (raw .delays) (raw .speeds) (raw .scrolls) (raw .fakes) (roomOf old .delays) (roomOf old .speeds) (roomOf old .scrolls) (roomOf old .fakes)) most (processedChart format raw) (processedPart outcome)
-    (processedTogether old) (processedTogether new)
+pub assembles : {most : ℕ} {format : TimingFormat} {raw : ChartColumns} {marks : MarkColumns} {outcome : Assembled} {old new : ChartColumns} {left : List ℕ}
+    → ThreeLaid (sevenWithMarks raw (marks .given)) (later raw (roomOf old (length (marks .room)))) most (processedChart format raw)
+    (withMade (madeWarps format (processedTogether raw)) marks) (processedPart outcome) (processedTogether old) (processedTogether new) left
     → ListWritten (outcome .number) (assembledDelays (raw .delays .beats) (raw .delays .values)) (outcome .delays) (old .delays) (new .delays)
     → SpeedsWritten (outcome .number) (assembledSpeeds (raw .speeds)) (outcome .speeds) (old .speeds) (new .speeds)
     → ListWritten (outcome .number) (assembledScrolls (raw .scrolls .beats) (raw .scrolls .values)) (outcome .scrolls) (old .scrolls) (new .scrolls)
     → ListWritten (outcome .number) (assembledFakes (raw .fakes .beats) (raw .fakes .values)) (outcome .fakes) (old .fakes) (new .fakes)
     → outcome .moved ≡ pick (eqb (outcome .number) 0) (movedBeats format raw) noneMoved
-    → Assembles most format raw outcome old new
+    → Assembles most format raw marks outcome old new left
 assembles three delays speeds scrolls fakes moved = record {
   numberIs = three .number;
   temposAre = three .temposLaid;
   stopsAre = three .stopsLaid;
   delaysAre = delays;
   warpsAre = three .warpsLaid;
+  marksAre = three .marksLaid;
   speedsAre = speeds;
   scrollsAre = scrolls;
   fakesAre = fakes;

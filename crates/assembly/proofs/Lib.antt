@@ -1,3 +1,4 @@
 pub mod Ends
 pub mod OneOutcome
 pub mod CountsHandedUp
+pub mod WithoutMarks

@@ -1,7 +1,7 @@
 -- Assembly of the seven lists. Definitions only.
-use Prim.Native.Nat.{ℕ, _+_}
+use Prim.Native.Nat.{ℕ, _+_, min}
 use mathlib.Core.Bool.{true, false}
-use mathlib.Core.List.{List}
+use mathlib.Core.List.{List, map}
 use mathlib.Core.Path.{_≡_}
 use lib.Dec.{eqb}
 use lib.ListN.{length}
@@ -20,15 +20,17 @@ use Rattle.chart.specs.ChartColumns.{ListColumns, SpeedColumns, ChartColumns, C
 use Rattle.tidy_speeds_entries.specs.Speed.{SpeedEntry, speedEntries}
 use Rattle.tidy_speeds_entries.specs.LaidSpeeds.{ratioOf, delayOf, unitOf, leastOf}
 use Rattle.tidy_speeds.specs.SpeedTidying.{speedListNumber}
+use Rattle.tidy_warps.specs.Marks.{marksNumber}
 use Rattle.process.specs.ByFormat.{ThreeLists}
 use Rattle.assembly_moved.specs.MovedRaw.{movedRaw}
 use Rattle.assembly_rows.specs.AssembledRows.{changeBy, assembledRows}
+use Rattle.assembly_marks.specs.LentMarks.{MarkColumns, withMade, MarksWritten}
 use Rattle.assembly_scrolls.specs.AssembledScrolls.{assembledScrolls, scrollsRoomNumber}
 use Rattle.assembly_speeds.specs.AssembledSpeeds.{assembledSpeeds, speedsRoomNumber}
 use Rattle.process_raw.specs.LentLists.{ThreeColumns}
 use Rattle.assembly_warps.specs.MergedWarps.{threeNumber, mergedLists}
 use Rattle.process_raw.specs.RawLists.{listRoom}
-use Rattle.assembly_tempos.specs.AssembledTempos.{assembledTempos, assembledStops, assembledWarps, fitNumber, verdict, threeRooms, ListWritten}
+use Rattle.assembly_tempos.specs.AssembledTempos.{assembledTempos, assembledStops, assembledWarps, madeWarps, fitNumber, verdict, threeRooms, ListWritten}
 use Rattle.assembly.specs.declared.Assembled.{Assembled}
 use Rattle.assembly.specs.declared.MovedBeats.{MovedBeats}
 use Rattle.assembly_rows.specs.declared.Meaning.the-variants.{Lengths, Values}
@@ -80,24 +82,28 @@ sevenNumber raw =
     lower (threeNumber (processedTogether raw))
     (othersNumber (raw .delays) (raw .speeds) (raw .scrolls) (raw .fakes))
 
+-- and of the marks of the given warps
+abbrev pub sevenWithMarks : ChartColumns → (marks : List ℕ) → ℕ
+sevenWithMarks raw marks = lower (sevenNumber raw) (marksNumber (length (raw .warps .beats)) marks)
+
 -- 6 or 7: the lowest that any answers as it is written
 abbrev pub laterNumber : TimingFormat → ChartColumns → ChartRoom → ℕ
 laterNumber format raw room =
     lower (othersLater (raw .delays) (raw .speeds) (raw .scrolls) (raw .fakes) (room .delays) (room .speeds) (room .scrolls) (room .fakes))
     (threeRooms (processedChart format raw) (room .tempos) (room .stops) (room .warps))
 
--- The call's number: 1 to 4 for the raw lists; then 1 where the warps given and made are more than asked for, or than a list may have; then 6 or 7;
+-- The call's number: 1 to 4 for the raw lists and the marks; then 1 where the warps given and made are more than asked for, or than a list may have; then 6 or 7;
 -- 0 where all are taken.
-abbrev pub assemblyNumber : (most : ℕ) → TimingFormat → ChartColumns → ChartRoom → ℕ
-assemblyNumber most format raw room = verdict (sevenNumber raw) (length (processedChart format raw .warps)) most (laterNumber format raw room)
+abbrev pub assemblyNumber : (most : ℕ) → TimingFormat → ChartColumns → (marks : List ℕ) → ChartRoom → ℕ
+assemblyNumber most format raw marks room = verdict (sevenWithMarks raw marks) (length (processedChart format raw .warps)) most (laterNumber format raw room)
 
--- a list has room for as many entries as its shortest column
-abbrev pub roomOf : ChartColumns → ChartRoom
-roomOf rooms = record {
+-- a list has room for as many entries as its shortest column, that of the marks among those of the warps
+abbrev pub roomOf : ChartColumns → (markRoom : ℕ) → ChartRoom
+roomOf rooms markRoom = record {
   tempos = listRoom (rooms .tempos);
   stops = listRoom (rooms .stops);
   delays = listRoom (rooms .delays);
-  warps = listRoom (rooms .warps);
+  warps = min (listRoom (rooms .warps)) markRoom;
   speeds = leastOf (length (rooms .speeds .beats)) (length (rooms .speeds .ratios)) (length (rooms .speeds .delays)) (length (rooms .speeds .units));
   scrolls = listRoom (rooms .scrolls);
   fakes = listRoom (rooms .fakes);
@@ -139,14 +145,15 @@ pub record SpeedsWritten (number : ℕ) (result : List SpeedEntry) (count : ℕ)
   pub delaysAre : new .delays ≡ columnLaid delayOf number result (old .delays)
   pub unitsAre : new .units ≡ columnLaid unitOf number result (old .units)
 
--- THE CALL: of a raw chart and the rooms as they were, the one outcome and the rooms as they are left. After a refusal no list has an entry, the
--- offset is 0, and nothing is counted.
-pub record Assembles (most : ℕ) (format : TimingFormat) (raw : ChartColumns) (outcome : Assembled) (old new : ChartColumns) : Type 0 where
-  pub numberIs : outcome .number ≡ assemblyNumber most format raw (roomOf old)
+-- THE CALL: of a raw chart, the marks of its warps, and the rooms as they were, the one outcome and the rooms as they are left. After a refusal no list has an
+-- entry, the offset is 0, and nothing is counted.
+pub record Assembles (most : ℕ) (format : TimingFormat) (raw : ChartColumns) (marks : MarkColumns) (outcome : Assembled) (old new : ChartColumns) (marksLeft : List ℕ) : Type 0 where
+  pub numberIs : outcome .number ≡ assemblyNumber most format raw (marks .given) (roomOf old (length (marks .room)))
   pub temposAre : ListWritten (outcome .number) (assembledTempos (processedChart format raw)) (outcome .tempos) (old .tempos) (new .tempos)
   pub stopsAre : ListWritten (outcome .number) (assembledStops (processedChart format raw)) (outcome .stops) (old .stops) (new .stops)
   pub delaysAre : ListWritten (outcome .number) (assembledDelays (raw .delays .beats) (raw .delays .values)) (outcome .delays) (old .delays) (new .delays)
   pub warpsAre : ListWritten (outcome .number) (assembledWarps (processedChart format raw)) (outcome .warps) (old .warps) (new .warps)
+  pub marksAre : MarksWritten (outcome .number) (map first (processedChart format raw .warps)) (withMade (madeWarps format (processedTogether raw)) marks) marksLeft
   pub speedsAre : SpeedsWritten (outcome .number) (assembledSpeeds (raw .speeds)) (outcome .speeds) (old .speeds) (new .speeds)
   pub scrollsAre : ListWritten (outcome .number) (assembledScrolls (raw .scrolls .beats) (raw .scrolls .values)) (outcome .scrolls) (old .scrolls) (new .scrolls)
   pub fakesAre : ListWritten (outcome .number) (assembledFakes (raw .fakes .beats) (raw .fakes .values)) (outcome .fakes) (old .fakes) (new .fakes)

@@ -4,6 +4,7 @@ use chart::TimingFormat;
 use limits::Kind;
 ghost use mathlib.Core.Path.{_≡_};
 ghost use Rattle.chart.specs.ChartColumns.{listColumns, speedColumns, lentColumns, lentSpeeds, LentChart, before, after};
+ghost use Rattle.assembly_marks.specs.LentMarks.{lentMarks};
 ghost use Rattle.assembly.specs.Assembly.{othersNumber, othersLater, movedTotal, Assembles};
 
 // Of each list, how many of its raw entries were off the grid.
@@ -137,9 +138,9 @@ fn others_later(
 
 // ---- the call
 
-// The seven lists of a chart, tidied and on rows: tempos and stops processed by format, warps that they make behind the given ones. All tests come
-// before anything is written: 1 to 4 for the raw lists, 1 where the warps given and made are more than `most_warps` or than a list may have, 6 for scrolls
-// or speeds, 7 for a room.
+// The seven lists of a chart, tidied and on rows: tempos and stops processed by format, warps that they make behind the given ones. Each warp has its mark, 0
+// where it was written and 1 where it was made. All tests come before anything is written: 1 to 4 for the raw lists and the marks, 1 where the warps given and
+// made are more than `most_warps` or than a list may have, 6 for scrolls or speeds, 7 for a room.
 pub fn compute_timing_segments(
     most_warps: usize,
     format: TimingFormat,
@@ -151,6 +152,7 @@ pub fn compute_timing_segments(
     delay_values: &[f64],
     warp_beats: &[f64],
     warp_lengths: &[f64],
+    warp_marks: &[u8],
     speed_beats: &[f64],
     speed_ratios: &[f64],
     speed_delays: &[f64],
@@ -167,6 +169,7 @@ pub fn compute_timing_segments(
     out_delay_values: &mut [f32],
     out_warp_beats: &mut [f32],
     out_warp_lengths: &mut [f32],
+    out_warp_marks: &mut [u8],
     out_speed_beats: &mut [f32],
     out_speed_ratios: &mut [f32],
     out_speed_delays: &mut [f32],
@@ -195,7 +198,8 @@ pub fn compute_timing_segments(
           scrolls = lentColumns «out_scroll_beats» «out_scroll_values»;
           fakes = lentColumns «out_fake_beats» «out_fake_lengths»;
         } in
-        ⌜ Assembles «most_warps» format (before raw) r (before rooms) (after rooms) ⌝ }
+        let marks = lentMarks «warp_marks» «out_warp_marks» in
+        ⌜ Assembles «most_warps» format (before raw) marks r (before rooms) (after rooms) «out_warp_marks».exit.now ⌝ }
 {
     let other = others_number(
         delay_beats,
@@ -241,12 +245,14 @@ pub fn compute_timing_segments(
         stop_values,
         warp_beats,
         warp_lengths,
+        warp_marks,
         out_tempo_beats,
         out_tempo_values,
         out_stop_beats,
         out_stop_values,
         out_warp_beats,
         out_warp_lengths,
+        out_warp_marks,
     );
     if processed.number != limits::TAKEN {
         return Assembled {

@@ -47,7 +47,7 @@ fn lay_narrowed(
     columns_each::narrow_column(&beats[..n], out_beats);
     columns_each::narrow_column(&ratios[..n], out_ratios);
     columns_each::narrow_column(&delays[..n], out_delays);
-    tidy_speeds_entries::copy_units(&units[..n], out_units);
+    columns::copy_bytes(&units[..n], out_units);
     Outcome {
         number: limits::TAKEN,
         count: n,
@@ -208,7 +208,7 @@ fn lay_each(
     columns_each::copy_column_f32(quantised, out_beats);
     columns_each::narrow_column(ratios, out_ratios);
     columns_each::narrow_column(delays, out_delays);
-    tidy_speeds_entries::copy_units(units, out_units);
+    columns::copy_bytes(units, out_units);
     Outcome {
         number: limits::TAKEN,
         count: count,

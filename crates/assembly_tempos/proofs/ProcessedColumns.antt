@@ -19,7 +19,7 @@ use Rattle.order.proofs.Columns.{length-entries, first-entries, second-entries}
 use Rattle.columns.specs.declared.Outcome.{Outcome}
 use Rattle.columns.specs.Laying.{roomNumber, LaidPair, LaidList}
 use Rattle.columns.specs.Each.{laidEach}
-use Rattle.columns.proofs.Rooms.{list-laid, list-of-pair}
+use Rattle.columns.proofs.Rooms.{number-taken, list-laid, list-of-pair}
 use Rattle.columns.proofs.EachOverFront.{each-over-front}
 use Rattle.columns_each.specs.OffGrid.{movedIn, movedUnder}
 use Rattle.process_raw.specs.RawLists.{roomFor}
@@ -34,13 +34,17 @@ use Rattle.assembly_tempos.proofs.RowsFit.{fit-number}
 use Rattle.assembly_rows.specs.declared.Meaning.the-variants.{Lengths, Values}
 
 -- a list that fits is no longer than its room
-fitting : (count room : ℕ) → roomNumber 0 count room ≡ 0 → count ≤ room
+pub fitting : (count room : ℕ) → roomNumber 0 count room ≡ 0 → count ≤ room
 unfolding roomNumber
 fitting count room h = go (leb count room) refl h
   where
     go : (t : Bool) → leb count room ≡ t → _≡_ {A = ℕ} (pick t 0 7) 0 → count ≤ room
     go true e h = leb-true count room e
     go false e h = absurd (omega arith)
+
+-- and fits a longer one
+pub fits-longer : (count room longer : ℕ) → room ≤ longer → roomNumber 0 count room ≡ 0 → roomNumber 0 count longer ≡ 0
+fits-longer count room longer l h = sym (number-taken 0 count longer refl (omega (arith, fitting count room h)))
 
 -- ---- the columns of narrowed entries
 module _ (beats values : List Float) (even : length beats ≡ length values) where
@@ -60,7 +64,7 @@ module _ (columns : ThreeColumns) (offset : Float) (p : Processed columns) where
       let even = list-taken (p .stops) .even in
       rw (first-entries (columns .stops .beats) (columns .stops .values) even, second-entries (columns .stops .beats) (columns .stops .values) even, p .onRows, map-id (columns .stops .values))
 
-  warps-are : assembledWarps (listsOf columns offset) ≡ assembledRows (changeBy Lengths) (columns .warps .beats) (columns .warps .values)
+  pub warps-are : assembledWarps (listsOf columns offset) ≡ assembledRows (changeBy Lengths) (columns .warps .beats) (columns .warps .values)
   warps-are = rw (first-entries (columns .warps .beats) (columns .warps .values) (p .even), second-entries (columns .warps .beats) (columns .warps .values) (p .even))
 
   pub warps-count : length (entries (columns .warps .beats) (columns .warps .values)) ≡ length (columns .warps .beats)

@@ -29,10 +29,11 @@ use Rattle.process.proofs.TidiedOnGrid.{tempos-on-rows}
 use Rattle.process.proofs.ValuesF32.{values-f32}
 use Rattle.process_raw.specs.LentLists.{ThreeColumns, threeColumns}
 use Rattle.assembly_warps.specs.MergedWarps.{warpsNumber, threeNumber, mergedLists, ListsOver}
+use Rattle.assembly_marks.specs.LentMarks.{MarkColumns, withMade}
 use Rattle.assembly_rows.proofs.Outcomes.{number-with-room}
 use Rattle.assembly_rows.proofs.NarrowedFront.{front-laid}
 use Rattle.assembly_tempos.specs.declared.AssembledTempos.{AssembledTempos}
-use Rattle.assembly_tempos.specs.AssembledTempos.{ListWritten, ThreeLaid}
+use Rattle.assembly_tempos.specs.AssembledTempos.{madeWarps, ListWritten, ThreeLaid}
 use Rattle.assembly_tempos.specs.inside.ProcessedColumns.{Held, Processed, listsOf, WorkRooms}
 
 -- ---- read back
@@ -96,9 +97,10 @@ module _ {lists : ThreeLists} {outcome : processed.Processed} {work : ThreeColum
       rw (f .tempoBeatsAre, f .tempoValuesAre, f .stopBeatsAre, f .stopValuesAre, f .warpBeatsAre, f .warpLengthsAre, f .offsetIs, entries-columns (lists .tempos), entries-columns (lists .stops), entries-columns (lists .warps))
 
   -- what is assembled of the columns is assembled of the lists
-  pub as-read : {raw later most : ℕ} {r : AssembledTempos} {old new : ThreeColumns} → raw ≡ 0
-      → ThreeLaid 0 later most (listsOf (frontColumns outcome work) (outcome .offset)) r old new → ThreeLaid raw later most lists r old new
-  as-read h q = rw h (rw lists-read at q)
+  pub as-read : {raw later most : ℕ} {r : AssembledTempos} {old new : ThreeColumns} {left : List ℕ} (marks : MarkColumns) (behind made : ℕ) → raw ≡ 0 → behind ≡ made
+      → ThreeLaid 0 later most (listsOf (frontColumns outcome work) (outcome .offset)) (withMade behind marks) r old new left
+      → ThreeLaid raw later most lists (withMade made marks) r old new left
+  as-read marks behind made h m q = rw h (rw (lists-read, m) at q)
 
 inside : (count : ℕ) (column : List Float) {front : List Float} → take count column ≡ front → (size : ℕ) → length front ≡ size → count ≡ size → count ≤ length column
 inside count column e size f c = omega (arith, ap length e, length-take count column)
@@ -125,7 +127,7 @@ fronts-inside {lists} f =
 
 -- ---- fit to be assembled
 
-every-append : {A : Type 0} (test : A → Bool) (xs ys : List A) → every test xs ≡ true → every test ys ≡ true → every test (xs ++ ys) ≡ true
+pub every-append : {A : Type 0} (test : A → Bool) (xs ys : List A) → every test xs ≡ true → every test ys ≡ true → every test (xs ++ ys) ≡ true
 unfolding every
 every-append test [] ys h k = k
 every-append test (x ∷ xs) ys h k = go (test x) h (λ rest. every-append test xs ys rest k)
@@ -152,6 +154,12 @@ module _ (format : TimingFormat) (raw : ThreeColumns) (taken : threeNumber raw �
   few-warps =
       let made = processedLists format (raw .tempos .beats) (raw .tempos .values) (raw .stops .beats) (raw .stops .values) .warps in
       omega (arith, length-append (entries (raw .warps .beats) (raw .warps .values)) made, length-entries (raw .warps .beats) (raw .warps .values) (list-taken (two-taken .1) .even), lists .fewWarps)
+
+  -- the given ones and those that are made
+  pub warps-merged : length (mergedLists format raw .warps) ≡ length (raw .warps .beats) + madeWarps format raw
+  warps-merged =
+      let made = processedLists format (raw .tempos .beats) (raw .tempos .values) (raw .stops .beats) (raw .stops .values) .warps in
+      omega (arith, length-append (entries (raw .warps .beats) (raw .warps .values)) made, length-entries (raw .warps .beats) (raw .warps .values) (list-taken (two-taken .1) .even))
 
   -- the stops are taken, and lie on rows
   pub merged-stops : rowsNumber (map first (mergedLists format raw .stops)) (map second (mergedLists format raw .stops)) ≡ 0

@@ -1,4 +1,4 @@
-// Assembly of tempos, stops and warps: processed by format, the made warps behind the given ones, tidied, and written as f32.
+// Assembly of tempos, stops and warps: processed by format, the made warps behind the given ones, tidied, and written as f32; each warp keeps its mark.
 use assembly_rows::Meaning;
 use chart::TimingFormat;
 use columns::Outcome;
@@ -11,15 +11,17 @@ ghost use lib.Ieee.{Float};
 ghost use Rattle.rows.specs.Rows.{quantized};
 ghost use Rattle.ieee.specs.Narrowing.{narrow};
 ghost use Rattle.limits.specs.Numbers.{every};
+ghost use Rattle.order.specs.Order.{laid};
 ghost use Rattle.columns.specs.Each.{laidEach};
 ghost use Rattle.tidy_rows.specs.RowTidying.{rowsNumber};
 ghost use Rattle.assembly_rows.specs.AssembledRows.{RowsUntested};
-ghost use Rattle.limits.specs.Refusals.{lower};
 ghost use Rattle.process_raw.specs.LentLists.{threeColumns, lentThree, threeBefore, threeAfter};
 ghost use Rattle.assembly_warps.specs.MergedWarps.{threeNumber, mergedLists};
-ghost use Rattle.assembly_tempos.specs.AssembledTempos.{threeRooms, ThreeLaid};
+ghost use Rattle.assembly_marks.specs.AssembledMarks.{mergedMarks, assembledMarks};
+ghost use Rattle.assembly_marks.specs.LentMarks.{lentMarks, withMade};
+ghost use Rattle.assembly_tempos.specs.AssembledTempos.{threeRooms, rawWith, madeWarps, ThreeLaid};
 ghost use Rattle.assembly_tempos.specs.inside.Refusal.{nothingAssembled};
-ghost use Rattle.assembly_tempos.specs.inside.ProcessedColumns.{heldF32, Held, Processed, listsOf, WorkRooms};
+ghost use Rattle.assembly_tempos.specs.inside.ProcessedColumns.{heldF32, Held, Processed, MarksBeside, MarksFit, listsOf, WorkRooms};
 
 // The refusal number of all lists, 0 where they are taken, how many entries of each list were written, the seconds that beat 0 is moved by, and how many warps
 // were off the grid.
@@ -145,6 +147,53 @@ fn assemble_stops(
     assembly_rows::assemble_untested(beats, values, Meaning::Values, out_beats, out_values).outcome
 }
 
+// ---- marks of warps
+
+// Marks of a list whose warps are laid, of which so many are left.
+fn lay_merged(beats: &[f64], marks: &[u8], count: usize, out: &mut [u8])
+    requires { ⌜ MarksFit beats.now marks.now count (length out.now) ⌝ }
+    ensures { λ _. ⌜ out.exit.now ≡ laid (assembledMarks beats.entry.now marks.entry.now) out.entry.now ⌝ }
+{
+    if assembly_marks::all_the_same(marks) {
+        columns::copy_bytes(&marks[..count], out);
+    } else {
+        assembly_marks::assemble_marks(beats, marks, out);
+    }
+}
+
+// By way of a column as long as the list.
+fn lay_marks_in(
+    beats: &[f64],
+    marks: &[u8],
+    made: usize,
+    count: usize,
+    merged: &mut [u8],
+    out: &mut [u8],
+)
+    requires { ⌜ MarksFit beats.now (mergedMarks marks.now made) count (length out.now) × (length merged.now ≡ length beats.now) ⌝ }
+    ensures { λ _. ⌜ out.exit.now ≡ laid (assembledMarks beats.entry.now (mergedMarks marks.entry.now made)) out.entry.now ⌝ }
+{
+    assembly_marks::merge_marks(marks, made, merged);
+    lay_merged(beats, merged, count, out);
+}
+
+// The marks of the given warps, and 1 for each that is made behind them; where none is made no column is cleared.
+fn lay_marks(beats: &[f64], marks: &[u8], made: usize, count: usize, out: &mut [u8])
+    requires { ⌜ MarksFit beats.now (mergedMarks marks.now made) count (length out.now) ⌝ }
+    ensures { λ _. ⌜ out.exit.now ≡ laid (assembledMarks beats.entry.now (mergedMarks marks.entry.now made)) out.entry.now ⌝ }
+{
+    let n = beats.len();
+    if made == 0 {
+        lay_merged(beats, marks, count, out);
+    } else if n <= limits::FEW {
+        let mut merged = [0; limits::FEW];
+        lay_marks_in(beats, marks, made, count, &mut merged[..n], out);
+    } else {
+        let mut merged = [0; limits::MOST_ENTRIES];
+        lay_marks_in(beats, marks, made, count, &mut merged[..n], out);
+    }
+}
+
 // ---- the three lists
 
 // Every test before anything is written.
@@ -159,25 +208,29 @@ fn lay_lists(
     stop_values: &[f64],
     warp_beats: &[f64],
     warp_lengths: &[f64],
+    warp_marks: &[u8],
+    made: usize,
     out_tempo_beats: &mut [f32],
     out_tempo_values: &mut [f32],
     out_stop_beats: &mut [f32],
     out_stop_values: &mut [f32],
     out_warp_beats: &mut [f32],
     out_warp_lengths: &mut [f32],
+    out_warp_marks: &mut [u8],
 ) -> AssembledTempos
     requires { let columns = threeColumns
         «tempo_beats».now «tempo_values».now
         «stop_beats».now «stop_values».now
         «warp_beats».now «warp_lengths».now in
-        ⌜ Processed columns × Held format «tempo_values».now × Held format «stop_values».now ⌝ }
+        ⌜ Processed columns × Held format «tempo_values».now × Held format «stop_values».now × MarksBeside «warp_beats».now «warp_marks».now made ⌝ }
     ensures { λ r.
         let columns = threeColumns
         «tempo_beats».entry.now «tempo_values».entry.now
         «stop_beats».entry.now «stop_values».entry.now
         «warp_beats».entry.now «warp_lengths».entry.now in
         let rooms = lentThree «out_tempo_beats» «out_tempo_values» «out_stop_beats» «out_stop_values» «out_warp_beats» «out_warp_lengths» in
-        ⌜ ThreeLaid 0 later «most_warps» (listsOf columns offset) r (threeBefore rooms) (threeAfter rooms) ⌝ }
+        let marks = withMade made (lentMarks «warp_marks» «out_warp_marks») in
+        ⌜ ThreeLaid 0 later «most_warps» (listsOf columns offset) marks r (threeBefore rooms) (threeAfter rooms) «out_warp_marks».exit.now ⌝ }
 {
     if warp_beats.len() > columns::room_of(most_warps, limits::MOST_ENTRIES) {
         return refused(limits::TOO_LONG);
@@ -191,7 +244,10 @@ fn lay_lists(
         warp_lengths,
         columns::room_of(out_tempo_beats.len(), out_tempo_values.len()),
         columns::room_of(out_stop_beats.len(), out_stop_values.len()),
-        columns::room_of(out_warp_beats.len(), out_warp_lengths.len()),
+        columns::room_of(
+            columns::room_of(out_warp_beats.len(), out_warp_lengths.len()),
+            out_warp_marks.len(),
+        ),
     );
     let number = limits::lower_of(later, rooms);
     if number != limits::TAKEN {
@@ -212,6 +268,13 @@ fn lay_lists(
         Meaning::Lengths,
         out_warp_beats,
         out_warp_lengths,
+    );
+    lay_marks(
+        warp_beats,
+        warp_marks,
+        made,
+        warps.outcome.count,
+        out_warp_marks,
     );
     AssembledTempos {
         number: limits::TAKEN,
@@ -236,6 +299,7 @@ fn assemble_in(
     stop_values: &[f64],
     warp_beats: &[f64],
     warp_lengths: &[f64],
+    warp_marks: &[u8],
     work_tempo_beats: &mut [f64],
     work_tempo_values: &mut [f64],
     work_stop_beats: &mut [f64],
@@ -248,6 +312,7 @@ fn assemble_in(
     out_stop_values: &mut [f32],
     out_warp_beats: &mut [f32],
     out_warp_lengths: &mut [f32],
+    out_warp_marks: &mut [u8],
 ) -> AssembledTempos
     requires { let raw = threeColumns
         «tempo_beats».now «tempo_values».now
@@ -264,7 +329,9 @@ fn assemble_in(
         «stop_beats».entry.now «stop_values».entry.now
         «warp_beats».entry.now «warp_lengths».entry.now in
         let rooms = lentThree «out_tempo_beats» «out_tempo_values» «out_stop_beats» «out_stop_values» «out_warp_beats» «out_warp_lengths» in
-        ⌜ ThreeLaid (lower (threeNumber raw) other) later «most_warps» (mergedLists format raw) r (threeBefore rooms) (threeAfter rooms) ⌝ }
+        let number = rawWith other raw «warp_marks».entry.now in
+        let marks = withMade (madeWarps format raw) (lentMarks «warp_marks» «out_warp_marks») in
+        ⌜ ThreeLaid number later «most_warps» (mergedLists format raw) marks r (threeBefore rooms) (threeAfter rooms) «out_warp_marks».exit.now ⌝ }
 {
     let processed = assembly_warps::process_with_warps(
         format,
@@ -281,7 +348,11 @@ fn assemble_in(
         work_warp_beats,
         work_warp_lengths,
     );
-    let number = limits::lower_of(processed.number, other);
+    let lists = limits::lower_of(processed.number, other);
+    let number = limits::lower_of(
+        lists,
+        tidy_warps::marks_number(warp_beats.len(), warp_marks),
+    );
     if number != limits::TAKEN {
         return refused(number);
     }
@@ -299,12 +370,15 @@ fn assemble_in(
         &work_stop_values[..stops],
         &work_warp_beats[..warps],
         &work_warp_lengths[..warps],
+        warp_marks,
+        warps - warp_beats.len(),
         out_tempo_beats,
         out_tempo_values,
         out_stop_beats,
         out_stop_values,
         out_warp_beats,
         out_warp_lengths,
+        out_warp_marks,
     )
 }
 
@@ -316,7 +390,7 @@ const MOST_WARPS: usize = 3 * limits::MOST_ENTRIES;
 // ---- the call
 
 // Tempos, stops and warps, given and made, over the fronts of their rooms. `other` is the lowest raw number of the other lists, and `later` the lowest
-// that they answer where all lists are taken: the number is that of all seven. More warps than `most_warps`, given and made, answer 1.
+// that they answer where all lists are taken: the number is that of all seven and of the marks. More warps than `most_warps`, given and made, answer 1.
 pub fn assemble_tempos(
     format: TimingFormat,
     most_warps: usize,
@@ -328,12 +402,14 @@ pub fn assemble_tempos(
     stop_values: &[f64],
     warp_beats: &[f64],
     warp_lengths: &[f64],
+    warp_marks: &[u8],
     out_tempo_beats: &mut [f32],
     out_tempo_values: &mut [f32],
     out_stop_beats: &mut [f32],
     out_stop_values: &mut [f32],
     out_warp_beats: &mut [f32],
     out_warp_lengths: &mut [f32],
+    out_warp_marks: &mut [u8],
 ) -> AssembledTempos
     ensures { λ r.
         let raw = threeColumns
@@ -341,7 +417,9 @@ pub fn assemble_tempos(
         «stop_beats».entry.now «stop_values».entry.now
         «warp_beats».entry.now «warp_lengths».entry.now in
         let rooms = lentThree «out_tempo_beats» «out_tempo_values» «out_stop_beats» «out_stop_values» «out_warp_beats» «out_warp_lengths» in
-        ⌜ ThreeLaid (lower (threeNumber raw) other) later «most_warps» (mergedLists format raw) r (threeBefore rooms) (threeAfter rooms) ⌝ }
+        let number = rawWith other raw «warp_marks».entry.now in
+        let marks = withMade (madeWarps format raw) (lentMarks «warp_marks» «out_warp_marks») in
+        ⌜ ThreeLaid number later «most_warps» (mergedLists format raw) marks r (threeBefore rooms) (threeAfter rooms) «out_warp_marks».exit.now ⌝ }
 {
     if tempo_beats.len() <= limits::FEW {
         if stop_beats.len() <= limits::FEW {
@@ -364,6 +442,7 @@ pub fn assemble_tempos(
                     stop_values,
                     warp_beats,
                     warp_lengths,
+                    warp_marks,
                     &mut work_tempo_beats,
                     &mut work_tempo_values,
                     &mut work_stop_beats,
@@ -376,6 +455,7 @@ pub fn assemble_tempos(
                     out_stop_values,
                     out_warp_beats,
                     out_warp_lengths,
+                    out_warp_marks,
                 );
             }
         }
@@ -397,6 +477,7 @@ pub fn assemble_tempos(
         stop_values,
         warp_beats,
         warp_lengths,
+        warp_marks,
         &mut work_tempo_beats,
         &mut work_tempo_values,
         &mut work_stop_beats,
@@ -409,5 +490,6 @@ pub fn assemble_tempos(
         out_stop_values,
         out_warp_beats,
         out_warp_lengths,
+        out_warp_marks,
     )
 }

@@ -1,7 +1,7 @@
 // What a call answers that lays a result over the front of lent columns.
 ghost use mathlib.Core.Path.{_≡_};
 ghost use mathlib.Core.List.{reverse};
-ghost use Prim.Native.Nat.{min};
+ghost use Prim.Native.Nat.{ℕ, min};
 ghost use lib.Ieee.{Float};
 ghost use Rattle.columns.specs.Each.{laidEach};
 ghost use Rattle.columns.specs.Laying.{roomNumber, refusedBy};
@@ -42,7 +42,19 @@ pub fn copy(from: &[f64], to: &mut [f64])
     }
 }
 
-// The same, turned round: the last number first.
+// The same of bytes: a column of units, or of marks.
+pub fn copy_bytes(from: &[u8], to: &mut [u8])
+    ensures { λ _. ⌜ to.exit.now ≡ laidEach (λ (x : ℕ). x) from.entry.now to.entry.now ⌝ }
+{
+    let n = room_of(from.len(), to.len());
+    let mut i = 0;
+    while i < n {
+        to[i] = from[i];
+        i += 1;
+    }
+}
+
+// A column of numbers, turned round: the last number first.
 pub fn copy_turned(from: &[f64], to: &mut [f64])
     ensures { λ _. ⌜ to.exit.now ≡ laidEach (λ (x : Float). x) (reverse from.entry.now) to.entry.now ⌝ }
 {

@@ -4,6 +4,7 @@ use chart::TimingFormat;
 ghost use mathlib.Core.Path.{_≡_};
 ghost use Rattle.limits.specs.Table.{mostEntries};
 ghost use Rattle.chart.specs.ChartColumns.{lentColumns, lentSpeeds, LentChart, before, after};
+ghost use Rattle.assembly_marks.specs.LentMarks.{lentMarks};
 ghost use Rattle.assembly.specs.Assembly.{Assembles};
 ghost use Rattle.exports_assembly.specs.Format.{formatOf};
 
@@ -17,7 +18,7 @@ fn format_of(number: u32) -> TimingFormat
     TimingFormat::Ssc
 }
 
-// The seven raw lists of a chart as the columns of a timing; the format by its number, 0 for SM and any other for SSC.
+// The seven raw lists of a chart as the columns of a timing, with the mark of each warp; the format by its number, 0 for SM and any other for SSC.
 #[no_mangle]
 pub extern "C" fn marrighentu_compute_timing_segments(
     format: u32,
@@ -29,6 +30,7 @@ pub extern "C" fn marrighentu_compute_timing_segments(
     delay_values: &[f64],
     warp_beats: &[f64],
     warp_lengths: &[f64],
+    warp_marks: &[u8],
     speed_beats: &[f64],
     speed_ratios: &[f64],
     speed_delays: &[f64],
@@ -45,6 +47,7 @@ pub extern "C" fn marrighentu_compute_timing_segments(
     out_delay_values: &mut [f32],
     out_warp_beats: &mut [f32],
     out_warp_lengths: &mut [f32],
+    out_warp_marks: &mut [u8],
     out_speed_beats: &mut [f32],
     out_speed_ratios: &mut [f32],
     out_speed_delays: &mut [f32],
@@ -73,7 +76,8 @@ pub extern "C" fn marrighentu_compute_timing_segments(
           scrolls = lentColumns «out_scroll_beats» «out_scroll_values»;
           fakes = lentColumns «out_fake_beats» «out_fake_lengths»;
         } in
-        ⌜ Assembles mostEntries (formatOf format) (before raw) r (before rooms) (after rooms) ⌝ }
+        let marks = lentMarks «warp_marks» «out_warp_marks» in
+        ⌜ Assembles mostEntries (formatOf format) (before raw) marks r (before rooms) (after rooms) «out_warp_marks».exit.now ⌝ }
 {
     let named = format_of(format);
     assembly::compute_timing_segments(
@@ -87,6 +91,7 @@ pub extern "C" fn marrighentu_compute_timing_segments(
         delay_values,
         warp_beats,
         warp_lengths,
+        warp_marks,
         speed_beats,
         speed_ratios,
         speed_delays,
@@ -103,6 +108,7 @@ pub extern "C" fn marrighentu_compute_timing_segments(
         out_delay_values,
         out_warp_beats,
         out_warp_lengths,
+        out_warp_marks,
         out_speed_beats,
         out_speed_ratios,
         out_speed_delays,

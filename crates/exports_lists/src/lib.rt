@@ -28,6 +28,7 @@ ghost use Rattle.chart.specs.Timing.{timing};
 ghost use Rattle.clock_tests.specs.TimingNumbers.{timingNumber};
 ghost use Rattle.clock.specs.Question.{freshCursor, made, playerQuestion, question};
 ghost use Rattle.clock_run.specs.Run.{runColumns, RunLaid};
+ghost use Rattle.tidy_warps.specs.WarpTidying.{WarpsTidied};
 ghost use Rattle.tidy_scrolls.specs.ScrollTidying.{ScrollsTidied};
 ghost use Rattle.tidy_speeds.specs.SpeedTidying.{SpeedsTidied};
 
@@ -42,6 +43,24 @@ pub extern "C" fn marrighentu_tidy_row_segments(
     ensures { λ r. ⌜ RowsTidied beats.entry.now values.entry.now r «out_beats».entry.now «out_beats».exit.now «out_values».entry.now «out_values».exit.now ⌝ }
 {
     tidy_rows::tidy_row_segments(beats, values, out_beats, out_values)
+}
+
+// Row tidying of warps with their marks: each row with the length and the mark of the warp that came last.
+#[no_mangle]
+pub extern "C" fn marrighentu_tidy_warp_segments(
+    beats: &[f64],
+    lengths: &[f64],
+    marks: &[u8],
+    out_beats: &mut [f64],
+    out_lengths: &mut [f64],
+    out_marks: &mut [u8],
+) -> Outcome
+    ensures { λ r.
+        ⌜ WarpsTidied beats.entry.now lengths.entry.now marks.entry.now r
+        «out_beats».entry.now «out_beats».exit.now «out_lengths».entry.now «out_lengths».exit.now
+        «out_marks».entry.now «out_marks».exit.now ⌝ }
+{
+    tidy_warps::tidy_warp_segments(beats, lengths, marks, out_beats, out_lengths, out_marks)
 }
 
 // Tempo tidying: by beat, of equal beats the last, the first at beat 0, each only where it changes; 60 where there is none.
@@ -62,7 +81,7 @@ pub extern "C" fn marrighentu_tidy_bpms(
 
 // ---- the row store and the lookups
 
-// The row store: the rows of positive stops, positive delays, warps and fakes, a part behind another.
+// The row store: the rows of positive stops, positive delays, warps and fakes, a part behind another, and the marks of the warps' rows.
 #[no_mangle]
 pub extern "C" fn marrighentu_build_segment_row_storage(
     stop_beats: &[f32],
@@ -73,12 +92,14 @@ pub extern "C" fn marrighentu_build_segment_row_storage(
     warp_lengths: &[f32],
     fake_beats: &[f32],
     fake_lengths: &[f32],
+    warp_marks: &[u8],
     rows: &mut [i32],
+    row_marks: &mut [u8],
 ) -> Stored
     ensures { λ r.
         let lists = lookupLists «stop_beats».entry.now «stop_values».entry.now «delay_beats».entry.now «delay_values».entry.now
         «warp_beats».entry.now «warp_lengths».entry.now «fake_beats».entry.now «fake_lengths».entry.now in
-        ⌜ RowsStored lists r rows.entry.now rows.exit.now ⌝ }
+        ⌜ RowsStored lists «warp_marks».entry.now r rows.entry.now rows.exit.now «row_marks».entry.now «row_marks».exit.now ⌝ }
 {
     lookup_row_store::build_segment_row_storage(
         stop_beats,
@@ -89,7 +110,9 @@ pub extern "C" fn marrighentu_build_segment_row_storage(
         warp_lengths,
         fake_beats,
         fake_lengths,
+        warp_marks,
         rows,
+        row_marks,
     )
 }
 

@@ -9,3 +9,4 @@ pub mod RowsInLine
 pub mod FourLists
 pub mod PartRows
 pub mod OneOutcome
+pub mod MarkedRows

@@ -12,6 +12,7 @@ use Rattle.order.proofs.TidiedList.{rises-never-falls}
 use Rattle.rows.specs.RowKey.{rowKeyOf}
 use Rattle.chart.specs.declared.TimingFormat.{TimingFormat}
 use Rattle.chart.specs.ChartColumns.{ChartColumns, ChartRoom}
+use Rattle.tidy_warps.specs.Marks.{marksNumber}
 use Rattle.assembly_warps.specs.MergedWarps.{threeNumber}
 use Rattle.assembly_rows.specs.declared.Meaning.the-variants.{Lengths}
 use Rattle.assembly_rows.specs.AssembledRows.{changeBy, assembledRows, assembledNumber}
@@ -19,7 +20,7 @@ use Rattle.assembly_rows.proofs.QuantizedTaken.{quantized-taken}
 use Rattle.assembly_rows.proofs.WrittenRises.{rowKeyIn, written-rises}
 use Rattle.assembly_tempos.specs.AssembledTempos.{assembledWarps}
 use Rattle.assembly_tempos.proofs.WorkColumns.{merged-warps}
-use Rattle.assembly.specs.Assembly.{processedTogether, processedChart, othersNumber, sevenNumber, laterNumber, assemblyNumber}
+use Rattle.assembly.specs.Assembly.{processedTogether, processedChart, othersNumber, sevenNumber, sevenWithMarks, laterNumber, assemblyNumber}
 use Rattle.assembly.proofs.Ends.{none-refused}
 use Rattle.lookup_warped.specs.WarpedRows.{warpedRows}
 use Rattle.lookup_warped.specs.OnePass.{onePass}
@@ -42,12 +43,13 @@ written-once change beats lengths taken =
     one-pass-counts warps (rises-never-falls rowKeyOf warps (starts-rise warps (written-rises change beats lengths taken binary64)))
 
 -- ---- the warps of a chart that is taken, given and made
-pub assembled-once : (most : ℕ) (format : TimingFormat) (raw : ChartColumns) (room : ChartRoom) → assemblyNumber most format raw room ≡ 0
+pub assembled-once : (most : ℕ) (format : TimingFormat) (raw : ChartColumns) (marks : List ℕ) (room : ChartRoom) → assemblyNumber most format raw marks room ≡ 0
     → onePass (assembledWarps (processedChart format raw)) ≡ warpedRows (assembledWarps (processedChart format raw))
-assembled-once most format raw room none =
+assembled-once most format raw marks room none =
     let merged = processedChart format raw .warps in
-    let passed = none-refused (sevenNumber raw) _ most (laterNumber format raw room) none in
-    let taken = lower-none (threeNumber (processedTogether raw)) (othersNumber (raw .delays) (raw .speeds) (raw .scrolls) (raw .fakes)) (passed .rawTaken) .0 in
+    let passed = none-refused (sevenWithMarks raw marks) _ most (laterNumber format raw room) none in
+    let seven = lower-none (sevenNumber raw) (marksNumber (length (raw .warps .beats)) marks) (passed .rawTaken) .0 in
+    let taken = lower-none (threeNumber (processedTogether raw)) (othersNumber (raw .delays) (raw .speeds) (raw .scrolls) (raw .fakes)) seven .0 in
     let few : length (map first merged) ≤ 1024 = rw (length-map merged first) (omega (arith, passed .fewWarps)) in
     written-once (changeBy Lengths) (map first merged) (map second merged)
     (quantized-taken (map first merged) (map second merged) Lengths (merged-warps format (processedTogether raw) taken few))

@@ -93,7 +93,7 @@ fn lay_mended(
     let written = &kept[..count];
     mend_fates::gather(beats, written, out_beats);
     mend_fates::gather(values, written, out_values);
-    tidy_speeds_entries::copy_units(fates, out_fates);
+    columns::copy_bytes(fates, out_fates);
     Outcome {
         number: limits::TAKEN,
         count: count,

@@ -140,7 +140,7 @@ fn lay_mended(
     mend_fates::gather(ratios, written, out_ratios);
     mend_fates::gather(delays, written, out_delays);
     mend_fates::gather_bytes(units, written, out_units);
-    tidy_speeds_entries::copy_units(fates, out_fates);
+    columns::copy_bytes(fates, out_fates);
     Outcome {
         number: limits::TAKEN,
         count: count,

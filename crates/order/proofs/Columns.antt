@@ -1,6 +1,6 @@
 -- Two columns of one length, firsts one list of entries: parts, stores, reads and the columns back. Assumes nothing.
 use mathlib.Core.Path.{_≡_, refl, ap, sym, _∙_}
-use mathlib.Core.List.{List, [], _∷_, map}
+use mathlib.Core.List.{List, [], _∷_, _++_, map}
 use Prim.Native.Nat.{ℕ, zero, suc}
 use native.Mathlib.Omega.{arith}
 use lib.ListN.{length, getD, set}
@@ -46,6 +46,14 @@ module _ {A B : Type 0} where
   unfolding entries
   entries-columns [] = refl
   entries-columns (e ∷ l) = ap (_∷_ e) (entries-columns l)
+
+  pub entries-append : (firsts : List A) (seconds : List B) (others : List A) (thirds : List B) → length firsts ≡ length seconds
+      → entries (firsts ++ others) (seconds ++ thirds) ≡ entries firsts seconds ++ entries others thirds
+  unfolding entries
+  entries-append [] [] others thirds h = refl
+  entries-append [] (b ∷ seconds) others thirds h = absurd (omega arith)
+  entries-append (a ∷ firsts) [] others thirds h = absurd (omega arith)
+  entries-append (a ∷ firsts) (b ∷ seconds) others thirds h = ap (_∷_ (a, b)) (entries-append firsts seconds others thirds (omega arith))
 
   -- a list that two columns make gives the columns back
   pub columns : (firsts : List A) (seconds : List B) (l : List (A × B)) → length firsts ≡ length seconds → entries firsts seconds ≡ l → (firsts ≡ map first l) × (seconds ≡ map second l)

@@ -16,3 +16,4 @@ pub mod EachEntry
 pub mod PackedOrder
 pub mod TurnedRound
 pub mod RisesCounted
+pub mod BehindWins

@@ -536,7 +536,7 @@ fn replay_sm_stops(words: &[u64], floats: &[f32], at: usize) -> Replayed {
     }
 }
 
-// The row store.
+// The row store. The original has no marks, so that each warp is a written one.
 fn replay_row_store(words: &[u64], floats: &[f32], at: usize) -> Replayed {
     let stop_beats_at = further(at, 1);
     let stop_values_at = behind(words, stop_beats_at);
@@ -548,17 +548,22 @@ fn replay_row_store(words: &[u64], floats: &[f32], at: usize) -> Replayed {
     let fake_lengths_at = behind(words, fake_beats_at);
     let stored_at = behind(words, fake_lengths_at);
     let answer_at = behind(words, stored_at);
+    let warp_beats = f32_column(floats, words, warp_beats_at);
+    let marks = [0u8; limits::MOST_ENTRIES];
     let mut stored_room = [77i32; ROOM];
+    let mut marks_room = [77u8; limits::MOST_ENTRIES];
     let stored = lookup_row_store::build_segment_row_storage(
         f32_column(floats, words, stop_beats_at),
         f32_column(floats, words, stop_values_at),
         f32_column(floats, words, delay_beats_at),
         f32_column(floats, words, delay_values_at),
-        f32_column(floats, words, warp_beats_at),
+        warp_beats,
         f32_column(floats, words, warp_lengths_at),
         f32_column(floats, words, fake_beats_at),
         f32_column(floats, words, fake_lengths_at),
+        report_answer::front_units(&marks, warp_beats.len()),
         &mut stored_room,
+        &mut marks_room,
     );
     let mut same = both(
         is_u32(stored.number, word_at(words, answer_at)),

@@ -18,7 +18,7 @@ pub fn front_units(column: &[u8], count: usize) -> &[u8]
 }
 
 // Writes the answer from the page's first byte on: assembly's number, and where that is 0 the offset, the first entries of each list, as
-// many as are counted, the rows that are warped, and how many entries were off the grid. Answers how many bytes it has. A page of 45,400 bytes holds every answer of lists of 256 entries.
+// many as are counted, each warp with its mark, the rows that are warped, and how many entries were off the grid. Answers how many bytes it has. A page of 45,400 bytes holds every answer of lists of 256 entries.
 pub fn write_answer(
     page: &mut [u8],
     number: u32,
@@ -40,6 +40,7 @@ pub fn write_answer(
     delay_values: &[f32],
     warp_beats: &[f32],
     warp_lengths: &[f32],
+    warp_marks: &[u8],
     speed_beats: &[f32],
     speed_ratios: &[f32],
     speed_delays: &[f32],
@@ -68,7 +69,7 @@ pub fn write_answer(
           scrolls = scrolls;
           fakes = fakes;
         } in
-        ⌜ Wrote (doneText number offset warped moved counts (before lists)) 0 r page.entry.now page.exit.now ⌝ }
+        ⌜ Wrote (doneText number offset warped moved «warp_marks».entry.now counts (before lists)) 0 r page.entry.now page.exit.now ⌝ }
     ensures { λ r. ⌜ Counts r page.exit.now ⌝ }
 {
     let at = report_text::put_answer(page, 0, number);
@@ -79,7 +80,7 @@ pub fn write_answer(
     let at = report_text::put_pairs(page, at, b"bpm=", tempos, tempo_beats, tempo_values);
     let at = report_text::put_pairs(page, at, b"stop=", stops, stop_beats, stop_values);
     let at = report_text::put_pairs(page, at, b"delay=", delays, delay_beats, delay_values);
-    let at = report_text::put_pairs(page, at, b"warp=", warps, warp_beats, warp_lengths);
+    let at = report_text::put_warps(page, at, warps, warp_beats, warp_lengths, warp_marks);
     let at = report_text::put_speeds(
         page,
         at,

@@ -7,10 +7,10 @@ use lib.ListN.{length, length-append}
 use lib.Ieee.{Float, toBits, binary32}
 use Rattle.ieee_patterns.specs.Hex.{hexText}
 use Rattle.chart.specs.ChartColumns.{ChartColumns}
-use Rattle.report_form.specs.Text.{bpm, stop, delay, warp, scroll, fake}
-use Rattle.text_page.specs.Digits.{decimalText}
+use Rattle.report_form.specs.Text.{bpm, stop, delay, scroll, fake}
+use Rattle.text_page.specs.Digits.{decimalDigits, decimalText}
 use Rattle.text_page.proofs.DigitSizes.{decimal-size}
-use Rattle.report_text.specs.Output.{number, answerLine, offsetLine, named, pairLine, pairLines, speedLine, speedLines, warpedLine, movedLine, listsText}
+use Rattle.report_text.specs.Output.{number, answerLine, offsetLine, named, pairLine, pairLines, speedLine, speedLines, warpLine, warpLines, warpedLine, movedLine, listsText}
 
 -- at most 256 entries in each list
 pub record FewEach (lists : ChartColumns) : Type 0 where
@@ -37,6 +37,11 @@ line-size word digits = simp length-append (omega arith)
 pub answer-size : (n : ℕ) → length (answerLine n) ≤ 28
 unfolding answerLine
 answer-size n = omega (arith, line-size (97 ∷ 110 ∷ 115 ∷ 119 ∷ 101 ∷ 114 ∷ 61 ∷ []) (decimalText n), decimal-size 20 n)
+
+-- of a chart that is taken it says answer=0
+pub taken-answer-size : length (answerLine 0) ≡ 9
+unfolding answerLine decimalDigits
+taken-answer-size = refl
 
 offset-size : (offset : Float) → length (offsetLine offset) ≡ 16
 unfolding offsetLine
@@ -74,10 +79,21 @@ speeds-size (beat ∷ beats) (ratio ∷ ratios) (wait ∷ waits) [] = omega arit
 speeds-size (beat ∷ beats) (ratio ∷ ratios) (wait ∷ waits) (unit ∷ units) =
     simp length-append (omega (arith, speed-size beat ratio wait unit, speeds-size beats ratios waits units))
 
+warp-size : (beat size : Float) (mark : ℕ) → length (warpLine beat size mark) ≡ 25
+unfolding warpLine
+warp-size beat size mark = simp length-append (omega (arith, number-size beat, number-size size))
+
+warps-size : (beats sizes : List Float) (marks : List ℕ) → length (warpLines beats sizes marks) ≤ 25 * length beats
+unfolding warpLines
+warps-size [] sizes marks = omega arith
+warps-size (beat ∷ beats) [] marks = omega arith
+warps-size (beat ∷ beats) (size ∷ sizes) [] = omega arith
+warps-size (beat ∷ beats) (size ∷ sizes) (mark ∷ marks) = simp length-append (omega (arith, warp-size beat size mark, warps-size beats sizes marks))
+
 -- lists of 256 entries at most
-pub lists-size : (offset : Float) (warped moved : ℕ) (lists : ChartColumns) → FewEach lists → length (listsText offset warped moved lists) ≤ 44871
+pub lists-size : (offset : Float) (warped moved : ℕ) (marks : List ℕ) (lists : ChartColumns) → FewEach lists → length (listsText offset warped moved marks lists) ≤ 45383
 unfolding listsText
-lists-size offset warped moved lists few =
+lists-size offset warped moved marks lists few =
     simp length-append
     (omega (
       arith,
@@ -92,7 +108,7 @@ lists-size offset warped moved lists few =
       pairs-size (named bpm) (lists .tempos .beats) (lists .tempos .values),
       pairs-size (named stop) (lists .stops .beats) (lists .stops .values),
       pairs-size (named delay) (lists .delays .beats) (lists .delays .values),
-      pairs-size (named warp) (lists .warps .beats) (lists .warps .values),
+      warps-size (lists .warps .beats) (lists .warps .values) marks,
       speeds-size (lists .speeds .beats) (lists .speeds .ratios) (lists .speeds .delays) (lists .speeds .units),
       pairs-size (named scroll) (lists .scrolls .beats) (lists .scrolls .values),
       pairs-size (named fake) (lists .fakes .beats) (lists .fakes .values),

@@ -8,7 +8,7 @@ use lib.ListN.{length, take, drop, getD, length-take, drop-of-length-le}
 use lib.Seq.{drop-cons, getD-take}
 use lib.Ieee.{Float, nan}
 use Rattle.text_page.specs.Page.{Wrote}
-use Rattle.report_text.specs.Output.{pairLine, pairLines, speedLine, speedLines}
+use Rattle.report_text.specs.Output.{pairLine, pairLines, speedLine, speedLines, warpLine, warpLines}
 use Rattle.text_page.proofs.Joined.{Left, left-turn, left-end}
 
 -- a column that has ended ends the lines
@@ -34,6 +34,17 @@ no-unit [] ratios waits = refl
 no-unit (beat ∷ beats) [] waits = refl
 no-unit (beat ∷ beats) (ratio ∷ ratios) [] = refl
 no-unit (beat ∷ beats) (ratio ∷ ratios) (wait ∷ waits) = refl
+
+no-size : (beats : List Float) (marks : List ℕ) → warpLines beats [] marks ≡ []
+unfolding warpLines
+no-size [] marks = refl
+no-size (beat ∷ beats) marks = refl
+
+no-mark : (beats sizes : List Float) → warpLines beats sizes [] ≡ []
+unfolding warpLines
+no-mark [] sizes = refl
+no-mark (beat ∷ beats) [] = refl
+no-mark (beat ∷ beats) (size ∷ sizes) = refl
 
 -- what is left of the first entries of a column, behind the first i of them
 module _ {A : Type 0} (l : List A) (count i : ℕ) where
@@ -94,3 +105,28 @@ module _ {all : List ℕ} {start at : ℕ} {first now : List ℕ} where
 
     pub speeds-no-unit : length units ≤ i → Wrote all start at first now
     speeds-no-unit h = left-end (rw (front-end units count i h, no-unit (drop i (take count beats)) (drop i (take count ratios)) (drop i (take count waits))) at l)
+
+  -- ---- warp lines
+  pub warps-turn : {next : ℕ} {then : List ℕ} (count : ℕ) (beats sizes : List Float) (marks : List ℕ) (i : ℕ) → i < count → i < length beats → i < length sizes → i < length marks
+      → Left all (warpLines (drop i (take count beats)) (drop i (take count sizes)) (drop i (take count marks))) start at first now
+      → Wrote (warpLine (getD beats i nan) (getD sizes i nan) (getD marks i 0)) at next now then
+      → Left all (warpLines (drop (i + 1) (take count beats)) (drop (i + 1) (take count sizes)) (drop (i + 1) (take count marks))) start next first then
+  unfolding warpLines
+  warps-turn count beats sizes marks i n a b c l w =
+      rw (add-one i) (left-turn (rw (front-cons beats count i nan n a, front-cons sizes count i nan n b, front-cons marks count i 0 n c) at l) w)
+
+  module _ (count : ℕ) (beats sizes : List Float) (marks : List ℕ) (i : ℕ)
+      (l : Left all (warpLines (drop i (take count beats)) (drop i (take count sizes)) (drop i (take count marks))) start at first now) where
+    pub warps-all : count ≤ i → Wrote all start at first now
+    unfolding warpLines
+    warps-all h = left-end (rw (front-all beats count i h) at l)
+
+    pub warps-end : length beats ≤ i → Wrote all start at first now
+    unfolding warpLines
+    warps-end h = left-end (rw (front-end beats count i h) at l)
+
+    pub warps-no-size : length sizes ≤ i → Wrote all start at first now
+    warps-no-size h = left-end (rw (front-end sizes count i h, no-size (drop i (take count beats)) (drop i (take count marks))) at l)
+
+    pub warps-no-mark : length marks ≤ i → Wrote all start at first now
+    warps-no-mark h = left-end (rw (front-end marks count i h, no-mark (drop i (take count beats)) (drop i (take count sizes))) at l)

@@ -46,6 +46,16 @@ speedLines (beat ∷ beats) (ratio ∷ ratios) [] units = []
 speedLines (beat ∷ beats) (ratio ∷ ratios) (wait ∷ waits) [] = []
 speedLines (beat ∷ beats) (ratio ∷ ratios) (wait ∷ waits) (unit ∷ units) = speedLine beat ratio wait unit ++ speedLines beats ratios waits units
 
+-- a warp's line: beat, length and the one digit of its mark
+unfoldable pub warpLine : Float → Float → ℕ → List ℕ
+warpLine beat size mark = named warp ++ (number beat ++ ((44 ∷ []) ++ (number size ++ ((44 ∷ []) ++ (((48 + mark % 10) ∷ []) ++ (10 ∷ []))))))
+
+unfoldable pub warpLines : List Float → List Float → List ℕ → List ℕ
+warpLines [] sizes marks = []
+warpLines (beat ∷ beats) [] marks = []
+warpLines (beat ∷ beats) (size ∷ sizes) [] = []
+warpLines (beat ∷ beats) (size ∷ sizes) (mark ∷ marks) = warpLine beat size mark ++ warpLines beats sizes marks
+
 -- warped=, the rows that warps pass over
 unfoldable pub warpedLine : ℕ → List ℕ
 warpedLine rows = (119 ∷ 97 ∷ 114 ∷ 112 ∷ 101 ∷ 100 ∷ 61 ∷ []) ++ (decimalText rows ++ (10 ∷ []))
@@ -54,21 +64,24 @@ warpedLine rows = (119 ∷ 97 ∷ 114 ∷ 112 ∷ 101 ∷ 100 ∷ 61 ∷ []) ++ 
 unfoldable pub movedLine : ℕ → List ℕ
 movedLine moved = (109 ∷ 111 ∷ 118 ∷ 101 ∷ 100 ∷ 61 ∷ []) ++ (decimalText moved ++ (10 ∷ []))
 
--- the lines of a list of two columns, and of the speeds
+-- the lines of a list of two columns, of the warps with their marks, and of the speeds
 abbrev pub listLines : Pair → ListColumns → List ℕ
 listLines kind list = pairLines (named kind) (list .beats) (list .values)
+
+abbrev pub allWarps : ListColumns → (marks : List ℕ) → List ℕ
+allWarps warps marks = warpLines (warps .beats) (warps .values) marks
 
 abbrev pub allSpeeds : SpeedColumns → List ℕ
 allSpeeds speeds = speedLines (speeds .beats) (speeds .ratios) (speeds .delays) (speeds .units)
 
--- THE LISTS: offset, the seven lists in order, warped rows, entries off the grid
-unfoldable pub listsText : Float → (warped moved : ℕ) → ChartColumns → List ℕ
-listsText offset warped moved lists =
+-- THE LISTS: offset, the seven lists in order, each warp with its mark, warped rows, entries off the grid
+unfoldable pub listsText : Float → (warped moved : ℕ) → (marks : List ℕ) → ChartColumns → List ℕ
+listsText offset warped moved marks lists =
     offsetLine offset
     ++ (listLines bpm (lists .tempos)
     ++ (listLines stop (lists .stops)
     ++ (listLines delay (lists .delays)
-    ++ (listLines warp (lists .warps)
+    ++ (allWarps (lists .warps) marks
     ++ (allSpeeds (lists .speeds)
     ++ (listLines scroll (lists .scrolls)
     ++ (listLines fake (lists .fakes)

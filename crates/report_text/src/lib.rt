@@ -5,7 +5,7 @@ ghost use lib.ListN.{take};
 ghost use lib.Ieee.{toBits, binary32};
 ghost use Rattle.text_page.specs.Page.{Wrote};
 ghost use Rattle.text_page.specs.Digits.{decimalText};
-ghost use Rattle.report_text.specs.Output.{number, answerLine, offsetLine, pairLine, pairLines, speedLine, speedLines, warpedLine, movedLine};
+ghost use Rattle.report_text.specs.Output.{number, answerLine, offsetLine, pairLine, pairLines, speedLine, speedLines, warpLine, warpLines, warpedLine, movedLine};
 
 // A number by its pattern, and the byte that ends it.
 fn put_number(page: &mut [u8], at: usize, x: f32, end: u8) -> usize
@@ -116,6 +116,46 @@ pub fn put_speeds(
             return place;
         }
         place = put_speed(page, place, beats[i], ratios[i], delays[i], units[i]);
+        i += 1;
+    }
+    place
+}
+
+fn put_warp(page: &mut [u8], at: usize, beat: f32, length: f32, mark: u8) -> usize
+    ensures { λ r. ⌜ Wrote (warpLine beat length mark) at r page.entry.now page.exit.now ⌝ }
+{
+    let at = text_page::put_bytes(page, at, b"warp=");
+    let at = put_number(page, at, beat, b',');
+    let at = put_number(page, at, length, b',');
+    let at = text_page::put_byte(page, at, b'0' + mark % 10);
+    text_page::put_byte(page, at, b'\n')
+}
+
+// The same of warps with their marks.
+pub fn put_warps(
+    page: &mut [u8],
+    at: usize,
+    count: usize,
+    beats: &[f32],
+    lengths: &[f32],
+    marks: &[u8],
+) -> usize
+    ensures { λ r.
+        ⌜ Wrote (warpLines (take count beats.entry.now) (take count lengths.entry.now) (take count marks.entry.now)) at r page.entry.now page.exit.now ⌝ }
+{
+    let mut place = at;
+    let mut i = 0;
+    while i < count {
+        if i >= beats.len() {
+            return place;
+        }
+        if i >= lengths.len() {
+            return place;
+        }
+        if i >= marks.len() {
+            return place;
+        }
+        place = put_warp(page, place, beats[i], lengths[i], marks[i]);
         i += 1;
     }
     place

@@ -7,3 +7,4 @@ pub mod ByNumber
 pub mod AssembledText
 pub mod OneOutcome
 pub mod ReportOfText
+pub mod WrittenWarps

@@ -1,5 +1,5 @@
 -- An answer to lists of the report is at most 45,400 bytes long. Assumes nothing.
-use Prim.Native.Nat.{ℕ, _≤_}
+use Prim.Native.Nat.{ℕ, _+_, _≤_}
 use mathlib.Core.Path.{_≡_, refl, sym, ap, _∙_}
 use mathlib.Core.Bool.{Bool, true, false}
 use mathlib.Core.List.{List, [], map, _++_}
@@ -26,15 +26,15 @@ use Rattle.chart.specs.ChartColumns.{ChartColumns}
 use Rattle.assembly.specs.Assembly.{assembledDelays, assembledFakes, processedChart}
 use Rattle.assembly.proofs.Ends.{none-refused, others-fit}
 use Rattle.report_text.specs.Output.{answerLine}
-use Rattle.report_text.proofs.TextSizes.{FewEach, answer-size, lists-size}
+use Rattle.report_text.proofs.TextSizes.{FewEach, answer-size, taken-answer-size, lists-size}
 use Rattle.report_whole.specs.Taken.{timingLists, takenNumber, takenLists, takenText}
 
 -- a list that fits in 256 places, by any of its columns
 few-of : {A B : Type 0} (field : A → B) (tests : ℕ) (list : List A) → roomNumber tests (length list) 256 ≡ 0 → length (map field list) ≤ 256
 few-of field tests list h = omega (arith, length-map list field, taken-fits (sym h) .1)
 
-both-few : (line rest : List ℕ) → length line ≤ 28 → length rest ≤ 44871 → length (line ++ rest) ≤ 45400
-both-few line rest l r = simp length-append (omega arith)
+both-few : (line rest : List ℕ) (a b : ℕ) → length line ≤ a → length rest ≤ b → a + b ≤ 45400 → length (line ++ rest) ≤ 45400
+both-few line rest a b l r h = simp length-append (omega arith)
 
 module _ (format : TimingFormat) (raw : ChartColumns) where
   abbrev number : ℕ
@@ -61,5 +61,8 @@ module _ (format : TimingFormat) (raw : ChartColumns) where
   taken-size = by-case (eqb number 0) refl
     where
       by-case : (t : Bool) → eqb number 0 ≡ t → length (answerLine number ++ pick t (takenLists format raw) []) ≤ 45400
-      by-case false e = both-few (answerLine number) [] (answer-size number) (omega arith)
-      by-case true e = both-few (answerLine number) (takenLists format raw) (answer-size number) (lists-size _ _ _ _ (few-each (eqb-true number 0 e)))
+      by-case false e = both-few (answerLine number) [] 28 0 (answer-size number) (omega arith) (omega arith)
+      by-case true e =
+          let none = eqb-true number 0 e in
+          let short : length (answerLine number) ≤ 9 = omega (arith, ap (λ (n : ℕ). length (answerLine n)) none, taken-answer-size) in
+          both-few (answerLine number) (takenLists format raw) 9 45383 short (lists-size _ _ _ _ _ (few-each none)) (omega arith)

@@ -19,13 +19,16 @@ use Rattle.chart.specs.declared.TimingFormat.{TimingFormat}
 use Rattle.chart.specs.ChartColumns.{ListColumns, ChartColumns, ChartRoom, roomForEach}
 use Rattle.assembly.specs.declared.Assembled.{Assembled}
 use Rattle.assembly.specs.Assembly.{processedChart, movedBeats, movedTotal, Assembles}
+use Rattle.assembly.proofs.Ends.{none-refused}
+use Rattle.assembly.proofs.WithoutMarks.{as-many-marks}
+use Rattle.assembly_marks.specs.LentMarks.{MarkColumns}
 use Rattle.assembly_tempos.specs.AssembledTempos.{assembledWarps}
 use Rattle.lookup_warped.specs.WarpedRows.{warpedRows}
 use Rattle.lookup_warped.specs.OnePass.{onePass}
 use Rattle.lookup_warped_laws.proofs.AssembledOnce.{assembled-once}
 use Rattle.report_text.specs.Output.{answerLine, listsText, frontLists}
 use Rattle.report_answer.specs.Report.{doneText}
-use Rattle.report_whole.specs.Taken.{timingLists, takenNumber, takenLists, takenText}
+use Rattle.report_whole.specs.Taken.{allWritten, timingLists, timingMarks, takenNumber, takenLists, takenText}
 use Rattle.report_whole.proofs.SameColumns.{same-chart}
 
 -- the front of a column that a taken result was laid over
@@ -49,7 +52,8 @@ written done = record {
 abbrev pub passOf : ListColumns → ℕ
 passOf warps = onePass (entries (warps .beats) (warps .values))
 
-module _ (format : TimingFormat) (raw : ChartColumns) (done : Assembled) (old new : ChartColumns) (made : Assembles 256 format raw done old new) {warped moved : ℕ}
+module _ (format : TimingFormat) (raw : ChartColumns) (done : Assembled) (marks : MarkColumns) (old new : ChartColumns) (left : List ℕ) (made : Assembles 256 format raw marks done old new left)
+    (written-given : marks .given ≡ allWritten (raw .warps)) {warped moved : ℕ}
     (pass : warped ≡ passOf (frontLists (written done) new .warps)) (total : moved ≡ movedTotal (done .moved)) where
   -- the columns' fronts are the lists
   fronts-are : done .number ≡ 0 → frontLists (written done) new ≡ timingLists format raw
@@ -73,14 +77,23 @@ module _ (format : TimingFormat) (raw : ChartColumns) (done : Assembled) (old ne
         fakeLengths = front-laid second _ _ _ _ _ z (made .fakesAre .counted) (made .fakesAre .secondIs);
       })
 
+  -- and so are the marks' front
+  marks-are : done .number ≡ 0 → takenNumber format raw ≡ 0 → take (done .warps) left ≡ timingMarks format raw
+  unfolding given laid
+  marks-are z taken =
+      let passed = none-refused _ _ _ _ taken .rawTaken in
+      let counted : done .warps ≡ length (assembledWarps (processedChart format raw)) = rw z at (made .warpsAre .counted) in
+      let all : left ≡ laid (timingMarks format raw) (marks .room) = rw (z, written-given) at (made .marksAre) in
+      rw all (take-at (timingMarks format raw) _ (done .warps) (as-many-marks format raw (allWritten (raw .warps)) passed ∙ sym counted))
+
   abbrev lists : List ℕ
-  lists = listsText (done .offset) warped moved (frontLists (written done) new)
+  lists = listsText (done .offset) warped moved (take (done .warps) left) (frontLists (written done) new)
 
   -- of the timing's warps the pass is the number of warped rows
   rows-are : takenNumber format raw ≡ 0 → frontLists (written done) new ≡ timingLists format raw → warped ≡ warpedRows (assembledWarps (processedChart format raw))
   rows-are taken fronts =
       pass ∙ ap (λ (c : ChartColumns). passOf (c .warps)) fronts ∙ ap onePass (entries-columns (assembledWarps (processedChart format raw)))
-      ∙ assembled-once 256 format raw (roomForEach 256) taken
+      ∙ assembled-once 256 format raw (allWritten (raw .warps)) (roomForEach 256) taken
 
   lists-are : done .number ≡ 0 → takenNumber format raw ≡ 0 → lists ≡ takenLists format raw
   lists-are z taken =
@@ -88,9 +101,9 @@ module _ (format : TimingFormat) (raw : ChartColumns) (done : Assembled) (old ne
       let rows = rows-are taken fronts in
       let offset : done .offset ≡ narrow (processedChart format raw .offset) = made .offsetIs ∙ rw z in
       let counts : done .moved ≡ movedBeats format raw = made .movedAre ∙ rw z in
-      ap (listsText (done .offset) warped moved) fronts ∙ rw (rows, offset, total, counts)
+      ap (listsText (done .offset) warped moved (take (done .warps) left)) fronts ∙ rw (marks-are z taken, rows, offset, total, counts)
 
-  pub done-is-taken : done .number ≡ takenNumber format raw → doneText (done .number) (done .offset) warped moved (written done) new ≡ takenText format raw
+  pub done-is-taken : done .number ≡ takenNumber format raw → doneText (done .number) (done .offset) warped moved left (written done) new ≡ takenText format raw
   unfolding doneText takenText
   done-is-taken n = ap (λ (k : ℕ). answerLine k ++ pick (eqb k 0) lists []) n ∙ by-case (eqb number 0) refl
     where

@@ -90,6 +90,7 @@ pub fn write_report(
     let mut out_delay_values = [0.0f32; report_form::MOST_REPORTED];
     let mut out_warp_beats = [0.0f32; report_form::MOST_REPORTED];
     let mut out_warp_lengths = [0.0f32; report_form::MOST_REPORTED];
+    let mut out_warp_marks = [tidy_warps::WRITTEN; report_form::MOST_REPORTED];
     let mut out_speed_beats = [0.0f32; report_form::MOST_REPORTED];
     let mut out_speed_ratios = [0.0f32; report_form::MOST_REPORTED];
     let mut out_speed_delays = [0.0f32; report_form::MOST_REPORTED];
@@ -98,6 +99,8 @@ pub fn write_report(
     let mut out_scroll_values = [0.0f32; report_form::MOST_REPORTED];
     let mut out_fake_beats = [0.0f32; report_form::MOST_REPORTED];
     let mut out_fake_lengths = [0.0f32; report_form::MOST_REPORTED];
+    let warps_read = report_form::front(warp_beats, warps);
+    let written = [tidy_warps::WRITTEN; report_form::MOST_REPORTED];
     let done = assembly::compute_timing_segments(
         report_form::MOST_REPORTED,
         format_of(reading.ssc),
@@ -107,8 +110,9 @@ pub fn write_report(
         report_form::front(stop_values, stops),
         report_form::front(delay_beats, delays),
         report_form::front(delay_values, delays),
-        report_form::front(warp_beats, warps),
+        warps_read,
         report_form::front(warp_lengths, warps),
+        report_answer::front_units(&written, warps_read.len()),
         report_form::front(speed_beats, speeds),
         report_form::front(speed_ratios, speeds),
         report_form::front(speed_delays, speeds),
@@ -125,6 +129,7 @@ pub fn write_report(
         &mut out_delay_values,
         &mut out_warp_beats,
         &mut out_warp_lengths,
+        &mut out_warp_marks,
         &mut out_speed_beats,
         &mut out_speed_ratios,
         &mut out_speed_delays,
@@ -158,6 +163,7 @@ pub fn write_report(
         &out_delay_values,
         &out_warp_beats,
         &out_warp_lengths,
+        &out_warp_marks,
         &out_speed_beats,
         &out_speed_ratios,
         &out_speed_delays,

@@ -5,3 +5,4 @@ pub mod RowsRise
 pub mod LastOfEachRow
 pub mod TidiedAgain
 pub mod NoLonger
+pub mod AnyValues

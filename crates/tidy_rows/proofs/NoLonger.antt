@@ -10,13 +10,13 @@ use Rattle.order.proofs.TidiedList.{tidied-length}
 use Rattle.tidy_rows.specs.RowTidying.{tidyRows}
 use Rattle.rows.specs.RowKey.{rowKeyOf, onItsRow}
 
-entries-short : (beats values : List Float) → length (entries beats values) ≤ min (length beats) (length values)
+entries-short : {X : Type 0} (beats : List Float) (values : List X) → length (entries beats values) ≤ min (length beats) (length values)
 unfolding entries
 entries-short [] values = omega arith
 entries-short (beat ∷ beats) [] = omega arith
 entries-short (beat ∷ beats) (value ∷ values) = omega (arith, entries-short beats values)
 
-pub tidy-no-longer : (beats values : List Float) → length (tidyRows beats values) ≤ min (length beats) (length values)
+pub tidy-no-longer : {X : Type 0} (beats : List Float) (values : List X) → length (tidyRows beats values) ≤ min (length beats) (length values)
 unfolding tidyRows
 tidy-no-longer beats values =
     omega (arith, length-map (tidied rowKeyOf (entries beats values)) onItsRow, tidied-length rowKeyOf (entries beats values), entries-short beats values)

@@ -11,8 +11,8 @@ use Rattle.order.specs.Entries.{entries}
 use Rattle.columns.specs.declared.Outcome.{Outcome}
 use Rattle.columns.specs.Laying.{LaidPair}
 
--- strictly rising by row, each row with the value that came last for it, each beat moved to its row
-unfoldable pub tidyRows : List Float → List Float → List (Float × Float)
+-- strictly rising by row, each row with the value that came last for it, each beat moved to its row. A value is never looked at, so it may be anything
+unfoldable pub tidyRows : {X : Type 0} → List Float → List X → List (Float × X)
 tidyRows beats values = map onItsRow (tidied rowKeyOf (entries beats values))
 
 -- the tests of a list before it is tidied

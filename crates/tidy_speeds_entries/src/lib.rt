@@ -1,7 +1,5 @@
-// What both ways of speed tidying share: a speed, nearness of speeds, the room of four columns, and a column of units, copied.
+// What both ways of speed tidying share: a speed, nearness of speeds, and the room of four columns.
 ghost use mathlib.Core.Path.{_≡_};
-ghost use Prim.Native.Nat.{ℕ};
-ghost use Rattle.columns.specs.Each.{laidEach};
 ghost use Rattle.tidy_speeds_entries.specs.Speed.{speedValueOf, nearSpeed};
 ghost use Rattle.tidy_speeds_entries.specs.LaidSpeeds.{leastOf};
 
@@ -33,16 +31,4 @@ pub fn least_of(first: usize, second: usize, third: usize, fourth: usize) -> usi
         columns::room_of(first, second),
         columns::room_of(third, fourth),
     )
-}
-
-// `columns::copy` of units.
-pub fn copy_units(from: &[u8], to: &mut [u8])
-    ensures { λ _. ⌜ to.exit.now ≡ laidEach (λ (x : ℕ). x) from.entry.now to.entry.now ⌝ }
-{
-    let n = columns::room_of(from.len(), to.len());
-    let mut i = 0;
-    while i < n {
-        to[i] = from[i];
-        i += 1;
-    }
 }

@@ -309,11 +309,12 @@ impl Bench {
 
 impl Bench {
     fn assembly(&mut self, name: &str, ssc: bool, mut raw: assembly::Raw) {
-        let mut rooms = assembly::Rooms::new([1_024; 16], &mut Random::new(1, "bench of assembly"));
+        let mut rooms = assembly::Rooms::new([1_024; 17], &mut Random::new(1, "bench of assembly"));
         // full lists leave no place for made warps
         if assembly::assemble(ssc, &raw, &mut rooms).number == 1 {
             raw.numbers[assembly::WARPS].clear();
             raw.numbers[assembly::WARPS + 1].clear();
+            raw.marks.clear();
         }
         assert_eq!(assembly::assemble(ssc, &raw, &mut rooms).number, 0, "{name}");
         self.line(

@@ -15,7 +15,7 @@ use oracle::random::Random;
 use oracle::sheet;
 use oracle::sm_stops;
 use oracle::tally::{Tally, Total};
-use oracle::{assembly, notes, speeds, tempo_text, tidying, warped};
+use oracle::{assembly, notes, speeds, tempo_text, tidying, warp_marks, warped};
 use std::process::ExitCode;
 
 fn main() -> ExitCode {
@@ -29,6 +29,7 @@ fn main() -> ExitCode {
     there_and_back::<called::note_row_to_beat_f32, called::beat_to_note_row_f32>(&mut total);
     tidying::compare_all(work, &mut total);
     lookups::compare_all(work, &mut total);
+    warp_marks::compare_all(work, &mut total);
     warped::compare_all(work, &mut total);
     processing::compare_all(work, &mut total);
     sm_stops::compare_all(work, &mut total);

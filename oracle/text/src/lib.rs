@@ -119,6 +119,7 @@ fn raw(chart: &Chart) -> Raw {
         raw.numbers[assembly::SPEEDS + 2].push(speed.delay);
         raw.units.push(u8::from(speed.unit == SpeedUnit::Seconds));
     }
+    raw.marks = vec![0; chart.warps.len()];
     raw
 }
 

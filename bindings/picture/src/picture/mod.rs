@@ -31,6 +31,8 @@ const TEMPO: &str = "#1e7145";
 const STOP: &str = "#c0392b";
 const DELAY: &str = "#2471a3";
 const WARP: &str = "#b9770e";
+/// Warps that were made of a tempo or a stop.
+const MADE: &str = "#6b7a00";
 const FAKE: &str = "#7d5ba6";
 const SCROLL: &str = "#117a65";
 const SPEED: &str = "#a04000";
@@ -47,7 +49,8 @@ fn counted(timing: &Timing) -> String {
         (timing.tempos().len(), "tempo"),
         (timing.stops().len(), "stop"),
         (timing.delays().len(), "delay"),
-        (timing.warps().len(), "warp"),
+        (timing.marked_warps().filter(|warp| !warp.made).count(), "warp"),
+        (timing.marked_warps().filter(|warp| warp.made).count(), "made warp"),
         (timing.fakes().len(), "fake"),
         (timing.scrolls().len(), "scroll"),
         (timing.speeds().len(), "speed"),
@@ -68,8 +71,9 @@ pub fn draw(title: &str, seen: &Seen, from: Option<f64>, to: Option<f64>) -> Res
     let strips: Vec<Strip<'_>> = [
         pauses(timing.stops(), "stop", STOP),
         pauses(timing.delays(), "delay", DELAY),
-        spans(&warps, "warp", WARP),
-        spans(&fakes, "fake", FAKE),
+        spans(&warps, false, "warp", WARP),
+        spans(&warps, true, "made warp", MADE),
+        spans(&fakes, false, "fake", FAKE),
     ]
     .into_iter()
     .filter(|strip| !strip.marks.is_empty())

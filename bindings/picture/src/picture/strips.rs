@@ -1,9 +1,9 @@
 //! Strips of events by their kind, and the bands of warps and fakes through the panels.
 
 use super::axes::{Beats, value_words};
-use super::{FAKE, LAST, LEFT, RIGHT, SMALL, STOP, WARP};
+use super::{FAKE, LAST, LEFT, MADE, RIGHT, SMALL, STOP, WARP};
 use crate::svg::{Anchor, Area, Room, Svg, Words};
-use marrighentu::{Columns, Timing};
+use marrighentu::{Columns, Timing, Warp};
 
 /// Where the clock goes back to by a warp of negative length: its end, or that of a warp before it if that lies further on.
 pub(super) fn goes_back_to(warps: &Columns<f32>, place: usize) -> f64 {
@@ -17,6 +17,8 @@ pub(super) struct Band {
     pub(super) fill: &'static str,
     /// Whether the clock goes back over it.
     pub(super) back: bool,
+    /// Whether it is a warp that was made of a tempo or a stop.
+    pub(super) made: bool,
     pub(super) title: String,
     pub(super) words: String,
 }
@@ -25,26 +27,28 @@ pub(super) struct Band {
 const BACK: &str = "url(#back)";
 
 pub(super) fn bands(timing: &Timing) -> (Vec<Band>, Vec<Band>) {
-    let warps = timing.warps().iter().enumerate().map(|(place, (beat, length))| {
+    let warps = timing.marked_warps().enumerate().map(|(place, Warp { beat, length, made })| {
         let (start, end) = (f64::from(beat), f64::from(beat) + f64::from(length));
+        let (fill, from) = if made { (MADE, ", made of a tempo or a stop") } else { (WARP, "") };
         if length < 0.0 {
             let back = goes_back_to(timing.warps(), place).min(start);
             let title = format!(
-                "warp at beat {beat} for {length} beats: a negative length, the clock goes back to beat {back} and counts from there again"
+                "warp at beat {beat} for {length} beats{from}: a negative length, the clock goes back to beat {back} and counts from there again"
             );
-            Band { from: back, to: start, fill: BACK, back: true, title, words: format!("{} back", value_words(length)) }
+            let words = format!("{} back", value_words(length));
+            Band { from: back, to: start, fill: BACK, back: true, made, title, words }
         } else if end > LAST {
-            let title = format!("warp at beat {beat} for {length} beats, which never ends");
-            Band { from: start, to: LAST, fill: WARP, back: false, title, words: "never ends".into() }
+            let title = format!("warp at beat {beat} for {length} beats{from}, which never ends");
+            Band { from: start, to: LAST, fill, back: false, made, title, words: "never ends".into() }
         } else {
-            let title = format!("warp at beat {beat} for {length} beats");
-            Band { from: start, to: end, fill: WARP, back: false, title, words: value_words(length) }
+            let title = format!("warp at beat {beat} for {length} beats{from}");
+            Band { from: start, to: end, fill, back: false, made, title, words: value_words(length) }
         }
     });
     let fakes = timing.fakes().iter().map(|(beat, length)| {
         let (from, to) = (f64::from(beat), (f64::from(beat) + f64::from(length)).min(LAST));
         let title = format!("fake at beat {beat} for {length} beats");
-        Band { from, to, fill: FAKE, back: false, title, words: value_words(length) }
+        Band { from, to, fill: FAKE, back: false, made: false, title, words: value_words(length) }
     });
     (warps.collect(), fakes.collect())
 }
@@ -85,8 +89,9 @@ pub(super) fn pauses<'a>(list: &Columns<f32>, name: &'a str, colour: &'a str) ->
     Strip { name, colour, marks: marks.collect() }
 }
 
-pub(super) fn spans<'a>(bands: &[Band], name: &'a str, colour: &'a str) -> Strip<'a> {
-    let marks = bands.iter().map(|band| Mark {
+/// The bands of one origin on a strip of their own: warps that were written, warps that were made, fakes.
+pub(super) fn spans<'a>(bands: &[Band], made: bool, name: &'a str, colour: &'a str) -> Strip<'a> {
+    let marks = bands.iter().filter(|band| band.made == made).map(|band| Mark {
         from: band.from,
         to: Some(band.to),
         back: band.back,

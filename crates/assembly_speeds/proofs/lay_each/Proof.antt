@@ -34,8 +34,8 @@ narrow-column-requires c κs = search needs
 narrow-column-requires-2 : tie.Need-narrow-column-requires-2
 narrow-column-requires-2 c κs = search needs
 
-copy-units-requires : tie.Need-copy-units-requires
-copy-units-requires c κs = search needs
+copy-bytes-requires : tie.Need-copy-bytes-requires
+copy-bytes-requires c κs = search needs
 
 same-length : tie.Need-same-length
 same-length c = search needs
@@ -60,7 +60,7 @@ returns-2 c =
       beatsAre = c .before .before .before .before .before .before .before .before .before .before .before .before .before .before .copy-column-f32 .ensures ∙ laid .beatsAre;
       ratiosAre = c .before .before .before .before .before .before .before .before .before .before .narrow-column .ensures ∙ laid .ratiosAre;
       delaysAre = c .before .before .before .before .before .before .narrow-column2 .ensures ∙ laid .delaysAre;
-      unitsAre = c .before .before .copy-units .ensures ∙ laid .unitsAre;
+      unitsAre = c .before .before .copy-bytes .ensures ∙ laid .unitsAre;
     })
 
 pub lay-each-spec : {M : Type 1} → statement M
@@ -73,7 +73,7 @@ lay-each-spec =
     copy-column-f32-requires
     narrow-column-requires
     narrow-column-requires-2
-    copy-units-requires
+    copy-bytes-requires
     same-length
     same-length-2
     same-length-3

@@ -63,11 +63,11 @@ slice-aggregate-narrow-column-3 c = sym (length-take-le _ _ (omega (arith, c .be
 narrow-column-requires-3 : tie.Need-narrow-column-requires-3
 narrow-column-requires-3 c κs = search needs
 
-slice-aggregate-copy-units : tie.Need-slice-aggregate-copy-units
-slice-aggregate-copy-units c = sym (length-take-le _ _ (omega (arith, c .before .before .before .before .before .before .before .before .before .before .before .before .before .before .before .before .before .before .room-of .ensures, c .before .before .before .before .before .before .before .before .before .before .before .before .before .before .before .before .before .before .before .least-of .ensures)))
+slice-aggregate-copy-bytes : tie.Need-slice-aggregate-copy-bytes
+slice-aggregate-copy-bytes c = sym (length-take-le _ _ (omega (arith, c .before .before .before .before .before .before .before .before .before .before .before .before .before .before .before .before .before .before .room-of .ensures, c .before .before .before .before .before .before .before .before .before .before .before .before .before .before .before .before .before .before .before .least-of .ensures)))
 
-copy-units-requires : tie.Need-copy-units-requires
-copy-units-requires c κs = search needs
+copy-bytes-requires : tie.Need-copy-bytes-requires
+copy-bytes-requires c κs = search needs
 
 same-length : tie.Need-same-length
 same-length c = search needs
@@ -101,7 +101,7 @@ returns-3 c =
           c .before .before .before .before .before .before .before .narrow-column3 .ensures ∙ laid-front narrow n (given .delays .now) (given .out-delays .now) (own .2) (out .2)
           ∙ ap (λ (l : List Float). laid l (given .out-delays .now)) (sym (front-delays (given .count) n (speedColumns (given .beats .now) (given .ratios .now) (given .delays .now) (given .units .now)) few));
       unitsAre =
-          c .before .before .copy-units .ensures ∙ laid-front (λ (unit : ℕ). unit) n (given .units .now) (given .out-units .now) (own .3) (out .3)
+          c .before .before .copy-bytes .ensures ∙ laid-front (λ (unit : ℕ). unit) n (given .units .now) (given .out-units .now) (own .3) (out .3)
           ∙ ap (λ (l : List ℕ). laid l (given .out-units .now)) (map-id (take n (given .units .now)) ∙ sym (front-units (given .count) n (speedColumns (given .beats .now) (given .ratios .now) (given .delays .now) (given .units .now)) few));
     })
 
@@ -122,8 +122,8 @@ lay-narrowed-spec =
     narrow-column-requires-2
     slice-aggregate-narrow-column-3
     narrow-column-requires-3
-    slice-aggregate-copy-units
-    copy-units-requires
+    slice-aggregate-copy-bytes
+    copy-bytes-requires
     same-length
     same-length-2
     same-length-3

@@ -13,14 +13,13 @@ given s = threeColumns (s .args .tempo-beats .now) (s .args .tempo-values .now) 
 
 few-rooms : tie.Need-assemble-in-requires
 few-rooms c κs =
-    let few = c .before .before .before .before .before .before .before .before .before .before .before .before in
-    let start = few .before .before .before .before .before .before .before .before .before .before .before .before .before .before .before in
+    let start = c .before .before .before .before .before .before .before .before .before .before .before .before .before .before .before .before .before .before .before .before .before .before .before .before .before .before .before .before .before .before in
     work-rooms 64 (start .args .format) (given start) (omega arith) (length-replicate {A = Float} 64 (ofBits binary64 0)) (length-replicate {A = Float} 192 (ofBits binary64 0))
-    (λ h. record { tempos = few .before .before .if1 .taken; stops = few .before .if2 .taken; warps = few .if3 .taken })
+    (λ h. record { tempos = c .before .before .before .before .before .before .before .before .before .before .before .before .before .before .before .if1 .taken; stops = c .before .before .before .before .before .before .before .before .before .before .before .before .before .before .if2 .taken; warps = c .before .before .before .before .before .before .before .before .before .before .before .before .before .if3 .taken })
 
 many-rooms : tie.Need-assemble-in-requires-2
 many-rooms c κs =
-    let start = c .before .before .before .before .before .before .before .before .before .before .before .before .before .before .before .before .before .before .before .before .before .before .before .before .before in
+    let start = c .before .before .before .before .before .before .before .before .before .before .before .before .before .before .before .before .before .before .before .before .before .before .before .before .before .before .before .before in
     work-rooms 1024 (start .args .format) (given start) (omega arith) (length-replicate {A = Float} 1024 (ofBits binary64 0)) (length-replicate {A = Float} 3072 (ofBits binary64 0))
     (lengths-few (given start))
 
@@ -30,9 +29,21 @@ assemble-tempos-spec =
     (tie.spec
     (λ c. search needs) (λ c. search needs) (λ c. search needs) (λ c. search needs) (λ c. search needs) (λ c. search needs)
     few-rooms
-    (λ c. search needs) (λ c. search needs) (λ c. search needs) (λ c. search needs) (λ c. search needs) (λ c. search needs)
-    (λ c. c .before .before .before .before .before .before .before .before .before .before .before .before .before .before .before .before .before .before .assemble-in .ensures)
+    (λ c. c .before .before .before .before .before .before .before .before .before .before .before .before .before .out-tempo-beats .given)
+    (λ c. c .before .before .before .before .before .before .before .before .before .before .before .out-tempo-values .given)
+    (λ c. c .before .before .before .before .before .before .before .before .before .out-stop-beats .given)
+    (λ c. c .before .before .before .before .before .before .before .out-stop-values .given)
+    (λ c. c .before .before .before .before .before .out-warp-beats .given)
+    (λ c. c .before .before .before .out-warp-lengths .given)
+    (λ c. c .before .out-warp-marks .given)
+    (λ c. c .before .before .before .before .before .before .before .before .before .before .before .before .before .before .before .before .before .before .before .before .assemble-in .ensures)
     (λ c. search needs) (λ c. search needs) (λ c. search needs) (λ c. search needs) (λ c. search needs) (λ c. search needs)
     many-rooms
-    (λ c. search needs) (λ c. search needs) (λ c. search needs) (λ c. search needs) (λ c. search needs) (λ c. search needs)
-    (λ c. c .before .before .before .before .before .before .before .before .before .before .before .before .before .before .before .before .before .before .assemble-in2 .ensures))
+    (λ c. c .before .before .before .before .before .before .before .before .before .before .before .before .before .out-tempo-beats2 .given)
+    (λ c. c .before .before .before .before .before .before .before .before .before .before .before .out-tempo-values2 .given)
+    (λ c. c .before .before .before .before .before .before .before .before .before .out-stop-beats2 .given)
+    (λ c. c .before .before .before .before .before .before .before .out-stop-values2 .given)
+    (λ c. c .before .before .before .before .before .out-warp-beats2 .given)
+    (λ c. c .before .before .before .out-warp-lengths2 .given)
+    (λ c. c .before .out-warp-marks2 .given)
+    (λ c. c .before .before .before .before .before .before .before .before .before .before .before .before .before .before .before .before .before .before .before .before .assemble-in2 .ensures))

@@ -1,5 +1,5 @@
 -- Processed columns, as the steps of assembly take them: what they are, and room for them. Definitions only.
-use Prim.Native.Nat.{ℕ, _≤_}
+use Prim.Native.Nat.{ℕ, _+_, _≤_}
 use mathlib.Core.Bool.{Bool, true, not, _&&_}
 use mathlib.Core.List.{List, map}
 use mathlib.Core.Path.{_≡_}
@@ -10,6 +10,9 @@ use Rattle.rows.specs.Rows.{quantized}
 use Rattle.limits.specs.Numbers.{every}
 use Rattle.order.specs.Entries.{entries}
 use Rattle.tidy_rows.specs.RowTidying.{rowsNumber}
+use Rattle.tidy_warps.specs.Marks.{isMark}
+use Rattle.tidy_warps.specs.WarpTidying.{markedNumber}
+use Rattle.assembly_marks.specs.AssembledMarks.{assembledMarks}
 use Rattle.chart.specs.declared.TimingFormat.{TimingFormat}
 use Rattle.chart.specs.declared.TimingFormat.the-variants.{Sm}
 use Rattle.process.specs.ByFormat.{ThreeLists}
@@ -32,6 +35,17 @@ pub record Processed (columns : ThreeColumns) : Type 0 where
   pub onRows : map quantized (columns .stops .beats) ≡ columns .stops .beats
   pub even : length (columns .warps .beats) ≡ length (columns .warps .values)
   pub warps : length (columns .warps .beats) ≤ mostEntries → rowsNumber (columns .warps .beats) (columns .warps .values) ≡ 0
+
+-- the marks of the given ones among so many warps, and how many are made behind them
+pub record MarksBeside (beats : List Float) (marks : List ℕ) (made : ℕ) : Type 0 where
+  pub asMany : length marks + made ≡ length beats
+  pub areMarks : every isMark marks ≡ true
+
+-- marks that are taken beside these beats, of which so many are left and fit their room
+pub record MarksFit (beats : List Float) (marks : List ℕ) (count room : ℕ) : Type 0 where
+  pub taken : markedNumber (map quantized beats) marks ≡ 0
+  pub counted : count ≡ length (assembledMarks beats marks)
+  pub fits : count ≤ room
 
 -- columns as lists
 abbrev pub listsOf : ThreeColumns → Float → ThreeLists

@@ -41,8 +41,8 @@ gather-requires c κs = search needs
 gather-requires-2 : tie.Need-gather-requires-2
 gather-requires-2 c κs = search needs
 
-copy-units-requires : tie.Need-copy-units-requires
-copy-units-requires c κs = search needs
+copy-bytes-requires : tie.Need-copy-bytes-requires
+copy-bytes-requires c κs = search needs
 
 same-length : tie.Need-same-length
 same-length c = search needs
@@ -62,7 +62,7 @@ returns-3 c =
     let asked = branch .before in
     let start = asked .before .before .before .before .before .before .before .before .before in
     let given = start .args in
-    all-laid (listColumns (given .beats .now) (given .values .now)) (listColumns (given .out-beats .now) (given .out-values .now)) (given .out-fates .now) (start .pre .0) (start .pre .1) (asked .before .if1 .left) (omega (arith, asked .room-of .ensures, branch .if2 .left)) (beats .gather .ensures) (values .gather2 .ensures) (copied .copy-units .ensures)
+    all-laid (listColumns (given .beats .now) (given .values .now)) (listColumns (given .out-beats .now) (given .out-values .now)) (given .out-fates .now) (start .pre .0) (start .pre .1) (asked .before .if1 .left) (omega (arith, asked .room-of .ensures, branch .if2 .left)) (beats .gather .ensures) (values .gather2 .ensures) (copied .copy-bytes .ensures)
 
 pub lay-mended-spec : {M : Type 1} → statement M
 lay-mended-spec =
@@ -76,7 +76,7 @@ lay-mended-spec =
     slice-aggregate-written
     gather-requires
     gather-requires-2
-    copy-units-requires
+    copy-bytes-requires
     same-length
     same-length-2
     same-length-3

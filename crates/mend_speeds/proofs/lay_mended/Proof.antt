@@ -47,8 +47,8 @@ gather-requires-3 c κs = search needs
 gather-bytes-requires : tie.Need-gather-bytes-requires
 gather-bytes-requires c κs = search needs
 
-copy-units-requires : tie.Need-copy-units-requires
-copy-units-requires c κs = search needs
+copy-bytes-requires : tie.Need-copy-bytes-requires
+copy-bytes-requires c κs = search needs
 
 same-length : tie.Need-same-length
 same-length c = search needs
@@ -76,7 +76,7 @@ returns-3 c =
     let asked = branch .before in
     let start = asked .before .before .before .before .before .before .before .before .before .before .before .before .before in
     let given = start .args in
-    all-laid (speedColumns (given .beats .now) (given .ratios .now) (given .delays .now) (given .units .now)) (speedColumns (given .out-beats .now) (given .out-ratios .now) (given .out-delays .now) (given .out-units .now)) (given .out-fates .now) (start .pre .0) (start .pre .1) (asked .before .if1 .left) (omega (arith, asked .least-of .ensures, branch .if2 .left)) (beats .gather .ensures) (ratios .gather2 .ensures) (delays .gather3 .ensures) (units .gather-bytes .ensures) (copied .copy-units .ensures)
+    all-laid (speedColumns (given .beats .now) (given .ratios .now) (given .delays .now) (given .units .now)) (speedColumns (given .out-beats .now) (given .out-ratios .now) (given .out-delays .now) (given .out-units .now)) (given .out-fates .now) (start .pre .0) (start .pre .1) (asked .before .if1 .left) (omega (arith, asked .least-of .ensures, branch .if2 .left)) (beats .gather .ensures) (ratios .gather2 .ensures) (delays .gather3 .ensures) (units .gather-bytes .ensures) (copied .copy-bytes .ensures)
 
 pub lay-mended-spec : {M : Type 1} → statement M
 lay-mended-spec =
@@ -92,7 +92,7 @@ lay-mended-spec =
     gather-requires-2
     gather-requires-3
     gather-bytes-requires
-    copy-units-requires
+    copy-bytes-requires
     same-length
     same-length-2
     same-length-3

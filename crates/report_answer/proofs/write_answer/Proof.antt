@@ -18,17 +18,17 @@ taken-returns : tie.Need-returns-2
 unfolding doneText listsText
 taken-returns c =
     let lists =
-    wrote-join (c .before .before .before .before .before .before .before .before .before .before .before .before .before .before .before .before .before .before .before .before .before .before .before .before .before .before .before .before .before .before .before .before .before .before .before .before .before .before .before .before .before .before .before .before .put-offset .ensures)
-    (wrote-join (c .before .before .before .before .before .before .before .before .before .before .before .before .before .before .before .before .before .before .before .before .before .before .before .before .before .before .before .before .before .before .before .before .before .before .before .before .before .before .before .put-pairs .ensures)
-    (wrote-join (c .before .before .before .before .before .before .before .before .before .before .before .before .before .before .before .before .before .before .before .before .before .before .before .before .before .before .before .before .before .before .before .before .before .before .put-pairs2 .ensures)
-    (wrote-join (c .before .before .before .before .before .before .before .before .before .before .before .before .before .before .before .before .before .before .before .before .before .before .before .before .before .before .before .before .before .put-pairs3 .ensures)
-    (wrote-join (c .before .before .before .before .before .before .before .before .before .before .before .before .before .before .before .before .before .before .before .before .before .before .before .before .put-pairs4 .ensures)
+    wrote-join (c .before .before .before .before .before .before .before .before .before .before .before .before .before .before .before .before .before .before .before .before .before .before .before .before .before .before .before .before .before .before .before .before .before .before .before .before .before .before .before .before .before .before .before .put-offset .ensures)
+    (wrote-join (c .before .before .before .before .before .before .before .before .before .before .before .before .before .before .before .before .before .before .before .before .before .before .before .before .before .before .before .before .before .before .before .before .before .before .before .before .before .before .put-pairs .ensures)
+    (wrote-join (c .before .before .before .before .before .before .before .before .before .before .before .before .before .before .before .before .before .before .before .before .before .before .before .before .before .before .before .before .before .before .before .before .before .put-pairs2 .ensures)
+    (wrote-join (c .before .before .before .before .before .before .before .before .before .before .before .before .before .before .before .before .before .before .before .before .before .before .before .before .before .before .before .before .put-pairs3 .ensures)
+    (wrote-join (c .before .before .before .before .before .before .before .before .before .before .before .before .before .before .before .before .before .before .before .before .before .before .before .before .put-warps .ensures)
     (wrote-join (c .before .before .before .before .before .before .before .before .before .before .before .before .before .before .before .before .before .before .before .before .put-speeds .ensures)
-    (wrote-join (c .before .before .before .before .before .before .before .before .before .before .before .before .before .before .before .put-pairs5 .ensures)
-    (wrote-join (c .before .before .before .before .before .before .before .before .before .before .put-pairs6 .ensures)
+    (wrote-join (c .before .before .before .before .before .before .before .before .before .before .before .before .before .before .before .put-pairs4 .ensures)
+    (wrote-join (c .before .before .before .before .before .before .before .before .before .before .put-pairs5 .ensures)
     (wrote-join (c .before .before .before .before .before .before .put-warped .ensures)
     (c .before .before .put-moved .ensures))))))))) in
-    let wrote = wrote-join (c .before .before .before .before .before .before .before .before .before .before .before .before .before .before .before .before .before .before .before .before .before .before .before .before .before .before .before .before .before .before .before .before .before .before .before .before .before .before .before .before .before .before .before .before .before .before .before .before .before .put-answer .ensures) (wrote-as (taken-lists _ _ (c .before .before .before .before .before .before .before .before .before .before .before .before .before .before .before .before .before .before .before .before .before .before .before .before .before .before .before .before .before .before .before .before .before .before .before .before .before .before .before .before .before .before .before .before .before .before .if1 .left)) lists) in
+    let wrote = wrote-join (c .before .before .before .before .before .before .before .before .before .before .before .before .before .before .before .before .before .before .before .before .before .before .before .before .before .before .before .before .before .before .before .before .before .before .before .before .before .before .before .before .before .before .before .before .before .before .before .before .put-answer .ensures) (wrote-as (taken-lists _ _ (c .before .before .before .before .before .before .before .before .before .before .before .before .before .before .before .before .before .before .before .before .before .before .before .before .before .before .before .before .before .before .before .before .before .before .before .before .before .before .before .before .before .before .before .before .before .if1 .left)) lists) in
     (wrote, wrote-counts wrote)
 
 pub write-answer-spec : {M : Type 1} → statement M
@@ -42,7 +42,7 @@ write-answer-spec =
     (λ c. search needs) (λ c κs. search needs)
     (λ c. search needs) (λ c κs. search needs)
     (λ c. search needs) (λ c κs. search needs)
-    (λ c. search needs) (λ c κs. search needs)
+    (λ c κs. search needs)
     (λ c κs. search needs)
     (λ c. search needs) (λ c κs. search needs)
     (λ c. search needs) (λ c κs. search needs)

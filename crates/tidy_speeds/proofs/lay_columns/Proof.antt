@@ -22,8 +22,8 @@ copy-requires c κs = search needs
 copy-requires-2 : tie.Need-copy-requires-2
 copy-requires-2 c κs = search needs
 
-copy-units-requires : tie.Need-copy-units-requires
-copy-units-requires c κs = search needs
+copy-bytes-requires : tie.Need-copy-bytes-requires
+copy-bytes-requires c κs = search needs
 
 same-length : tie.Need-same-length
 same-length c = search needs
@@ -47,7 +47,7 @@ returns c =
       beatsAre = c .before .before .before .before .before .before .before .before .before .before .before .before .before .before .lay-on-rows .ensures ∙ marked-over-front (s .args .beats .now) (s .args .out-beats .now) (apart .allowed) (omega (arith, room)) ∙ ap (λ (l : List Float). laid l (s .args .out-beats .now)) (sym (fields .beatsAre));
       ratiosAre = c .before .before .before .before .before .before .before .before .before .before .copy .ensures ∙ copied-over-front (s .args .ratios .now) (s .args .out-ratios .now) (omega (arith, room, apart .ratiosEven)) ∙ ap (λ (l : List Float). laid l (s .args .out-ratios .now)) (sym (fields .ratiosAre));
       delaysAre = c .before .before .before .before .before .before .copy2 .ensures ∙ copied-over-front (s .args .delays .now) (s .args .out-delays .now) (omega (arith, room, apart .delaysEven)) ∙ ap (λ (l : List Float). laid l (s .args .out-delays .now)) (sym (fields .delaysAre));
-      unitsAre = c .before .before .copy-units .ensures ∙ copied-over-front (s .args .units .now) (s .args .out-units .now) (omega (arith, room, apart .unitsEven)) ∙ ap (λ (l : List ℕ). laid l (s .args .out-units .now)) (sym (fields .unitsAre));
+      unitsAre = c .before .before .copy-bytes .ensures ∙ copied-over-front (s .args .units .now) (s .args .out-units .now) (omega (arith, room, apart .unitsEven)) ∙ ap (λ (l : List ℕ). laid l (s .args .out-units .now)) (sym (fields .unitsAre));
     }
 
 pub lay-columns-spec : {M : Type 1} → statement M
@@ -57,7 +57,7 @@ lay-columns-spec =
     lay-on-rows-requires
     copy-requires
     copy-requires-2
-    copy-units-requires
+    copy-bytes-requires
     same-length
     same-length-2
     same-length-3

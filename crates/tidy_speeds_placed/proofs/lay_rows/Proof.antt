@@ -35,11 +35,11 @@ slice-aggregate-copy-2 c = sym (length-take-le _ _ (c .before .before .before .b
 copy-requires-2 : tie.Need-copy-requires-2
 copy-requires-2 c κs = search needs
 
-slice-aggregate-copy-units : tie.Need-slice-aggregate-copy-units
-slice-aggregate-copy-units c = sym (length-take-le _ _ (c .before .before .before .before .before .before .before .before .before .before .before .before .before .before .before .before .before .before .before .before .before .before .before .before .pre .0 .3))
+slice-aggregate-copy-bytes : tie.Need-slice-aggregate-copy-bytes
+slice-aggregate-copy-bytes c = sym (length-take-le _ _ (c .before .before .before .before .before .before .before .before .before .before .before .before .before .before .before .before .before .before .before .before .before .before .before .before .pre .0 .3))
 
-copy-units-requires : tie.Need-copy-units-requires
-copy-units-requires c κs = search needs
+copy-bytes-requires : tie.Need-copy-bytes-requires
+copy-bytes-requires c κs = search needs
 
 same-length : tie.Need-same-length
 same-length c = search needs
@@ -74,7 +74,7 @@ returns c =
           ∙ copied-over-front (take n (s .args .delays .now)) (s .args .out-delays .now) (omega (arith, length-take-le n (s .args .delays .now) (s .pre .0 .2), room))
           ∙ ap (λ (l : List Float). laid l (s .args .out-delays .now)) (sym (ap (λ (l : List SpeedEntry). map delayOf (map speedOnRow l)) front ∙ fields .delaysAre));
       unitsAre =
-          c .before .before .copy-units .ensures
+          c .before .before .copy-bytes .ensures
           ∙ copied-over-front (take n (s .args .units .now)) (s .args .out-units .now) (omega (arith, length-take-le n (s .args .units .now) (s .pre .0 .3), room))
           ∙ ap (λ (l : List ℕ). laid l (s .args .out-units .now)) (sym (ap (λ (l : List SpeedEntry). map unitOf (map speedOnRow l)) front ∙ fields .unitsAre));
     }
@@ -89,8 +89,8 @@ lay-rows-spec =
     copy-requires
     slice-aggregate-copy-2
     copy-requires-2
-    slice-aggregate-copy-units
-    copy-units-requires
+    slice-aggregate-copy-bytes
+    copy-bytes-requires
     same-length
     same-length-2
     same-length-3

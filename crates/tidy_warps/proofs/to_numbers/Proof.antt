@@ -1,17 +1,17 @@
--- `tidy_speeds_entries::copy_units` writes each unit, as far as both columns go. Assumes nothing.
-use mathlib.Core.Path.{refl}
-use Prim.Native.Nat.{ℕ, _-_}
+-- `tidy_warps::to_numbers` writes each mark as a number, as far as both columns go. Assumes nothing.
+use Prim.Native.Nat.{_-_}
 use native.Mathlib.Omega.{arith}
 use Rattle.columns.proofs.LaidEach.{LayingEach, begun, turned, ended}
+use Rattle.tidy_warps.specs.inside.MarkNumbers.{markNumber}
 use borrow.Author.Needs.{needs}
-use Rattle.tidy_speeds_entries.proofs.copy_units.Statement.{statement}
-use Rattle.tidy_speeds_entries.proofs.copy_units.Tie as tie
+use Rattle.tidy_warps.proofs.to_numbers.Statement.{statement}
+use Rattle.tidy_warps.proofs.to_numbers.Tie as tie
 
 abbrev Inv-loop : tie.InvT-loop
-Inv-loop from to₀ n i₀ to i = LayingEach (λ (x : ℕ). x) from to₀ n to i
+Inv-loop marks to₀ n i₀ to i = LayingEach markNumber marks to₀ n to i
 
 abbrev μ-loop : tie.MeasureT-loop
-μ-loop from to₀ n i₀ to i = n - i
+μ-loop marks to₀ n i₀ to i = n - i
 
 room-of-requires : tie.Need-room-of-requires Inv-loop μ-loop
 room-of-requires c κs = search needs
@@ -19,8 +19,14 @@ room-of-requires c κs = search needs
 loop-holds : tie.Need-loop-holds Inv-loop μ-loop
 loop-holds c = begun (c .room-of .ensures)
 
-shared-slice-read-to : tie.Need-shared-slice-read-to Inv-loop μ-loop
-shared-slice-read-to c = search needs
+shared-slice-read-number-of : tie.Need-shared-slice-read-number-of Inv-loop μ-loop
+shared-slice-read-number-of c = search needs
+
+number-of-requires : tie.Need-number-of-requires Inv-loop μ-loop
+number-of-requires c κs = search needs
+
+mul-to : tie.Need-mul-to Inv-loop μ-loop
+mul-to c = search needs
 
 slice-write-to : tie.Need-slice-write-to Inv-loop μ-loop
 slice-write-to c = search needs
@@ -32,7 +38,7 @@ loop-less : tie.Need-loop-less Inv-loop μ-loop
 loop-less c = search needs
 
 loop-again : tie.Need-loop-again Inv-loop μ-loop
-loop-again c = turned (c .before .before .loop .inv) 0 (omega arith) refl
+loop-again c = turned (c .before .before .before .loop .inv) 0 (omega arith) (search needs)
 
 same-length : tie.Need-same-length Inv-loop μ-loop
 same-length c = search needs
@@ -40,15 +46,17 @@ same-length c = search needs
 returns : tie.Need-returns Inv-loop μ-loop
 returns c = ended (c .before .loop .inv) (omega arith)
 
-pub copy-units-spec : {M : Type 1} → statement M
-copy-units-spec =
+pub to-numbers-spec : {M : Type 1} → statement M
+to-numbers-spec =
     tie.close
     (tie.spec
     Inv-loop
     μ-loop
     room-of-requires
     loop-holds
-    shared-slice-read-to
+    shared-slice-read-number-of
+    number-of-requires
+    mul-to
     slice-write-to
     add-i
     loop-less

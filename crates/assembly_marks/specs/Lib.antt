@@ -1,0 +1,2 @@
+pub mod AssembledMarks
+pub mod LentMarks

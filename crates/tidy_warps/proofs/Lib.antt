@@ -1,0 +1,5 @@
+pub mod MarkedTaken
+pub mod TidiedMarks
+pub mod WithoutMarks
+pub mod Outcomes
+pub mod OneOutcome
