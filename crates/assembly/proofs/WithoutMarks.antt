@@ -44,10 +44,10 @@ module _ (format : TimingFormat) (raw : ChartColumns) (marks : List ℕ) (taken 
       )
 
   pub without_marks : map without_mark marked_warps ≡ assembled_warps (processed_chart format raw)
-  without_marks = carried.without-marks (map first warps) (map second warps) all_marks even
+  without_marks = carried.without_marks (map first warps) (map second warps) all_marks even
 
   pub marks-carried : map warp_mark marked_warps ≡ assembled_marks (map first warps) all_marks
   marks-carried = carried.marks-carried (map first warps) (map second warps) all_marks even
 
   pub as_many_marks : length (assembled_marks (map first warps) all_marks) ≡ length (assembled_warps (processed_chart format raw))
-  as_many_marks = carried.as-many-marks (map first warps) (map second warps) all_marks even
+  as_many_marks = carried.as_many_marks (map first warps) (map second warps) all_marks even

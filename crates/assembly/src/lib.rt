@@ -1,6 +1,8 @@
 // Assembly: the seven raw lists of a chart as the f32 columns of a timing.
+#![tactic(auto)]
+
 ghost use Rattle.std.specs.Prelude.{◌≡◌};
-ghost use Rattle.chart.specs.ChartColumns.{list_columns, speed_columns, lent_columns, lent_speeds, LentChart, before, after};
+ghost use Rattle.chart.specs.ChartColumns.{list_columns, speed_columns, lent_columns, lent_speeds, LentChart, before, after, ChartColumns};
 ghost use Rattle.assembly_marks.specs.LentMarks.{lent_marks};
 ghost use Rattle.assembly.specs.Assembly.{others_number, others_later, moved_total, Assembles};
 
@@ -10,7 +12,7 @@ use limits::Kind;
 
 // Of each list, how many of its raw entries were off the grid.
 #[repr(C)]
-#[derive(Drop)]
+#[derive(Clone, Copy)]
 pub struct MovedBeats {
     pub tempos: u32,
     pub stops: u32,
@@ -37,7 +39,7 @@ pub fn total_moved(moved: MovedBeats) -> u64
 // The refusal number, 0 where all lists are taken, how many entries of each list were written, the seconds that beat 0 is moved by, and how many raw entries
 // were off the grid.
 #[repr(C)]
-#[derive(Drop)]
+#[derive(Clone, Copy)]
 pub struct Assembled {
     pub number: u32,
     pub tempos: usize,
@@ -180,14 +182,14 @@ pub fn compute_timing_segments(
     out_fake_beats: &mut [f32],
     out_fake_lengths: &mut [f32],
 ) -> Assembled
-    ensures { let raw : LentChart = record {
-      tempos = lent_columns tempo_beats tempo_values;
-      stops = lent_columns stop_beats stop_values;
-      delays = lent_columns delay_beats delay_values;
-      warps = lent_columns warp_beats warp_lengths;
-      speeds = lent_speeds speed_beats speed_ratios speed_delays speed_units;
-      scrolls = lent_columns scroll_beats scroll_values;
-      fakes = lent_columns fake_beats fake_lengths;
+    ensures { let raw : ChartColumns = record {
+      tempos = list_columns tempo_beats.now tempo_values.now;
+      stops = list_columns stop_beats.now stop_values.now;
+      delays = list_columns delay_beats.now delay_values.now;
+      warps = list_columns warp_beats.now warp_lengths.now;
+      speeds = speed_columns speed_beats.now speed_ratios.now speed_delays.now speed_units.now;
+      scrolls = list_columns scroll_beats.now scroll_values.now;
+      fakes = list_columns fake_beats.now fake_lengths.now;
     } in
         let rooms : LentChart = record {
           tempos = lent_columns out_tempo_beats out_tempo_values;
@@ -199,7 +201,7 @@ pub fn compute_timing_segments(
           fakes = lent_columns out_fake_beats out_fake_lengths;
         } in
         let marks = lent_marks warp_marks out_warp_marks in
-        Assembles most_warps format (before raw) marks result (before rooms) (after rooms) out_warp_marks.new }
+        Assembles most_warps format raw marks result (before rooms) (after rooms) out_warp_marks.new }
 {
     let other = others_number(
         delay_beats,

@@ -1,1 +1,2 @@
 // What assembly writes is a tidy timing: the clock, the lookups and SM stops take its lists. It has no code.
+#![tactic(auto)]

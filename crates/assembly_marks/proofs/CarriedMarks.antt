@@ -23,7 +23,7 @@ module _ (beats lengths : List Float) (marks : List ℕ) (even : length lengths 
   unfolding assembled_marked assembled_rows
   without_marks =
       map-map without_mark narrowed_warp tidy ∙ sym (map-map narrowed_entry without_mark tidy)
-      ∙ ap (map narrowed_entry) (tidied.without-marks (map quantized beats) (map quantized lengths) marks even-after)
+      ∙ ap (map narrowed_entry) (tidied.without_marks (map quantized beats) (map quantized lengths) marks even-after)
 
   pub marks-carried : map warp_mark (assembled_marked beats lengths marks) ≡ assembled_marks beats marks
   unfolding assembled_marked

@@ -2,6 +2,8 @@
 use Rattle.std.specs.Prelude.{ℕ, List, ◌≡◌, Float}
 use Rattle.order.specs.Order.{laid}
 use Rattle.columns.specs.Laying.{given}
+use Rattle.std.specs.Borrow.{Bor}
+use denote.Triple.Both.{Both}
 use Rattle.chart.specs.ChartColumns.{Lent}
 use Rattle.assembly_marks.specs.AssembledMarks.{merged_marks, assembled_marks}
 
@@ -13,7 +15,7 @@ pub record MarkColumns : Type 0 where
 abbrev pub mark_columns : (given room : List ℕ) → MarkColumns
 mark_columns given room = record { given = given; room = room }
 
-abbrev pub lent_marks : (marks room : Lent ℕ) → MarkColumns
+abbrev pub lent_marks : (marks : Both (Bor (List ℕ)) (Bor (List ℕ))) (room : Lent ℕ) → MarkColumns
 lent_marks marks room = mark_columns marks.entry.now room.entry.now
 
 -- with so many warps made behind the given ones

@@ -1,4 +1,6 @@
 // Marks of warps through assembly: those of made ones behind the given ones, and whether all are the same.
+#![tactic(auto)]
+
 ghost use Rattle.std.specs.Prelude.{◌≡◌, ℕ, eqb, get_or};
 ghost use Rattle.picks.specs.Pick.{pick};
 ghost use Rattle.columns.specs.Each.{laid_each};

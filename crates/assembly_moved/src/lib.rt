@@ -1,4 +1,6 @@
 // How many raw tempos or stops were off the grid, of those that the format keeps. Processing in SM never quantises their columns, so they are counted by a loop of their own.
+#![tactic(auto)]
+
 ghost use Rattle.std.specs.Prelude.{◌≡◌, true};
 ghost use Rattle.picks.specs.Pick.{pick};
 ghost use Rattle.rows.specs.Rows.{on_grid};

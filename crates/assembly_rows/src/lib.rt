@@ -1,4 +1,6 @@
 // Assembly of a list of beats and values: beats quantised, values too where they are lengths, tidied by row, and written as f32.
+#![tactic(auto)]
+
 ghost use Rattle.std.specs.Prelude.{◌≡◌, false, map, reverse, ◌≤◌, ◌<◌, eqb, length, Float};
 ghost use Rattle.ieee.specs.Narrowing.{narrow};
 ghost use Rattle.picks.specs.Pick.{pick};
@@ -16,7 +18,7 @@ use columns_each::ListOutcome;
 use limits::Kind;
 
 // What the values of a list are: lengths, which are moved to whole rows as beats are, or values that stay as they are.
-#[derive(Drop)]
+#[derive(Clone, Copy)]
 pub enum Meaning {
     Lengths,
     Values,

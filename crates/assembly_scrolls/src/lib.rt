@@ -1,4 +1,6 @@
 // Assembly of scrolls: beats quantised, tidied, and written as f32.
+#![tactic(auto)]
+
 ghost use Rattle.std.specs.Prelude.{◌≡◌, map, ◌≤◌, length};
 ghost use Rattle.rows.specs.Rows.{quantized};
 ghost use Rattle.columns_each.specs.OffGrid.{moved_in, moved_under};

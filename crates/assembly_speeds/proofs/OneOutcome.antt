@@ -14,6 +14,6 @@ spelled c = speed_columns c.beats c.ratios c.delays c.units
 pub one_outcome : {tests : ℕ} {result : List SpeedEntry} {a b : Outcome} {old new_a new_b : SpeedColumns}
     → SpeedsOver tests result a old new_a → SpeedsOver tests result b old new_b → (a ≡ b) × (new_a ≡ new_b)
 one_outcome {new_a = new_a} {new_b = new_b} x y =
-    let same = columns.one-outcome x y in
+    let same = columns.one_outcome x y in
     let rooms : spelled new_a ≡ spelled new_b = cc in
     (same.0, rooms)

@@ -142,7 +142,7 @@ module _ (beats lengths : List Float) (marks : List ℕ) (beats_old lengths_old 
       (marks-pass (map quantized beats) marks (omega (arith, length-map beats quantized, few-beats)) (length-map beats quantized ∙ fit.even) fit.are_marks)
 
   as_many_warps : length warped ≡ length result
-  as_many_warps = tidied.as-many-rows (map quantized beats) (map quantized lengths) marks even-after ∙ sym as_many_rows
+  as_many_warps = tidied.as_many_rows (map quantized beats) (map quantized lengths) marks even-after ∙ sym as_many_rows
 
   module _ {work_beats work_lengths : List Float} (wb : work_beats ≡ map quantized beats) (wl : work_lengths ≡ map quantized lengths)
       {tidy : Outcome} {tidy_beats tidy_beats_new tidy_lengths tidy_lengths_new : List Float} {marks_new : List ℕ} (b : length tidy_beats ≡ length beats) (l : length tidy_lengths ≡ length beats)

@@ -1,4 +1,6 @@
 // Assembly of tempos, stops and warps: processed by format, the made warps behind the given ones, tidied, and written as f32; each warp keeps its mark.
+#![tactic(auto)]
+
 ghost use Rattle.std.specs.Prelude.{◌≡◌, true, false, map, ◌≤◌, min, length, Float};
 ghost use Rattle.rows.specs.Rows.{quantized};
 ghost use Rattle.ieee.specs.Narrowing.{narrow};
@@ -23,7 +25,7 @@ use columns_each::ListOutcome;
 // The refusal number of all lists, 0 where they are taken, how many entries of each list were written, the seconds that beat 0 is moved by, and how many warps
 // were off the grid.
 #[repr(C)]
-#[derive(Drop)]
+#[derive(Clone, Copy)]
 pub struct AssembledTempos {
     pub number: u32,
     pub tempos: usize,

@@ -1,4 +1,6 @@
 // Tempos and stops processed, and the warps that they make merged with the warps of the chart.
+#![tactic(auto)]
+
 ghost use Rattle.std.specs.Prelude.{◌≡◌};
 ghost use Rattle.limits.specs.Refusals.{lower};
 ghost use Rattle.process_raw.specs.RawLists.{raw_numbers, processed_nothing};

@@ -1,6 +1,6 @@
 -- A chart's seven lists as columns: as they are given, as the rooms for a timing, and as those rooms are left. Definitions only.
 use Rattle.std.specs.Prelude.{ℕ, List, Float}
-use Rattle.std.specs.Borrow.{Bor}
+use Rattle.std.specs.Borrow.{MutBor}
 use denote.Triple.Both.{Both}
 
 -- ---- lists
@@ -62,7 +62,7 @@ room_for_each n = record { tempos = n; stops = n; delays = n; warps = n; speeds 
 
 -- a lent column: `.entry .now` is the list as the call begins, `.exit .now` as it ends
 abbrev pub Lent : Type 0 → Type 0
-Lent A = Both (Bor (List A)) (Bor (List A))
+Lent A = Both (MutBor (List A)) (MutBor (List A))
 
 pub record LentColumns : Type 0 where
   pub beats : Lent Float

@@ -1,7 +1,8 @@
 // The words that all layers speak: the format of a chart, and how far a walk through a timing has come. The columns of a chart's lists and of a timing stand in specs/.
+#![tactic(auto)]
 
 // The file format of a chart, which decides how tempos and stops are meant.
-#[derive(Drop)]
+#[derive(Clone, Copy)]
 pub enum TimingFormat {
     Sm,
     Ssc,
@@ -9,7 +10,7 @@ pub enum TimingFormat {
 
 // How far a walk has come: a place in each list, the row and the time of the last event passed, the warp's end and whether it is warping.
 #[repr(C)]
-#[derive(Drop)]
+#[derive(Clone, Copy)]
 pub struct State {
     pub tempos: usize,
     pub stops: usize,

@@ -1,4 +1,6 @@
 // The clock: at what time is this beat? A cursor goes along a timing and is handed back with each answer.
+#![tactic(auto)]
+
 ghost use Rattle.std.specs.Prelude.{◌≡◌, ◌+◌, ◌<◌, ◌≤◌, ◌^◌, length, eqb, pos, true, false, [], ◌∷◌};
 ghost use Rattle.picks.specs.Pick.{pick};
 ghost use Rattle.std.specs.Float.{binary64};
@@ -23,7 +25,7 @@ use clock_walk::{Mark, Soon, Walked};
 
 // How far the questions so far have come, and the row asked last.
 #[repr(C)]
-#[derive(Drop)]
+#[derive(Clone, Copy)]
 pub struct Cursor {
     pub state: State,
     pub asked: i32,
@@ -31,7 +33,7 @@ pub struct Cursor {
 
 // A question's number, its time, the events passed and one, and the cursor for the next question.
 #[repr(C)]
-#[derive(Drop)]
+#[derive(Clone, Copy)]
 pub struct Answer {
     pub number: u32,
     pub time: f64,
@@ -41,7 +43,7 @@ pub struct Answer {
 
 // An end mark, and the number that its timing answers.
 #[repr(C)]
-#[derive(Drop)]
+#[derive(Clone, Copy)]
 pub struct MarkMade {
     pub number: u32,
     pub mark: Mark,
@@ -49,7 +51,7 @@ pub struct MarkMade {
 
 // A new cursor, and the number that its offsets answer.
 #[repr(C)]
-#[derive(Drop)]
+#[derive(Clone, Copy)]
 pub struct Made {
     pub number: u32,
     pub cursor: Cursor,

@@ -1,5 +1,7 @@
 // A second clock, for the test bench: all events of a timing are laid out as one list, in the order in which they fall, and a question runs down that list.
 // It shares nothing with the walk of the player's clock.
+#![tactic(auto)]
+
 ghost use Rattle.std.specs.Prelude.{◌≡◌, ◌+◌, ◌*◌, ◌^◌, ◌<◌, ◌≤◌, min, length, take, ◌==◌, nat_le, slice_index_or};
 ghost use Rattle.std.specs.Float.{nan};
 ghost use Rattle.limits.specs.Table.{no_room};
@@ -29,14 +31,14 @@ const NONE_LEFT: u8 = 5;
 // ---- laying out
 
 // The next event: its row and its kind.
-#[derive(Drop)]
+#[derive(Clone, Copy)]
 pub struct Head {
     pub row: i32,
     pub kind: u8,
 }
 
 // How far the laying has come: a place in each list, the furthest end of a warp so far, and whether a warp is open.
-#[derive(Drop)]
+#[derive(Clone, Copy)]
 pub struct Spot {
     pub tempos: usize,
     pub stops: usize,
@@ -47,7 +49,7 @@ pub struct Spot {
 }
 
 // An event of the list, with what it brings: a tempo, the seconds of a pause, the beat where a warp ends.
-#[derive(Drop)]
+#[derive(Clone, Copy)]
 pub struct Listed {
     pub row: i32,
     pub kind: u8,
@@ -239,7 +241,7 @@ fn lay_events(
 // ---- running down
 
 // How far a run down the list has come: the row, the time and the tempo there, whether a warp is open, and how many events were passed.
-#[derive(Drop)]
+#[derive(Clone, Copy)]
 pub struct Runner {
     pub row: i32,
     pub time: f64,
@@ -467,7 +469,7 @@ pub fn lay_out_events(
 
 // A question's number, its time, the events passed and one, and how many events were laid.
 #[repr(C)]
-#[derive(Drop)]
+#[derive(Clone, Copy)]
 pub struct BenchAnswer {
     pub number: u32,
     pub time: f64,

@@ -1,1 +1,2 @@
 // The second clock comes to the times and counts of the clock. It has no code.
+#![tactic(auto)]

@@ -1,4 +1,6 @@
 // Which beat is it at this time? There is no cursor: a question walks from the start, and passes what is over by then; a run goes on where time does not fall.
+#![tactic(auto)]
+
 ghost use Rattle.std.specs.Prelude.{◌≡◌, ◌+◌, ◌<◌, ◌^◌, length};
 ghost use Rattle.chart.specs.Timing.{timing};
 ghost use Rattle.clock_by_time.specs.BeatAt.{time_number, fresh_by, beat_on, beat_in, is_freeze, is_delay, info_of, info_at, info_refused, beat_info_checked, beat_info};
@@ -13,7 +15,7 @@ use limits::Kind;
 
 // A question's number, the beat, whether it stands in a running stop or delay, and the events passed and one.
 #[repr(C)]
-#[derive(Drop)]
+#[derive(Clone, Copy)]
 pub struct BeatInfo {
     pub number: u32,
     pub beat: f64,
@@ -279,7 +281,7 @@ fn room_of(numbers: usize, beats: usize, freezes: usize, delays: usize, counts: 
 }
 
 // How far a run has come: the state and the events passed by its last time that was taken.
-#[derive(Drop)]
+#[derive(Clone, Copy)]
 struct Reached {
     state: State,
     passed: usize,
@@ -287,7 +289,7 @@ struct Reached {
 }
 
 // An answer of a run, and how far it came.
-#[derive(Drop)]
+#[derive(Clone, Copy)]
 struct Step {
     info: BeatInfo,
     reached: Reached,

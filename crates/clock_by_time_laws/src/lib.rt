@@ -1,1 +1,2 @@
 // What a reader expects of the beat of a time. It has no code.
+#![tactic(auto)]

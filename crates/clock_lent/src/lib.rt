@@ -1,4 +1,6 @@
 // The clock over a cursor that its holder lends: it is copied out, asked, and what it has become is stored. For native programs too.
+#![tactic(auto)]
+
 ghost use Rattle.std.specs.Prelude.{◌≡◌};
 ghost use Rattle.chart.specs.Timing.{timing};
 ghost use Rattle.clock.specs.Question.{player_question, question};
@@ -9,7 +11,7 @@ use clock::Cursor;
 
 // A question's number, its time, and the events passed and one. The cursor for the next question is in the place that was lent.
 #[repr(C)]
-#[derive(Drop)]
+#[derive(Clone, Copy)]
 pub struct Reply {
     pub number: u32,
     pub time: f64,

@@ -1,5 +1,7 @@
 // The marked calls over a cursor that its holder lends. They stand apart from the unmarked ones, so that each question has its walk to itself
 // and the compiler lays it into the call.
+#![tactic(auto)]
+
 ghost use Rattle.std.specs.Prelude.{◌≡◌};
 ghost use Rattle.chart.specs.Timing.{timing};
 ghost use Rattle.clock.specs.Marked.{marked_player_question, marked_question};

@@ -129,7 +129,7 @@ Sees t s outlook = outlook.known ≡ true → outlook ≡ look_ahead t s
 -- then there are tempos, one is passed, and its parts are these
 record Seen (t : Timing) (s : State) (outlook : Outlook) : Type 0 where
   some : eqb (length t.tempo_beats) 0 ≡ false
-  passed-one : eqb s.tempos 0 ≡ false
+  passed_one : eqb s.tempos 0 ≡ false
   whole : outlook ≡ sight t.tempo_beats t.tempo_values s (rest_of t s)
 
 all_seen : (t : Timing) (s : State) (outlook : Outlook) → Sees t s outlook → outlook.known ≡ true → Seen t s outlook
@@ -138,7 +138,7 @@ all_seen t s outlook sees known =
     let some = seen t s (ap (λ (a : Outlook). a.known) (sym e) ∙ known) in
     let on = e ∙ some.1 in
     let one = on-sight t.tempo_beats t.tempo_values s (rest_of t s) (ap (λ (a : Outlook). a.known) (sym on) ∙ known) in
-    record { some = some.0; passed-one = one.0; whole = on ∙ one.1 }
+    record { some = some.0; passed_one = one.0; whole = on ∙ one.1 }
 
 module _ (t : Timing) (offset global : Float) (c : Cursor) (beat : Float) where
   abbrev pub answer_of_lem : Walked → Answer
@@ -158,9 +158,9 @@ module _ (t : Timing) (offset global : Float) (c : Cursor) (beat : Float) where
       let sight = all_seen t c.state outlook sees asked.1 in
       let before : lt_z r (lesser_row (row_at t.tempo_beats c.state.tempos) (rest_of t c.state)) ≡ true = ap (λ (a : Outlook). lt_z r a.row) (sym sight.whole) ∙ asked.3 in
       let o = others r t c.state (below_right r (row_at t.tempo_beats c.state.tempos) (rest_of t c.state) before) in
-      let walked = none_soon t r c.state sight.passed-one o (below_left r (row_at t.tempo_beats c.state.tempos) (rest_of t c.state) before) in
+      let walked = none_soon t r c.state sight.passed_one o (below_left r (row_at t.tempo_beats c.state.tempos) (rest_of t c.state) before) in
       ap (λ (a : Outlook). answer_of_lem (record { state = c.state; passed = 0; time = quiet_time c.state a.rate r })) sight.whole
-      ∙ ap (λ (x : Float). answer_of_lem (record { state = c.state; passed = 0; time = x })) (sym (by_rate r t.tempo_values c.state sight.passed-one))
+      ∙ ap (λ (x : Float). answer_of_lem (record { state = c.state; passed = 0; time = x })) (sym (by_rate r t.tempo_values c.state sight.passed_one))
       ∙ sym (by-walk asked.0 sight.some asked.2 _ walked)
 
 -- ---- past one tempo
@@ -247,7 +247,7 @@ module _ (t : Timing) (offset global : Float) (c : Cursor) (beat : Float) (outlo
         let later : lt_z r (row_at t.tempo_beats moved.tempos) ≡ true =
         ap (λ (z : ℤ). lt_z r z) (sym after_next) ∙ below_left r (row_after t.tempo_beats s.tempos) outlook.rest asked.3 in
         let walked : walk t r s ≡ record { state = moved; passed = 1; time = quiet_at t.tempo_values moved r } =
-        one_soon t r s (others r t s before) (ap (λ (z : ℤ). lt_z r z) (sym is_tempo) ∙ not_row) sight.passed-one (ap (λ (x : State). lt_z r (row_at t.tempo_beats x.tempos)) (sym is_moved) ∙ later)
+        one_soon t r s (others r t s before) (ap (λ (z : ℤ). lt_z r z) (sym is_tempo) ∙ not_row) sight.passed_one (ap (λ (x : State). lt_z r (row_at t.tempo_beats x.tempos)) (sym is_moved) ∙ later)
         ∙ ap (λ (x : State). record { state = x; passed = 1; time = quiet_at t.tempo_values x r }) (sym is_moved) in (
           ap (λ (a : Outlook). answer_of_lem t offset global c beat (record { state = moved; passed = 1; time = quiet_time moved a.rate r })) on-is.1
               ∙ ap (λ (x : Float). answer_of_lem t offset global c beat (record { state = moved; passed = 1; time = x })) (sym (by_rate r t.tempo_values moved on-is.0))

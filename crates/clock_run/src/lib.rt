@@ -1,4 +1,6 @@
 // A run: at what times are these beats? The timing and the cursor are tested once, and each beat is asked by the cursor that the one before it left.
+#![tactic(auto)]
+
 ghost use Rattle.std.specs.Prelude.{◌≡◌, ◌≤◌, length};
 ghost use Rattle.chart.specs.Timing.{timing};
 ghost use Rattle.clock_run.specs.Run.{run_room_number, run_columns, RunLaid, CheckedRunLaid};
@@ -12,7 +14,7 @@ use clock_walk::{Mark, Soon};
 
 // The run's number, and the cursor after its last beat; after a refusal the cursor that was lent.
 #[repr(C)]
-#[derive(Drop)]
+#[derive(Clone, Copy)]
 pub struct Ran {
     pub number: u32,
     pub cursor: Cursor,
@@ -33,7 +35,7 @@ fn room_number(beats: usize, numbers: usize, times: usize, counts: usize) -> u32
 
 // The row of the next event, that of the next one which is no tempo, and beats a second, so that a beat before the first is answered without a walk, and
 // one before the second past a tempo; not known before any tempo is passed.
-#[derive(Drop)]
+#[derive(Clone, Copy)]
 struct Outlook {
     known: bool,
     row: i32,

@@ -1,4 +1,6 @@
 // What the clock refuses: of a timing with its offsets, of an asked beat, of a lent cursor.
+#![tactic(auto)]
+
 ghost use Rattle.std.specs.Prelude.{◌≡◌};
 ghost use Rattle.std.specs.Float.{binary64};
 ghost use Rattle.std.specs.Float.Ieee.Scale.{finite};

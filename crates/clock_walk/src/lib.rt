@@ -1,4 +1,6 @@
 // The walk through the events of a timing, up to an asked row.
+#![tactic(auto)]
+
 ghost use Rattle.std.specs.Prelude.{◌≡◌, ◌^◌, ◌<◌, true, false, length, slice_index_or};
 ghost use Rattle.std.specs.Float.{nan};
 ghost use Rattle.std.specs.Float.Ieee.{lt};
@@ -21,7 +23,7 @@ ghost use Rattle.clock_walk.specs.ByTime.{still_runs, pause_of, walk_by};
 use chart::State;
 
 // What a walk passes, in the order in which events of one row come; the asked beat comes between a delay and a stop.
-#[derive(Drop)]
+#[derive(Clone, Copy)]
 pub enum Event {
     WarpEnd,
     Tempo,
@@ -31,21 +33,21 @@ pub enum Event {
 }
 
 // An event, and the row that it is on.
-#[derive(Drop)]
+#[derive(Clone, Copy)]
 pub struct Next {
     pub row: i32,
     pub kind: Event,
 }
 
 // What is ahead of a state where no beat is asked.
-#[derive(Drop)]
+#[derive(Clone, Copy)]
 pub enum Ahead {
     Found(Next),
     NotFound,
 }
 
 // What a walk to an asked beat meets next: an event that goes before the beat, or the beat.
-#[derive(Drop)]
+#[derive(Clone, Copy)]
 pub enum Due {
     Passes(Next),
     Asked,
@@ -74,7 +76,7 @@ pub fn end_row(warping: bool, end: f64) -> i32
 }
 
 // The rows of what is ahead of a state: kept between the events of a walk, of which each moves one or two.
-#[derive(Drop)]
+#[derive(Clone, Copy)]
 pub struct Heads {
     pub end: i32,
     pub tempo: i32,
@@ -467,7 +469,7 @@ fn pass_event(state: State, next: Next, time: f64, number: f64) -> State
 // ---- the walk
 
 // The state after the last event passed, how many were passed, and the time of the asked beat.
-#[derive(Drop)]
+#[derive(Clone, Copy)]
 pub struct Walked {
     pub state: State,
     pub passed: usize,
@@ -572,7 +574,7 @@ pub fn pass_next_tempo(state: State, row: i32, tempo_beats: &[f32], tempo_values
 }
 
 // A walk that passes nothing or its first tempo: the state, how many were passed, and whether that is the whole walk; where it is not, nothing is passed.
-#[derive(Drop)]
+#[derive(Clone, Copy)]
 pub struct Soon {
     pub state: State,
     pub passed: usize,
@@ -693,7 +695,7 @@ pub fn walk_to(
 
 // The end mark of a timing: the state after all events that can be reached, and the greatest row among those events.
 #[repr(C)]
-#[derive(Drop)]
+#[derive(Clone, Copy)]
 pub struct Mark {
     pub state: State,
     pub row: i32,
@@ -763,7 +765,7 @@ pub fn walk_all(
 // ---- the walk to a time
 
 // The pause that a walk stopped in.
-#[derive(Drop)]
+#[derive(Clone, Copy)]
 pub enum Pausing {
     InDelay,
     InFreeze,
@@ -771,7 +773,7 @@ pub enum Pausing {
 }
 
 // The state after the last event passed, how many were passed, the pause that runs there and the tempo in force.
-#[derive(Drop)]
+#[derive(Clone, Copy)]
 pub struct ByTime {
     pub state: State,
     pub passed: usize,

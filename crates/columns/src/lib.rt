@@ -1,11 +1,13 @@
 // What a call answers that lays a result over the front of lent columns.
+#![tactic(auto)]
+
 ghost use Rattle.std.specs.Prelude.{◌≡◌, reverse, ℕ, min, Float};
 ghost use Rattle.columns.specs.Each.{laid_each};
 ghost use Rattle.columns.specs.Laying.{room_number, refused_by};
 
 // The refusal number, 0 where the call is taken, and how many entries were written.
 #[repr(C)]
-#[derive(Drop)]
+#[derive(Clone, Copy)]
 pub struct Outcome {
     pub number: u32,
     pub count: usize,

@@ -1,4 +1,6 @@
 // Loops that write a column: each writes what becomes of entry i of the first column into entry i of the second, for every i that both have.
+#![tactic(auto)]
+
 ghost use Rattle.std.specs.Prelude.{◌≡◌, ◌≤◌, length, take, Float};
 ghost use Rattle.ieee.specs.Narrowing.{narrow};
 ghost use Rattle.rows.specs.Rows.{quantized, quantized32, on_grid32};
@@ -166,7 +168,7 @@ pub fn quantize_beats(from: &[f64], to: &mut [f32]) -> u32
 
 // What became of a list, and how many of its beats were off the grid: none of a list that is refused.
 #[repr(C)]
-#[derive(Drop)]
+#[derive(Clone, Copy)]
 pub struct ListOutcome {
     pub outcome: Outcome,
     pub moved: u32,

@@ -1,5 +1,7 @@
 // Whether each two neighbours of a column pass a test. A loop that counts what fails has no branch, and a machine does it for several entries at a time;
 // one that ends at what fails costs little where that is early.
+#![tactic(auto)]
+
 ghost use Rattle.std.specs.Prelude.{◌≡◌, Float};
 ghost use Rattle.std.specs.Float.Ieee.{lt};
 ghost use Rattle.limits.specs.Numbers.{miss};

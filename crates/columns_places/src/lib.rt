@@ -1,4 +1,6 @@
 // Columns read by places: what stands at one, and a column put together by many.
+#![tactic(auto)]
+
 ghost use Rattle.std.specs.Prelude.{◌≡◌, ℕ, get_or};
 ghost use Rattle.std.specs.Float.{nan};
 ghost use Rattle.columns.specs.Each.{laid_each};

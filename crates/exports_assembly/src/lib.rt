@@ -1,7 +1,9 @@
 // Assembly under C names, for native programs to link.
+#![tactic(auto)]
+
 ghost use Rattle.std.specs.Prelude.{◌≡◌};
 ghost use Rattle.limits.specs.Table.{most_entries};
-ghost use Rattle.chart.specs.ChartColumns.{lent_columns, lent_speeds, LentChart, before, after};
+ghost use Rattle.chart.specs.ChartColumns.{lent_columns, lent_speeds, LentChart, before, after, ChartColumns, list_columns, speed_columns};
 ghost use Rattle.assembly_marks.specs.LentMarks.{lent_marks};
 ghost use Rattle.assembly.specs.Assembly.{Assembles};
 ghost use Rattle.exports_assembly.specs.Format.{format_of};
@@ -58,14 +60,14 @@ pub extern "C" fn marrighentu_compute_timing_segments(
     out_fake_beats: &mut [f32],
     out_fake_lengths: &mut [f32],
 ) -> Assembled
-    ensures { let raw : LentChart = record {
-      tempos = lent_columns tempo_beats tempo_values;
-      stops = lent_columns stop_beats stop_values;
-      delays = lent_columns delay_beats delay_values;
-      warps = lent_columns warp_beats warp_lengths;
-      speeds = lent_speeds speed_beats speed_ratios speed_delays speed_units;
-      scrolls = lent_columns scroll_beats scroll_values;
-      fakes = lent_columns fake_beats fake_lengths;
+    ensures { let raw : ChartColumns = record {
+      tempos = list_columns tempo_beats.now tempo_values.now;
+      stops = list_columns stop_beats.now stop_values.now;
+      delays = list_columns delay_beats.now delay_values.now;
+      warps = list_columns warp_beats.now warp_lengths.now;
+      speeds = speed_columns speed_beats.now speed_ratios.now speed_delays.now speed_units.now;
+      scrolls = list_columns scroll_beats.now scroll_values.now;
+      fakes = list_columns fake_beats.now fake_lengths.now;
     } in
         let rooms : LentChart = record {
           tempos = lent_columns out_tempo_beats out_tempo_values;
@@ -77,7 +79,7 @@ pub extern "C" fn marrighentu_compute_timing_segments(
           fakes = lent_columns out_fake_beats out_fake_lengths;
         } in
         let marks = lent_marks warp_marks out_warp_marks in
-        Assembles most_entries (format_of format) (before raw) marks result (before rooms) (after rooms) out_warp_marks.new }
+        Assembles most_entries (format_of format) raw marks result (before rooms) (after rooms) out_warp_marks.new }
 {
     let named = format_of(format);
     assembly::compute_timing_segments(

@@ -1,4 +1,6 @@
 // The calls of the second clock under C names, for native programs to link.
+#![tactic(auto)]
+
 ghost use Rattle.chart.specs.Timing.{timing};
 ghost use Rattle.clock_bench.specs.EventRoom.{event_room};
 ghost use Rattle.clock_bench.specs.BenchQuestion.{EventsLaid, BenchAnswered};

@@ -1,4 +1,6 @@
 // The calls that tell the beat of a time, under C names, for native programs to link.
+#![tactic(auto)]
+
 ghost use Rattle.std.specs.Prelude.{◌≡◌};
 ghost use Rattle.chart.specs.Timing.{timing};
 ghost use Rattle.clock_by_time.specs.BeatAt.{beat_info_checked, beat_info};

@@ -1,4 +1,6 @@
 // The calls of `ieee` and `rows` under C names, for native programs to link: each by itself, and in a loop over lent columns.
+#![tactic(auto)]
+
 ghost use Rattle.std.specs.Prelude.{◌≡◌, not, Float};
 ghost use Rattle.std.specs.Float.{binary32, binary64};
 ghost use Rattle.ieee.specs.Rounding.{rint, hold};

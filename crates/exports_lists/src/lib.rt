@@ -1,4 +1,6 @@
 // The calls that take lists and the clock under C names, for native programs to link.
+#![tactic(auto)]
+
 ghost use Rattle.std.specs.Prelude.{◌≡◌, true};
 ghost use Rattle.columns.specs.Laying.{LaidPair};
 ghost use Rattle.limits.specs.Numbers.{range_of, in_range, every, row_in};

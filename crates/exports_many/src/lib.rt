@@ -1,4 +1,6 @@
 // The calls that draw many notes at once, under C names. They stand apart from those that ask for one, so that each has the search to itself and the compiler lays it into the loop.
+#![tactic(auto)]
+
 ghost use Rattle.notes_displayed.specs.Answers.{BeatsDisplayed};
 
 use columns::Outcome;

@@ -1,4 +1,6 @@
 // The marked calls of the clock under C names, the cursor by value, for native programs to link.
+#![tactic(auto)]
+
 ghost use Rattle.std.specs.Prelude.{◌≡◌};
 ghost use Rattle.chart.specs.Timing.{timing};
 ghost use Rattle.clock.specs.Marked.{mark_made, marked_timing_number, marked_player_question, marked_question};

@@ -1,4 +1,6 @@
 // Warps tidied with their marks, under the C name, for native programs to link. A crate of its own, so that row tidying is compiled into one piece in each.
+#![tactic(auto)]
+
 ghost use Rattle.tidy_warps.specs.WarpTidying.{WarpsTidied};
 
 use columns::Outcome;

@@ -1,5 +1,7 @@
 // Mending of scrolls and speeds under their C names, for native programs to link.
-ghost use Rattle.chart.specs.ChartColumns.{lent_columns, list_before, list_after, lent_speeds, speeds_before, speeds_after};
+#![tactic(auto)]
+
+ghost use Rattle.chart.specs.ChartColumns.{lent_columns, list_before, list_after, lent_speeds, speeds_before, speeds_after, list_columns, speed_columns};
 ghost use Rattle.mend_scrolls.specs.MendedScrolls.{ScrollsMended};
 ghost use Rattle.mend_speeds.specs.MendedSpeeds.{SpeedsMended};
 
@@ -14,7 +16,7 @@ pub extern "C" fn marrighentu_mend_scrolls(
     out_values: &mut [f64],
     out_fates: &mut [u8],
 ) -> Outcome
-    ensures { let scrolls = list_before (lent_columns beats values) in
+    ensures { let scrolls = list_columns beats.now values.now in
         let rooms = lent_columns out_beats out_values in
         ScrollsMended scrolls result (list_before rooms) (list_after rooms) out_fates.old out_fates.new }
 {
@@ -34,7 +36,7 @@ pub extern "C" fn marrighentu_mend_speeds(
     out_units: &mut [u8],
     out_fates: &mut [u8],
 ) -> Outcome
-    ensures { let speeds = speeds_before (lent_speeds beats ratios delays units) in
+    ensures { let speeds = speed_columns beats.now ratios.now delays.now units.now in
         let rooms = lent_speeds out_beats out_ratios out_delays out_units in
         SpeedsMended speeds result (speeds_before rooms) (speeds_after rooms) out_fates.old out_fates.new }
 {

@@ -1,4 +1,6 @@
 // The calls of the crates about notes, and the multiply-add, under C names, for native programs to link.
+#![tactic(auto)]
+
 ghost use Rattle.std.specs.Prelude.{◌≡◌};
 ghost use Rattle.std.specs.Float.{binary32, binary64};
 ghost use Rattle.ieee_mul_add.specs.MulAdd.{mul_add};

@@ -1,4 +1,6 @@
 // The note sheet under its C name, for native programs to link.
+#![tactic(auto)]
+
 ghost use Rattle.chart.specs.Timing.{timing};
 ghost use Rattle.chart.specs.ChartColumns.{list_columns};
 ghost use Rattle.note_sheet.specs.Sheet.{song, sheet_columns, SheetLaid};

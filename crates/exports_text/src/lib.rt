@@ -1,4 +1,6 @@
 // The calls that write text, under C names, for native programs to link.
+#![tactic(auto)]
+
 ghost use Rattle.std.specs.Prelude.{map};
 ghost use Rattle.ieee.specs.Narrowing.{narrow};
 ghost use Rattle.text_tempos.specs.TempoText.{tempo_text};

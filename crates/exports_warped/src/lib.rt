@@ -1,4 +1,6 @@
 // The number of warped rows under its C name, for native programs to link.
+#![tactic(auto)]
+
 ghost use Rattle.std.specs.Prelude.{◌≡◌};
 ghost use Rattle.order.specs.Entries.{entries};
 ghost use Rattle.lookup_warped.specs.OnePass.{one_pass};

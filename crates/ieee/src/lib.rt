@@ -1,4 +1,6 @@
 // A float to the nearest whole number of an i32, and an f64 narrowed to f32, as IEEE 754 has them.
+#![tactic(auto)]
+
 ghost use Rattle.std.specs.Prelude.{◌≡◌, false, not, T};
 ghost use Rattle.std.specs.Float.Ieee.{is_nan, lt};
 ghost use Rattle.std.specs.Float.Ieee.Scale.{finite};

@@ -84,44 +84,44 @@ module _ (f : Format) where
       subst (λ (r : Float). TiesToEven f s n c r) (sym (h.2 ∙ ap₂ (λ (v : Bool) (k : ℕ). round f v k c) same.0 same.1)) (round_ties_to_even f s n c (bottom-above x y z X Y Z))
 
   -- ---- the sign of an exact zero: -0 where the product and what is added are both negative, and +0 otherwise, so where the two cancel
-  pub exact-zero : (x y z : Float) → T (finite x) → T (finite y) → T (finite z) → (exactly x y z).top ≡ pos 0 → mul_add f x y z ≡ fin (unlike (sign_of x) (sign_of y) && sign_of z) 0 (pos 0)
+  pub exact_zero : (x y z : Float) → T (finite x) → T (finite y) → T (finite z) → (exactly x y z).top ≡ pos 0 → mul_add f x y z ≡ fin (unlike (sign_of x) (sign_of y) && sign_of z) 0 (pos 0)
   unfolding mul_add fraction_plus
-  exact-zero nan y z X Y Z h = absurd X
-  exact-zero (inf s) y z X Y Z h = absurd X
-  exact-zero (fin s m e) nan z X Y Z h = absurd Y
-  exact-zero (fin s m e) (inf t) z X Y Z h = absurd Y
-  exact-zero (fin s m e) (fin t n d) nan X Y Z h = absurd Z
-  exact-zero (fin s m e) (fin t n d) (inf u) X Y Z h = absurd Z
-  exact-zero (fin s m e) (fin t n d) (fin u p g) X Y Z h =
+  exact_zero nan y z X Y Z h = absurd X
+  exact_zero (inf s) y z X Y Z h = absurd X
+  exact_zero (fin s m e) nan z X Y Z h = absurd Y
+  exact_zero (fin s m e) (inf t) z X Y Z h = absurd Y
+  exact_zero (fin s m e) (fin t n d) nan X Y Z h = absurd Z
+  exact_zero (fin s m e) (fin t n d) (inf u) X Y Z h = absurd Z
+  exact_zero (fin s m e) (fin t n d) (fin u p g) X Y Z h =
       let a = m * up e * (n * up d) in
       let c = down e * down d in
       exact_zero_sum f (unlike s t) u (a * down g) (p * up g * c) (c * down g) (mul-pos (mul-pos (down_pos e) (down_pos d)) (down_pos g)) (sym (exact-top s t u (m * up e) (n * up d) (p * up g) c (down g)) ∙ h)
 
   -- ---- a NaN in is a NaN out
-  pub nan-first : (y z : Float) → mul_add f nan y z ≡ nan
+  pub nan_first : (y z : Float) → mul_add f nan y z ≡ nan
   unfolding mul_add
-  nan-first y z = refl
+  nan_first y z = refl
 
-  pub nan-second : (x z : Float) → mul_add f x nan z ≡ nan
+  pub nan_second : (x z : Float) → mul_add f x nan z ≡ nan
   unfolding mul_add
-  nan-second nan z = refl
-  nan-second (inf s) z = refl
-  nan-second (fin s m e) z = refl
+  nan_second nan z = refl
+  nan_second (inf s) z = refl
+  nan_second (fin s m e) z = refl
 
   nan_or : (b : Bool) (s : Bool) → cond b nan (add f (inf s) nan) ≡ nan
   unfolding add
   nan_or true s = refl
   nan_or false s = refl
 
-  pub nan-added : (x y : Float) → mul_add f x y nan ≡ nan
+  pub nan_added : (x y : Float) → mul_add f x y nan ≡ nan
   unfolding mul_add fraction_plus add
-  nan-added nan y = refl
-  nan-added (inf s) nan = refl
-  nan-added (inf s) (inf t) = refl
-  nan-added (inf s) (fin t n d) = nan_or (eqb n 0) (unlike s t)
-  nan-added (fin s m e) nan = refl
-  nan-added (fin s m e) (inf t) = nan_or (eqb m 0) (unlike s t)
-  nan-added (fin s m e) (fin t n d) = refl
+  nan_added nan y = refl
+  nan_added (inf s) nan = refl
+  nan_added (inf s) (inf t) = refl
+  nan_added (inf s) (fin t n d) = nan_or (eqb n 0) (unlike s t)
+  nan_added (fin s m e) nan = refl
+  nan_added (fin s m e) (inf t) = nan_or (eqb m 0) (unlike s t)
+  nan_added (fin s m e) (fin t n d) = refl
 
   -- ---- 0 times an infinity is a NaN, whatever is added
   pub zero_times_infinity : (s t : Bool) (e : ℤ) (z : Float) → mul_add f (fin s 0 e) (inf t) z ≡ nan
@@ -168,10 +168,10 @@ module _ (f : Format) where
   mul_add_as_ieee_says =
       record {
         ties_to_even = ties_to_even;
-        exact-zero = exact-zero;
-        nan-first = nan-first;
-        nan-second = nan-second;
-        nan-added = nan-added;
+        exact_zero = exact_zero;
+        nan_first = nan_first;
+        nan_second = nan_second;
+        nan_added = nan_added;
         zero_times_infinity = zero_times_infinity;
         infinity_times_zero = infinity_times_zero;
         number_times_infinity = number_times_infinity;
@@ -187,13 +187,13 @@ module _ (f : Format) where
 
     between-numbers : (x y z : Float) → T (finite x) → T (finite y) → T (finite z) → of x y z ≡ mul_add f x y z
     between-numbers x y z X Y Z = elim (eq-zero-or-pos (nat_abs (E x y z).top)) [
-      | inl o ↦ let e = nothing (E x y z).top o in K.exact-zero x y z X Y Z e ∙ sym (exact-zero x y z X Y Z e)
+      | inl o ↦ let e = nothing (E x y z).top o in K.exact_zero x y z X Y Z e ∙ sym (exact_zero x y z X Y Z e)
       | inr N ↦
           let s = negative (E x y z).top in
           let n = nat_abs (E x y z).top in
           let c = (E x y z).bottom in
           let e = sym (signed_is (E x y z).top) in
-          round_is_only f s n c (of x y z) (bottom-above x y z X Y Z) (K.ties-to-even x y z X Y Z s n N e)
+          round_is_only f s n c (of x y z) (bottom-above x y z X Y Z) (K.ties_to_even x y z X Y Z s n N e)
           ∙ sym (round_is_only f s n c (mul_add f x y z) (bottom-above x y z X Y Z) (ties_to_even x y z X Y Z s n N e))
     ]
       where
@@ -203,25 +203,25 @@ module _ (f : Format) where
 
     times_infinity : (s t : Bool) (n : ℕ) (e : ℤ) (z : Float) → of (fin s n e) (inf t) z ≡ mul_add f (fin s n e) (inf t) z
     times_infinity s t n e z = elim (eq-zero-or-pos n) [
-      | inl o ↦ subst (λ (k : ℕ). of (fin s k e) (inf t) z ≡ mul_add f (fin s k e) (inf t) z) (sym o) (K.zero-times-infinity s t e z ∙ sym (zero_times_infinity s t e z))
-      | inr N ↦ K.number-times-infinity s t n e z N ∙ sym (number_times_infinity s t n e z N)
+      | inl o ↦ subst (λ (k : ℕ). of (fin s k e) (inf t) z ≡ mul_add f (fin s k e) (inf t) z) (sym o) (K.zero_times_infinity s t e z ∙ sym (zero_times_infinity s t e z))
+      | inr N ↦ K.number_times_infinity s t n e z N ∙ sym (number_times_infinity s t n e z N)
     ]
 
     infinity_times : (s t : Bool) (n : ℕ) (e : ℤ) (z : Float) → of (inf s) (fin t n e) z ≡ mul_add f (inf s) (fin t n e) z
     infinity_times s t n e z = elim (eq-zero-or-pos n) [
-      | inl o ↦ subst (λ (k : ℕ). of (inf s) (fin t k e) z ≡ mul_add f (inf s) (fin t k e) z) (sym o) (K.infinity-times-zero s t e z ∙ sym (infinity_times_zero s t e z))
-      | inr N ↦ K.infinity-times-number s t n e z N ∙ sym (infinity_times_number s t n e z N)
+      | inl o ↦ subst (λ (k : ℕ). of (inf s) (fin t k e) z ≡ mul_add f (inf s) (fin t k e) z) (sym o) (K.infinity_times_zero s t e z ∙ sym (infinity_times_zero s t e z))
+      | inr N ↦ K.infinity_times_number s t n e z N ∙ sym (infinity_times_number s t n e z N)
     ]
 
     pub only_mul_add : (x y z : Float) → of x y z ≡ mul_add f x y z
-    only_mul_add nan y z = K.nan-first y z ∙ sym (nan-first y z)
-    only_mul_add (inf s) nan z = K.nan-second (inf s) z ∙ sym (nan-second (inf s) z)
-    only_mul_add (inf s) (inf t) z = K.infinity-times-infinity s t z ∙ sym (infinity_times_infinity s t z)
+    only_mul_add nan y z = K.nan_first y z ∙ sym (nan_first y z)
+    only_mul_add (inf s) nan z = K.nan_second (inf s) z ∙ sym (nan_second (inf s) z)
+    only_mul_add (inf s) (inf t) z = K.infinity_times_infinity s t z ∙ sym (infinity_times_infinity s t z)
     only_mul_add (inf s) (fin t n d) z = infinity_times s t n d z
-    only_mul_add (fin s m e) nan z = K.nan-second (fin s m e) z ∙ sym (nan-second (fin s m e) z)
+    only_mul_add (fin s m e) nan z = K.nan_second (fin s m e) z ∙ sym (nan_second (fin s m e) z)
     only_mul_add (fin s m e) (inf t) z = times_infinity s t m e z
-    only_mul_add (fin s m e) (fin t n d) nan = K.nan-added (fin s m e) (fin t n d) ∙ sym (nan-added (fin s m e) (fin t n d))
-    only_mul_add (fin s m e) (fin t n d) (inf u) = K.infinity-added (fin s m e) (fin t n d) u tt tt ∙ sym (infinity_added (fin s m e) (fin t n d) u tt tt)
+    only_mul_add (fin s m e) (fin t n d) nan = K.nan_added (fin s m e) (fin t n d) ∙ sym (nan_added (fin s m e) (fin t n d))
+    only_mul_add (fin s m e) (fin t n d) (inf u) = K.infinity_added (fin s m e) (fin t n d) u tt tt ∙ sym (infinity_added (fin s m e) (fin t n d) u tt tt)
     only_mul_add (fin s m e) (fin t n d) (fin u p g) = between-numbers (fin s m e) (fin t n d) (fin u p g) tt tt tt
 
   -- ---- the factors change places

@@ -34,20 +34,20 @@ module _ (x : Float) (F : T (fits binary64 x)) (X : T (finite x)) where
 
 -- ---- three finite floats by their patterns
 pub record AllFinite (x y z : Float) : Type 0 where
-  pub fits-x : T (fits binary64 x)
+  pub fits_x : T (fits binary64 x)
   pub fits_y : T (fits binary64 y)
-  pub fits-z : T (fits binary64 z)
-  pub finite-x : T (finite x)
+  pub fits_z : T (fits binary64 z)
+  pub finite_x : T (finite x)
   pub finite_y : T (finite y)
-  pub finite-z : T (finite z)
+  pub finite_z : T (finite z)
 
 module _ (f : Format) (x y z : Float) (K : AllFinite x y z) where
   -- a multiply-add of the three is that of what their patterns stand for
   pub by_patterns : mul_add f (of_bits binary64 (bits_of x)) (of_bits binary64 (bits_of y)) (of_bits binary64 (bits_of z)) ≡ mul_add f x y z
   by_patterns =
-      ap (λ (v : Float). mul_add f v (of_bits binary64 (bits_of y)) (of_bits binary64 (bits_of z))) (of_bits-to_bits binary64 x K.fits-x)
-      ∙ ap (λ (v : Float). mul_add f x v (of_bits binary64 (bits_of z))) (of_bits-to_bits binary64 y K.fits-y)
-      ∙ ap (λ (v : Float). mul_add f x y v) (of_bits-to_bits binary64 z K.fits-z)
+      ap (λ (v : Float). mul_add f v (of_bits binary64 (bits_of y)) (of_bits binary64 (bits_of z))) (of_bits-to_bits binary64 x K.fits_x)
+      ∙ ap (λ (v : Float). mul_add f x v (of_bits binary64 (bits_of z))) (of_bits-to_bits binary64 y K.fits_y)
+      ∙ ap (λ (v : Float). mul_add f x y v) (of_bits-to_bits binary64 z K.fits_z)
 
   -- a factor without digits is 0, and the two operations give it
   zero-digits : digits_of binary64 (bits_of x) * digits_of binary64 (bits_of y) ≡ 0 → add f (mul f x y) z ≡ mul_add f x y z
@@ -56,7 +56,7 @@ module _ (f : Format) (x y z : Float) (K : AllFinite x y z) where
       let n = digits_of binary64 (bits_of y) in
       let i = 2 ^ power_of binary64 (bits_of x) in
       let j = 2 ^ power_of binary64 (bits_of y) in
-      zero-product f x y z (minus_bit x) (minus_bit y) (m * i) (n * j) (2 ^ 1074) (2 ^ 1074) (pow_pos 1074) (pow_pos 1074) (float_value x K.fits-x K.finite-x) (float_value y K.fits-y K.finite-y) K.finite-z (nothing m n i j e)
+      zero-product f x y z (minus_bit x) (minus_bit y) (m * i) (n * j) (2 ^ 1074) (2 ^ 1074) (pow_pos 1074) (pow_pos 1074) (float_value x K.fits_x K.finite_x) (float_value y K.fits_y K.finite_y) K.finite_z (nothing m n i j e)
     where
       nothing : (m n i j : ℕ) → m * n ≡ 0 → m * i * (n * j) ≡ 0
       nothing m n i j e = let g = ap (λ (k : ℕ). k * (i * j)) e in omega arith
@@ -74,11 +74,11 @@ module _ (f : Format) (x y z : Float) (K : AllFinite x y z) where
       → FinitePatterns (bits_of x) (bits_of y) (bits_of z)
   all_finite_bits m n e g h k =
       record {
-        finite-a = finite_bits x K.fits-x K.finite-x;
-        finite-b = finite_bits y K.fits-y K.finite-y;
-        finite-c = finite_bits z K.fits-z K.finite-z;
-        some-a = above_zero (digits_of binary64 (bits_of x)) (λ o. h (e ∙ o));
-        some-b = above_zero (digits_of binary64 (bits_of y)) (λ o. k (g ∙ o));
+        finite_a = finite_bits x K.fits_x K.finite_x;
+        finite_b = finite_bits y K.fits_y K.finite_y;
+        finite_c = finite_bits z K.fits_z K.finite_z;
+        some_a = above_zero (digits_of binary64 (bits_of x)) (λ o. h (e ∙ o));
+        some_b = above_zero (digits_of binary64 (bits_of y)) (λ o. k (g ∙ o));
       }
     where
       above_zero : (n : ℕ) → (n ≡ 0 → ⊥) → 0 < n

@@ -39,7 +39,7 @@ size_words h l P H L = go (leading_top 64 h P H)
 
 -- ---- the shift: s places are dropped of a number of t digits times 2 ^ y / 2 ^ d where p are kept; no fewer than two, and so many that p are left and no place below the smallest value
 pub record Shift (t p d y s : ℕ) : Type 0 where
-  pub two-more : 2 ≤ s
+  pub two_more : 2 ≤ s
   pub covers : t ≤ p + s
   pub reaches : d ≤ y + s
   pub drops : t + y - d - p ≡ y + s - d
@@ -48,8 +48,8 @@ pub record Shift (t p d y s : ℕ) : Type 0 where
 
 -- the code's choice is such
 pub shift_of : (t p d y s : ℕ) → 65 ≤ t → t ≤ 128 → 2 ≤ p → p ≤ 53 → y ≤ 8000 → d ≤ 8000 → ((y + (t - p) < d) × (s ≡ d - y)) ⊎ ((d ≤ y + (t - p)) × (s ≡ t - p)) → Shift t p d y s
-shift_of t p d y s a b c e g h (inl w) = record { two-more = omega arith; covers = omega arith; reaches = omega arith; drops = omega arith; small = omega arith; shallow = omega arith }
-shift_of t p d y s a b c e g h (inr w) = record { two-more = omega arith; covers = omega arith; reaches = omega arith; drops = omega arith; small = omega arith; shallow = omega arith }
+shift_of t p d y s a b c e g h (inl w) = record { two_more = omega arith; covers = omega arith; reaches = omega arith; drops = omega arith; small = omega arith; shallow = omega arith }
+shift_of t p d y s a b c e g h (inr w) = record { two_more = omega arith; covers = omega arith; reaches = omega arith; drops = omega arith; small = omega arith; shallow = omega arith }
 
 -- ---- what is left after the cut is one word, with room
 pub odd_le : (x g w n : ℕ) → 0 < g → IsOddCut x g w → x < n * g → w ≤ n
@@ -80,13 +80,13 @@ kept_words h l y p d s vh vl P H L P53 S e =
     let u = two_words h l in
     let z = size_words h l P H L in
     let U : 0 < u = le_trans P (le_trans (times-word h) (le-add_right (h * 2 ^ 64) l)) in
-    let b = quarters_fit p s u S.two-more P53 (le_trans (le_of_eq z) S.covers) in
+    let b = quarters_fit p s u S.two_more P53 (le_trans (le_of_eq z) S.covers) in
     let i : vl ≡ odd_cut u (2 ^ (s - 2)) = one_word vh vl (odd_cut u (2 ^ (s - 2))) e b in
     let k : drop p (u * 2 ^ y) (2 ^ d) ≡ y + s - d = drop-is p d y u s U ∙ ap (λ (x : ℕ). x + y - d - p) z ∙ S.drops in
     let r = S.reaches in
     let m : d + drop p (u * 2 ^ y) (2 ^ d) ≡ y + s = ap (λ (x : ℕ). d + x) k ∙ back d (y + s) r in (
       le_trans (le_of_eq i) b,
-      record { dropped = sym k; held = nearest_fourth vl ∙ ap (λ (x : ℕ). closest x 4) i ∙ sym (kept-is p d y u s U S.two-more m); few = let q = le_trans (le_of_eq i) b in quarter vl q },
+      record { dropped = sym k; held = nearest_fourth vl ∙ ap (λ (x : ℕ). closest x 4) i ∙ sym (kept-is p d y u s U S.two_more m); few = let q = le_trans (le_of_eq i) b in quarter vl q },
     )
   where
     times-word : (h : ℕ) → h ≤ h * 2 ^ 64

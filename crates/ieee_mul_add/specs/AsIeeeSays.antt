@@ -15,10 +15,10 @@ use Rattle.ieee_mul_add.specs.MulAdd.{exactly}
 pub record FusedMultiplyAdd (f : Format) (of : Float → Float → Float → Float) : Type 0 where
   -- the exact sum is n over its bottom, with the sign s
   pub ties_to_even : (x y z : Float) → T (finite x) → T (finite y) → T (finite z) → (s : Bool) (n : ℕ) → 0 < n → (exactly x y z).top ≡ signed s n → TiesToEven f s n (exactly x y z).bottom (of x y z)
-  pub exact-zero : (x y z : Float) → T (finite x) → T (finite y) → T (finite z) → (exactly x y z).top ≡ pos 0 → of x y z ≡ fin (unlike (sign_of x) (sign_of y) && sign_of z) 0 (pos 0)
-  pub nan-first : (y z : Float) → of nan y z ≡ nan
-  pub nan-second : (x z : Float) → of x nan z ≡ nan
-  pub nan-added : (x y : Float) → of x y nan ≡ nan
+  pub exact_zero : (x y z : Float) → T (finite x) → T (finite y) → T (finite z) → (exactly x y z).top ≡ pos 0 → of x y z ≡ fin (unlike (sign_of x) (sign_of y) && sign_of z) 0 (pos 0)
+  pub nan_first : (y z : Float) → of nan y z ≡ nan
+  pub nan_second : (x z : Float) → of x nan z ≡ nan
+  pub nan_added : (x y : Float) → of x y nan ≡ nan
   pub zero_times_infinity : (s t : Bool) (e : ℤ) (z : Float) → of (fin s 0 e) (inf t) z ≡ nan
   pub infinity_times_zero : (s t : Bool) (e : ℤ) (z : Float) → of (inf s) (fin t 0 e) z ≡ nan
   pub number_times_infinity : (s t : Bool) (n : ℕ) (e : ℤ) (z : Float) → 0 < n → of (fin s n e) (inf t) z ≡ add f (inf (unlike s t)) z

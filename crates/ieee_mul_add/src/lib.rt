@@ -5,6 +5,8 @@
 //   the one with the lower power is cut to the other's, rounded to odd, so that what is lost leaves a mark; then the two are added, or one is taken from the other;
 //   from there the format's digits are kept, rounded by two more of them; the pattern is the places dropped and the digits kept, and no case of its own is asked for by a carry, a subnormal or an overflow.
 // The room below the digits is what makes every cut deep enough for both roundings to be one.
+#![tactic(auto)]
+
 ghost use Rattle.std.specs.Prelude.{◌≡◌, ◌+◌, ◌-◌, ◌*◌, ◌%◌, ◌^◌, ◌<◌, ◌≤◌, true, false, not, ◌&&◌, if◌then◌else◌, from_bits, nat_lt};
 ghost use Rattle.std.specs.Float.{binary32, binary64};
 ghost use Rattle.std.specs.Float.Ieee.{top, unlike};
@@ -22,7 +24,7 @@ ghost use Rattle.ieee_mul_add.specs.inside.QuickWays.{ExactProduct};
 // ---- whole numbers of two words
 
 // high * 2^64 + low.
-#[derive(Drop)]
+#[derive(Clone, Copy)]
 pub struct Wide {
     pub high: u64,
     pub low: u64,
@@ -126,7 +128,7 @@ fn minus(a_high: u64, a_low: u64, b_high: u64, b_low: u64) -> Wide
 }
 
 // The size of a sum of two numbers of either sign, by their sizes, and whether the second is larger and its sign counts.
-#[derive(Drop)]
+#[derive(Clone, Copy)]
 pub struct Joined {
     pub high: u64,
     pub low: u64,
@@ -203,7 +205,7 @@ fn power(pattern: u64) -> u64
 }
 
 // Two words times 2^exponent, and whether the second summand is larger and its sign counts.
-#[derive(Drop)]
+#[derive(Clone, Copy)]
 pub struct Sum {
     pub high: u64,
     pub low: u64,
@@ -258,7 +260,7 @@ fn summed_bits(a: u64, b: u64, c: u64, alike: bool) -> Sum
 // ---- rounded from there
 
 // How many places are dropped, and the digits that are kept, rounded.
-#[derive(Drop)]
+#[derive(Clone, Copy)]
 pub struct Kept {
     pub dropped: u64,
     pub digits: u64,

@@ -1,4 +1,6 @@
 // Floats by their bit patterns, NaN included, and the hexadecimal digits that patterns are written in.
+#![tactic(auto)]
+
 ghost use Rattle.std.specs.Prelude.{◌≡◌, ◌%◌, ◌/◌, ◌<◌, get_or};
 ghost use Rattle.std.specs.Float.Ieee.{of_bits, to_bits};
 ghost use Rattle.std.specs.Float.{binary32, binary64};

@@ -1,4 +1,6 @@
 // The numbers that are taken, by kind, and the numbers that refusals answer.
+#![tactic(auto)]
+
 ghost use Rattle.std.specs.Prelude.{◌≡◌, true, false, ◌+◌, ◌≤◌, length, ltb};
 ghost use Rattle.limits.specs.Numbers.{range_of, in_range, size_of, every, miss, all_in, is_unit, units_in, row_in};
 ghost use Rattle.picks.specs.Pick.{pick};
@@ -62,7 +64,7 @@ pub fn no_room(fits: bool) -> u32
 // ---- what is taken
 
 // What a number is for.
-#[derive(Drop)]
+#[derive(Clone, Copy)]
 pub enum Kind {
     // A beat, asked or of any list but raw tempos and stops.
     Beat,
@@ -83,7 +85,7 @@ pub enum Kind {
 }
 
 // The sizes that are taken, whether 0 is, and whether what is not finite passes, to be dropped later.
-#[derive(Drop)]
+#[derive(Clone, Copy)]
 pub struct Range {
     pub least: f64,
     pub most: f64,

@@ -1,4 +1,6 @@
 // The columns of a timing, which are f32: whether their numbers are taken, and the number that a list is refused by.
+#![tactic(auto)]
+
 ghost use Rattle.std.specs.Prelude.{◌≡◌};
 ghost use Rattle.limits.specs.Numbers.{range_of, every, all_in};
 ghost use Rattle.limits.specs.Plain.{plain};

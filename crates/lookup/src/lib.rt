@@ -1,4 +1,6 @@
 // Lookups: whether a row or a beat is warped, fake or judgable; one question at a time, or many rows after one test of the lists.
+#![tactic(auto)]
+
 ghost use Rattle.std.specs.Prelude.{◌≡◌, ◌+◌, ◌-◌, ◌<◌, ◌≤◌, true, false, not, length, ℤ};
 ghost use Rattle.std.specs.Float.{nan};
 ghost use Rattle.columns.specs.Each.{laid_each};
@@ -16,7 +18,7 @@ use limits::Kind;
 
 // ---- where the entries at or before a row end
 
-#[derive(Drop)]
+#[derive(Clone, Copy)]
 struct Bounds {
     low: usize,
     high: usize,
@@ -58,7 +60,7 @@ fn count_at(beats: &[f32], key: u32) -> usize
 // ---- where a row stands in a list
 
 // How many entries are at or before each row from the key `from` up to the key `until`, and not at it.
-#[derive(Drop)]
+#[derive(Clone, Copy)]
 struct Place {
     count: usize,
     from: u32,
@@ -342,7 +344,7 @@ fn judgable_after(
 
 // The refusal number, 0 where the question is taken, and the answer: no after a refusal.
 #[repr(C)]
-#[derive(Drop)]
+#[derive(Clone, Copy)]
 pub struct Looked {
     pub number: u32,
     pub yes: bool,
@@ -611,7 +613,7 @@ pub fn is_judgable_at_beat(
 // ---- many rows
 
 // A place in warps or fakes, and what the last entry covers.
-#[derive(Drop)]
+#[derive(Clone, Copy)]
 struct Held {
     count: usize,
     from: u32,
@@ -621,7 +623,7 @@ struct Held {
 }
 
 // The place of a row in each list, and its answer. Stops and delays are only looked into in a warp.
-#[derive(Drop)]
+#[derive(Clone, Copy)]
 struct Cursor {
     stops: Place,
     delays: Place,

@@ -1,4 +1,6 @@
 // Lookups into lists that were tested once: whether a row or a beat is warped, fake or judgable, in a time that grows with the logarithm of the lists.
+#![tactic(auto)]
+
 ghost use Rattle.std.specs.Prelude.{◌≡◌, true, false, nat_abs, length, get_or, ◌≤◌, ◌<◌};
 ghost use Rattle.std.specs.Float.{nan, binary32};
 ghost use Rattle.std.specs.Float.Ieee.{of_int};

@@ -1,4 +1,6 @@
 // What lookups refuse: a list with a number beyond its limit or with rows that do not rise, and what is asked.
+#![tactic(auto)]
+
 ghost use Rattle.std.specs.Prelude.{◌≡◌};
 ghost use Rattle.limits.specs.Numbers.{range_of, every, miss, row_in};
 ghost use Rattle.lookup_tests.specs.LookupLists.{list_columns, warp_lists, lookup_lists};

@@ -1,4 +1,6 @@
 // How many rows the warps of a timing pass over, each row once.
+#![tactic(auto)]
+
 ghost use Rattle.std.specs.Prelude.{◌≡◌, ◌-◌, max, nat_lt};
 ghost use Rattle.picks.specs.Pick.{pick};
 ghost use Rattle.order.specs.Entries.{entries};

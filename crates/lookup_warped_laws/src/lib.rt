@@ -1,1 +1,2 @@
 // The warps that assembly writes are counted by one pass: laws.
+#![tactic(auto)]

@@ -26,11 +26,11 @@ pub record SmallLists : Type 0 where
   pub last_of_row_lem : mended row near ((4, 10) ∷ (0, 20) ∷ (4, 30) ∷ []) ≡ (0, 20) ∷ (4, 30) ∷ []
   pub last_of_row_fates : fates row near ((4, 10) ∷ (0, 20) ∷ (4, 30) ∷ []) ≡ Replaced ∷ Kept ∷ Kept ∷ []
   -- a row whose last entry is merged has no entry: the one before it stays replaced
-  pub row-lost : mended row near ((0, 10) ∷ (4, 20) ∷ (4, 10) ∷ []) ≡ (0, 10) ∷ []
+  pub row_lost : mended row near ((0, 10) ∷ (4, 20) ∷ (4, 10) ∷ []) ≡ (0, 10) ∷ []
   pub row_lost_fates : fates row near ((0, 10) ∷ (4, 20) ∷ (4, 10) ∷ []) ≡ Kept ∷ Replaced ∷ Merged ∷ []
   -- nothing follows from a chain: the third is held against the first, which is the last one kept
   pub chain : mended row near ((0, 10) ∷ (1, 11) ∷ (2, 12) ∷ []) ≡ (0, 10) ∷ (2, 12) ∷ []
-  pub chain-fates : fates row near ((0, 10) ∷ (1, 11) ∷ (2, 12) ∷ []) ≡ Kept ∷ Merged ∷ Kept ∷ []
+  pub chain_fates : fates row near ((0, 10) ∷ (1, 11) ∷ (2, 12) ∷ []) ≡ Kept ∷ Merged ∷ Kept ∷ []
   -- an entry is never held against one of its own row
   pub own_row : fates row near ((4, 10) ∷ (4, 10) ∷ []) ≡ Replaced ∷ Kept ∷ []
   -- near that goes one way only
@@ -44,10 +44,10 @@ small-lists = record {
   out_of_order_fates = refl;
   last_of_row_lem = refl;
   last_of_row_fates = refl;
-  row-lost = refl;
+  row_lost = refl;
   row_lost_fates = refl;
   chain = refl;
-  chain-fates = refl;
+  chain_fates = refl;
   own_row = refl;
   one_way = refl;
   none = refl;

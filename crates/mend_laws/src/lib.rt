@@ -1,1 +1,2 @@
 // A mended list on its way through assembly to where notes are drawn: laws.
+#![tactic(auto)]

@@ -27,12 +27,12 @@ module _ (scrolls old : ListColumns) (fates_old : List ℕ) where
   refused_with_lem n e h =
       subst (λ (m : ℕ). ScrollsMended scrolls (refused_by m) old old fates_old fates_old) e
       (record {
-        list = rooms.refused-by-tests tests (mended_scrolls scrolls) old.beats old.values (λ z. h (sym e ∙ z));
+        list = rooms.refused_by_tests tests (mended_scrolls scrolls) old.beats old.values (λ z. h (sym e ∙ z));
         fates_are = fates-left tests (scroll_fates scrolls) fates_old (λ z. h (sym e ∙ z));
       })
 
   pub refused_by_tests : (scroll_tests scrolls ≡ 0 → ⊥) → ScrollsMended scrolls (refused_by (scroll_tests scrolls)) old old fates_old fates_old
-  refused_by_tests h = refused_with_lem (scroll_tests scrolls) (sym (rooms.number-of-tests _ _ _ h)) h
+  refused_by_tests h = refused_with_lem (scroll_tests scrolls) (sym (rooms.number_of_tests _ _ _ h)) h
 
   module _ (h : scroll_tests scrolls ≡ 0) {count : ℕ} {found kept : List ℕ} (w : WalkedBeats nan near_to scrolls.beats scrolls.values count found kept) where
     even : length scrolls.beats ≡ length scrolls.values
@@ -45,14 +45,14 @@ module _ (scrolls old : ListColumns) (fates_old : List ℕ) where
     many = many-written nan near_to scrolls.beats scrolls.values even w
 
     pub fates_too_long : length fates_old < length found → ScrollsMended scrolls (refused_by 7) old old fates_old fates_old
-    fates_too_long l = refused_with_lem 7 (sym (rooms.number-no-room _ _ _ h (omega (arith, long)))) (λ e. omega arith)
+    fates_too_long l = refused_with_lem 7 (sym (rooms.number_no_room _ _ _ h (omega (arith, long)))) (λ e. omega arith)
 
     passed : length found ≤ length fates_old → tests ≡ 0
     passed l = sym (rooms.number-taken _ _ _ h (omega (arith, long)))
 
     pub list_too_long : length found ≤ length fates_old → room < count → ScrollsMended scrolls (refused_by 7) old old fates_old fates_old
     list_too_long l k = record {
-      list = rooms.refused-for-room tests (mended_scrolls scrolls) old.beats old.values (passed l) (omega (arith, many));
+      list = rooms.refused_for_room tests (mended_scrolls scrolls) old.beats old.values (passed l) (omega (arith, many));
       fates_are = fates-left 7 (scroll_fates scrolls) fates_old (λ e. omega arith);
     }
 

@@ -1,4 +1,6 @@
 // Scrolls that lost their order, mended: in the stable order of rows, of each row the last, without those near the one kept before.
+#![tactic(auto)]
+
 ghost use Rattle.std.specs.Prelude.{◌≡◌, ◌<◌, length};
 ghost use Rattle.std.specs.Float.{nan};
 ghost use Rattle.chart.specs.ChartColumns.{lent_columns, list_before, list_after, list_columns};
@@ -78,7 +80,7 @@ fn lay_mended(
 ) -> Outcome
     requires values_value { scroll_tests (list_columns beats.now values.now) ≡ 0 }
     requires walked_beats { WalkedBeats nan near_to beats.now values.now count fates.now kept.now }
-    ensures { let scrolls = list_before (lent_columns beats values) in
+    ensures { let scrolls = list_columns beats.now values.now in
         let rooms = lent_columns out_beats out_values in
         ScrollsMended scrolls result (list_before rooms) (list_after rooms) out_fates.old out_fates.new }
 {
@@ -111,7 +113,7 @@ fn mend_in(
 ) -> Outcome
     requires values_value { scroll_tests (list_columns beats.now values.now) ≡ 0 }
     requires work_for { WorkFor (length beats.now) numbers.old fates.old kept.old }
-    ensures { let scrolls = list_before (lent_columns beats values) in
+    ensures { let scrolls = list_columns beats.now values.now in
         let rooms = lent_columns out_beats out_values in
         ScrollsMended scrolls result (list_before rooms) (list_after rooms) out_fates.old out_fates.new }
 {
@@ -129,7 +131,7 @@ fn mend_taken(
     out_fates: &mut [u8],
 ) -> Outcome
     requires { scroll_tests (list_columns beats.now values.now) ≡ 0 }
-    ensures { let scrolls = list_before (lent_columns beats values) in
+    ensures { let scrolls = list_columns beats.now values.now in
         let rooms = lent_columns out_beats out_values in
         ScrollsMended scrolls result (list_before rooms) (list_after rooms) out_fates.old out_fates.new }
 {
@@ -158,7 +160,7 @@ pub fn mend_scrolls(
     out_values: &mut [f64],
     out_fates: &mut [u8],
 ) -> Outcome
-    ensures { let scrolls = list_before (lent_columns beats values) in
+    ensures { let scrolls = list_columns beats.now values.now in
         let rooms = lent_columns out_beats out_values in
         ScrollsMended scrolls result (list_before rooms) (list_after rooms) out_fates.old out_fates.new }
 {

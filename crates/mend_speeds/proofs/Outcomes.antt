@@ -47,7 +47,7 @@ module _ (speeds old : SpeedColumns) (fates_old : List ℕ) where
   refused_with_lem n e h =
       subst (λ (m : ℕ). SpeedsMended speeds (refused_by m) old old fates_old fates_old) e
       (record {
-        list = rooms.refused-by-tests tests (mended_speeds speeds) old.beats old.ratios old.delays old.units (λ z. h (sym e ∙ z));
+        list = rooms.refused_by_tests tests (mended_speeds speeds) old.beats old.ratios old.delays old.units (λ z. h (sym e ∙ z));
         fates_are = fates-left tests (speed_fates speeds) fates_old (λ z. h (sym e ∙ z));
       })
 
@@ -69,7 +69,7 @@ module _ (speeds old : SpeedColumns) (fates_old : List ℕ) where
 
     pub list_too_long : length found ≤ length fates_old → least_length old < count → SpeedsMended speeds (refused_by 7) old old fates_old fates_old
     list_too_long l k = record {
-      list = rooms.refused-for-room tests (mended_speeds speeds) old.beats old.ratios old.delays old.units (passed l) (omega (arith, many));
+      list = rooms.refused_for_room tests (mended_speeds speeds) old.beats old.ratios old.delays old.units (passed l) (omega (arith, many));
       fates_are = fates-left 7 (speed_fates speeds) fates_old (λ e. omega arith);
     }
 

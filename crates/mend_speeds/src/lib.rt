@@ -1,4 +1,6 @@
 // Speeds that lost their order, mended: in the stable order of rows, of each row the last, without those near the one kept before.
+#![tactic(auto)]
+
 ghost use Rattle.std.specs.Prelude.{◌≡◌, ◌<◌, length, get_or};
 ghost use Rattle.std.specs.Float.{nan};
 ghost use Rattle.chart.specs.ChartColumns.{lent_speeds, speeds_before, speeds_after, speed_columns};
@@ -114,7 +116,7 @@ fn lay_mended(
 ) -> Outcome
     requires units_value { speed_tests (speed_columns beats.now ratios.now delays.now units.now) ≡ 0 }
     requires walked_beats { WalkedBeats no_speed near_speed beats.now (speed_values ratios.now delays.now units.now) count fates.now kept.now }
-    ensures { let speeds = speeds_before (lent_speeds beats ratios delays units) in
+    ensures { let speeds = speed_columns beats.now ratios.now delays.now units.now in
         let rooms = lent_speeds out_beats out_ratios out_delays out_units in
         SpeedsMended speeds result (speeds_before rooms) (speeds_after rooms) out_fates.old out_fates.new }
 {
@@ -159,7 +161,7 @@ fn mend_in(
 ) -> Outcome
     requires units_value { speed_tests (speed_columns beats.now ratios.now delays.now units.now) ≡ 0 }
     requires work_for { WorkFor (length beats.now) numbers.old fates.old kept.old }
-    ensures { let speeds = speeds_before (lent_speeds beats ratios delays units) in
+    ensures { let speeds = speed_columns beats.now ratios.now delays.now units.now in
         let rooms = lent_speeds out_beats out_ratios out_delays out_units in
         SpeedsMended speeds result (speeds_before rooms) (speeds_after rooms) out_fates.old out_fates.new }
 {
@@ -182,7 +184,7 @@ fn mend_taken(
     out_fates: &mut [u8],
 ) -> Outcome
     requires { speed_tests (speed_columns beats.now ratios.now delays.now units.now) ≡ 0 }
-    ensures { let speeds = speeds_before (lent_speeds beats ratios delays units) in
+    ensures { let speeds = speed_columns beats.now ratios.now delays.now units.now in
         let rooms = lent_speeds out_beats out_ratios out_delays out_units in
         SpeedsMended speeds result (speeds_before rooms) (speeds_after rooms) out_fates.old out_fates.new }
 {
@@ -219,7 +221,7 @@ pub fn mend_speeds(
     out_units: &mut [u8],
     out_fates: &mut [u8],
 ) -> Outcome
-    ensures { let speeds = speeds_before (lent_speeds beats ratios delays units) in
+    ensures { let speeds = speed_columns beats.now ratios.now delays.now units.now in
         let rooms = lent_speeds out_beats out_ratios out_delays out_units in
         SpeedsMended speeds result (speeds_before rooms) (speeds_after rooms) out_fates.old out_fates.new }
 {

@@ -1,4 +1,6 @@
 // The answer to standard input: the scrolls and speeds of a chart's raw lists mended, with what became of each of their entries.
+#![tactic(auto)]
+
 ghost use Rattle.io.specs.Counts.{IsPrefixLen};
 ghost use Rattle.mend_stdin.specs.Input.{MendOfSome};
 

@@ -6,4 +6,4 @@ use Rattle.text_page.proofs.OneOutcome as page
 use Rattle.mend_text.specs.MendedText.{MendTold}
 
 pub one_outcome : {text : List ℕ} {end_a end_b : ℕ} {old new_a new_b : List ℕ} → MendTold text end_a old new_a → MendTold text end_b old new_b → (end_a ≡ end_b) × (new_a ≡ new_b)
-one_outcome x y = page.one-outcome x.wrote y.wrote
+one_outcome x y = page.one_outcome x.wrote y.wrote

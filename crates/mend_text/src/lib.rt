@@ -1,11 +1,13 @@
 // What the program mend writes of what was read: scrolls and speeds mended, and what became of each raw entry.
+#![tactic(auto)]
+
 ghost use Rattle.std.specs.Prelude.{◌≡◌, ◌∷◌, [], ◌++◌, map, ◌≤◌, length};
 ghost use Rattle.std.specs.Float.Ieee.{to_bits};
 ghost use Rattle.std.specs.Float.{binary64};
 ghost use Rattle.io.specs.Counts.{IsPrefixLen};
 ghost use Rattle.ieee_patterns.specs.Hex.{hex_text};
 ghost use Rattle.order.specs.Entries.{entries};
-ghost use Rattle.chart.specs.ChartColumns.{lent_columns, list_before, list_columns, lent_speeds, speeds_before, speed_columns};
+ghost use Rattle.chart.specs.ChartColumns.{list_columns, speed_columns};
 ghost use Rattle.text_page.specs.Page.{Wrote};
 ghost use Rattle.tidy_speeds_entries.specs.Speed.{speed_entries};
 ghost use Rattle.report_form.specs.Text.{entry_line, entry_lines};
@@ -154,7 +156,7 @@ fn put_mended_speeds(
     units: &[u8],
 ) -> usize
     requires { (speed_tests (speed_columns beats.now ratios.now delays.now units.now) ≡ 0) × (length beats.now ≤ 256) }
-    ensures { let speeds = speeds_before (lent_speeds beats ratios delays units) in
+    ensures { let speeds = speed_columns beats.now ratios.now delays.now units.now in
         Wrote (speeds_text speeds) at result page.old page.new }
 {
     let mut out_beats = [0.0; report_form::MOST_REPORTED];
@@ -196,8 +198,8 @@ fn write_lists(
     speed_units: &[u8],
 ) -> usize
     requires { (length scroll_beats.now ≤ 256) × (length speed_beats.now ≤ 256) }
-    ensures fact { let scrolls = list_before (lent_columns scroll_beats scroll_values) in
-        let speeds = speeds_before (lent_speeds speed_beats speed_ratios speed_delays speed_units) in
+    ensures fact { let scrolls = list_columns scroll_beats.now scroll_values.now in
+        let speeds = speed_columns speed_beats.now speed_ratios.now speed_delays.now speed_units.now in
         Wrote (mended_text scrolls speeds) 0 result page.old page.new }
     ensures prefix_len { IsPrefixLen result page.new }
 {
@@ -237,8 +239,8 @@ pub fn write_mended(
     scroll_beats: &[f64],
     scroll_values: &[f64],
 ) -> usize
-    ensures fact { let scrolls = list_before (lent_columns scroll_beats scroll_values) in
-        let speeds = speeds_before (lent_speeds speed_beats speed_ratios speed_delays speed_units) in
+    ensures fact { let scrolls = list_columns scroll_beats.now scroll_values.now in
+        let speeds = speed_columns speed_beats.now speed_ratios.now speed_delays.now speed_units.now in
         MendTold (mend_text reading counts.now scrolls speeds) result page.old page.new }
     ensures prefix_len { IsPrefixLen result page.new }
 {

@@ -1,4 +1,6 @@
 // The note sheet: for each note row its time, whether it is judgable, and its snap colour.
+#![tactic(auto)]
+
 ghost use Rattle.std.specs.Prelude.{◌≡◌, ◌+◌, ◌<◌, ◌≤◌, ◌^◌, min, ℤ, length};
 ghost use Rattle.std.specs.Int.Signed.{lt_z};
 ghost use Rattle.std.specs.Float.{binary64};
@@ -18,7 +20,7 @@ use clock::Cursor;
 
 // The sheet's number, how many rows were written, and the events passed and one for each row, added up.
 #[repr(C)]
-#[derive(Drop)]
+#[derive(Clone, Copy)]
 pub struct Sheet {
     pub number: u32,
     pub count: usize,
@@ -28,7 +30,7 @@ pub struct Sheet {
 // ---- the snap colour
 
 // What part of a beat a row falls on.
-#[derive(Drop)]
+#[derive(Clone, Copy)]
 pub enum Snap {
     Fourth,
     Eighth,
@@ -176,7 +178,7 @@ fn sum(counts: &[usize]) -> usize
 const PIECE: usize = 64;
 
 // The cursor after a piece of the run, and the counts of the piece added up.
-#[derive(Drop)]
+#[derive(Clone, Copy)]
 struct Piece {
     cursor: Cursor,
     steps: usize,

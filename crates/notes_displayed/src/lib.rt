@@ -1,4 +1,6 @@
 // Where a beat is drawn. A scroll says how fast the display moves from its beat on: by its ratio, until the next one.
+#![tactic(auto)]
+
 ghost use Rattle.std.specs.Prelude.{◌≡◌, ℕ, ◌<◌, ◌≤◌, length, slice_index, slice_index_or, Float};
 ghost use Rattle.std.specs.Float.{nan};
 ghost use Rattle.limits.specs.Table.{most_entries};
@@ -14,7 +16,7 @@ use limits::Kind;
 
 // The refusal number, and where the beat is drawn; 0 after a refusal.
 #[repr(C)]
-#[derive(Drop)]
+#[derive(Clone, Copy)]
 pub struct Displayed {
     pub number: u32,
     pub beat: f64,

@@ -88,9 +88,9 @@ comma-shows = refl
 pub blank_byte_changes_nothing : (front back : List ℕ) (byte : ℕ) → is_blank byte ≡ true → (byte ≡ line_feed → ⊥) → rows_to_beats (front ++ byte ∷ back) ≡ rows_to_beats (front ++ back)
 unfolding after
 blank_byte_changes_nothing front back byte blank no-feed =
-    let no-comma : byte ≡ comma → ⊥ = λ e. let z : true ≡ false = sym blank ∙ ap is_blank e ∙ comma-shows in true≢false z in
+    let no_comma : byte ≡ comma → ⊥ = λ e. let z : true ≡ false = sym blank ∙ ap is_blank e ∙ comma-shows in true≢false z in
     same-beats (front ++ byte ∷ back) (front ++ back)
-    (alike-behind front (byte ∷ back) back (λ begun. step begun byte back ∙ rw (ne_eqb byte comma no-comma, ne_eqb byte line_feed no-feed, blank)) false)
+    (alike-behind front (byte ∷ back) back (λ begun. step begun byte back ∙ rw (ne_eqb byte comma no_comma, ne_eqb byte line_feed no-feed, blank)) false)
 
 module _ (front back : List ℕ) where
   -- 13, which stands before each line feed in some files

@@ -46,7 +46,7 @@ module _ {note_data : List ℕ} {old : List Float} where
         )
 
     pub same-room : length room ≡ length old
-    same-room = ap length so_far.laid-so-far ∙ laid-length so_far.done old (omega (arith, room-left, so_far.many))
+    same-room = ap length so_far.laid_so_far ∙ laid-length so_far.done old (omega (arith, room-left, so_far.many))
 
     module _ {measure : Measure} (place-within : place ≤ length note_data) (counted : MeasureCounted note_data place measure) where
       pub measure_fits : written + measure.rows ≤ length room
@@ -64,11 +64,11 @@ module _ {note_data : List ℕ} {old : List Float} where
             done = so_far.done ++ beats;
             many = omega (arith, so_far.many, length-append so_far.done beats, measure_writes_rows index measure.rows);
             laid_so_far =
-                laid_more room back old so_far.done beats written so_far.laid-so-far so_far.many
+                laid_more room back old so_far.done beats written so_far.laid_so_far so_far.many
                 (omega (arith, so_far.many, same-room, measure_fits, measure_writes_rows index measure.rows))
                 is;
             whole = append_assoc so_far.done beats rest ∙ sym (ap (λ (l : List Float). so_far.done ++ l) left) ∙ so_far.whole;
-            each_a_place = omega (arith, so_far.each-a-place, counted.end);
+            each_a_place = omega (arith, so_far.each_a_place, counted.end);
             within = omega (arith, ends-within note_data place place-within counted);
           }
 
@@ -77,4 +77,4 @@ module _ {note_data : List ℕ} {old : List Float} where
     all-written past =
         let all : so_far.done ≡ rows_to_beats note_data =
         sym (append-nil so_far.done) ∙ rw (none-behind note_data place (omega arith)) at so_far.whole in
-        so_far.laid-so-far ∙ ap (λ (l : List Float). laid l old) all
+        so_far.laid_so_far ∙ ap (λ (l : List Float). laid l old) all

@@ -1,4 +1,6 @@
 // The beat of each row of note data: the rows of a measure are counted, and share its four beats.
+#![tactic(auto)]
+
 ghost use Rattle.std.specs.Prelude.{◌≡◌, ◌≤◌, length};
 ghost use Rattle.order.specs.Order.{laid};
 ghost use Rattle.notes_rows.specs.Measures.{is_blank, one_if, measures, all_rows};
@@ -44,7 +46,7 @@ fn one_if(begun: bool) -> usize
 }
 
 // A measure: how many rows it has, and where it ends, at a comma or at the data's end.
-#[derive(Drop)]
+#[derive(Clone, Copy)]
 struct Measure {
     rows: usize,
     end: usize,

@@ -1,4 +1,6 @@
 // Raw tempos and stops, processed by the format of the chart.
+#![tactic(auto)]
+
 ghost use Rattle.process_raw.specs.LentLists.{two_columns, lent_three, three_before, three_after};
 ghost use Rattle.process_raw.specs.RawLists.{raw_numbers_of};
 ghost use Rattle.process.specs.ByFormat.{lists_by_of, ThreeListsLaid, ProcessedBy};

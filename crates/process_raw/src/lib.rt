@@ -1,4 +1,6 @@
 // Raw tempos and stops, and what their processing answers in either format.
+#![tactic(auto)]
+
 ghost use Rattle.std.specs.Prelude.{◌≡◌};
 ghost use Rattle.process_raw.specs.RawLists.{raw_numbers, processed_nothing};
 
@@ -6,7 +8,7 @@ use limits::Kind;
 
 // The refusal number, 0 where the lists are taken, how many entries of each result were written, and the seconds that beat 0 is moved by.
 #[repr(C)]
-#[derive(Drop)]
+#[derive(Clone, Copy)]
 pub struct Processed {
     pub number: u32,
     pub tempos: usize,

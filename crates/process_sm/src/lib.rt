@@ -1,4 +1,6 @@
 // SM: the processing of raw tempos and stops.
+#![tactic(auto)]
+
 ghost use Rattle.std.specs.Prelude.{◌≡◌, ◌+◌, ◌^◌, ◌<◌, ◌≤◌, min, max, true, length};
 ghost use Rattle.process_raw.specs.RawLists.{raw_numbers};
 ghost use Rattle.process_raw.specs.LentLists.{two_columns, three_columns, lent_three, three_before, three_after};

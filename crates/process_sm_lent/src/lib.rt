@@ -1,4 +1,6 @@
 // SM: the processing of raw tempos and stops by way of lent work columns.
+#![tactic(auto)]
+
 ghost use Rattle.std.specs.Prelude.{◌≡◌, length};
 ghost use Rattle.limits.specs.declared.Kind.TheVariants.{Beat, TidyTempo};
 ghost use Rattle.limits.specs.Numbers.{range_of};

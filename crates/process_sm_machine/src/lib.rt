@@ -1,25 +1,27 @@
 // SM timing as a state machine. The arrows are calls on values: each takes a state and gives the next one with what it writes.
+#![tactic(auto)]
+
 ghost use Rattle.std.specs.Prelude.{◌≡◌};
 ghost use Rattle.process_sm_machine.specs.Machine.{fits, entry_at, warp_over, tempo_after, still, open_chart, owed_at, keep_warp, close_by_time, pass_in_warp, pass};
 ghost use Rattle.process_sm_machine.specs.Machine.{tempo_outside, meet_tempo, stop_outside, close_by_stop, begin_again, stop_in_warp, meet_stop, beat_at, meet};
 ghost use Rattle.process_sm_machine.specs.Machine.{warp_end_of, finish_warp, finish};
 
 // A change, or what is written: a beat and a value.
-#[derive(Drop)]
+#[derive(Clone, Copy)]
 pub struct Entry {
     pub beat: f32,
     pub value: f32,
 }
 
 // What a chart has on a beat.
-#[derive(Drop)]
+#[derive(Clone, Copy)]
 pub enum Change {
     Tempo(Entry),
     Stop(Entry),
 }
 
 // A warp that is open: where it began, the tempo before it, the time owed.
-#[derive(Drop)]
+#[derive(Clone, Copy)]
 pub struct Opened {
     pub start: f32,
     pub former: f32,
@@ -27,14 +29,14 @@ pub struct Opened {
 }
 
 // No warp is open, or one is.
-#[derive(Drop)]
+#[derive(Clone, Copy)]
 pub enum Warp {
     Closed,
     Open(Opened),
 }
 
 // The tempo in force, the beat reached, the warp.
-#[derive(Drop)]
+#[derive(Clone, Copy)]
 pub struct State {
     pub tempo: f32,
     pub beat: f32,
@@ -42,14 +44,14 @@ pub struct State {
 }
 
 // What an arrow writes into one list.
-#[derive(Drop)]
+#[derive(Clone, Copy)]
 pub enum Written {
     Nothing,
     One(Entry),
 }
 
 // What an arrow leads to, and what it writes.
-#[derive(Drop)]
+#[derive(Clone, Copy)]
 pub struct Moved {
     pub state: State,
     pub tempo: Written,

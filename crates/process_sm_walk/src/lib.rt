@@ -1,4 +1,6 @@
 // The walk of SM timing over tempos and stops that are in order by beat.
+#![tactic(auto)]
+
 ghost use Rattle.std.specs.Prelude.{◌≡◌, ◌+◌, ◌^◌, ◌<◌, ◌≤◌, max, true, false, map, length, drop, ◌==◌, slice_index_or};
 ghost use Rattle.std.specs.Float.{nan};
 ghost use Rattle.ieee.specs.Constants.{plus_zero32};
@@ -20,21 +22,21 @@ ghost use Rattle.process_sm_walk.specs.inside.NoWarp.{is_pause, NoWarp, rowed};
 use process_sm_machine::{Change, Entry, Moved, State, Warp, Written};
 
 // The change that comes next, if there is one.
-#[derive(Drop)]
+#[derive(Clone, Copy)]
 pub enum Next {
     Here(Change),
     End,
 }
 
 // The places of the next tempo and the next stop.
-#[derive(Drop)]
+#[derive(Clone, Copy)]
 pub struct Places {
     pub tempo: usize,
     pub stop: usize,
 }
 
 // How many entries of each list are written.
-#[derive(Drop)]
+#[derive(Clone, Copy)]
 pub struct Counts {
     pub tempos: usize,
     pub stops: usize,
@@ -42,7 +44,7 @@ pub struct Counts {
 }
 
 // The refusal number, 0 where the call is taken; how many entries of each list were written; what beat 0 is moved by.
-#[derive(Drop)]
+#[derive(Clone, Copy)]
 pub struct Walked {
     pub number: u32,
     pub tempos: usize,
@@ -164,7 +166,7 @@ fn write(
 // ---- a change
 
 // The state, and how many entries of each list are written.
-#[derive(Drop)]
+#[derive(Clone, Copy)]
 pub struct Standing {
     pub state: State,
     pub counts: Counts,
@@ -393,7 +395,7 @@ fn walk_on(
 // ---- the opening
 
 // The tempo that opens the chart, and the place of the next one.
-#[derive(Drop)]
+#[derive(Clone, Copy)]
 pub struct Opener {
     pub tempo: f32,
     pub used: usize,
@@ -437,7 +439,7 @@ fn opening_tempo(beats: &[f32], values: &[f32]) -> Opener
 }
 
 // What the stops before 0 take off the offset, and the place of the next stop.
-#[derive(Drop)]
+#[derive(Clone, Copy)]
 pub struct Early {
     pub offset: f32,
     pub used: usize,
@@ -465,7 +467,7 @@ fn early_stops(beats: &[f32], values: &[f32]) -> Early
 // ---- the whole
 
 // The seconds that beat 0 is moved by, and how many entries of each list were written.
-#[derive(Drop)]
+#[derive(Clone, Copy)]
 pub struct Finished {
     pub offset: f32,
     pub counts: Counts,

@@ -1,4 +1,6 @@
 // SM: both raw lists as changes, and what the walk makes of them.
+#![tactic(auto)]
+
 ghost use Rattle.std.specs.Prelude.{◌≤◌, length};
 ghost use Rattle.process_raw.specs.LentLists.{two_columns, lent_three};
 ghost use Rattle.process_sm_walk.specs.Columns.{columns_before, columns_after};

@@ -1,4 +1,6 @@
 // SSC: the processing of raw tempos and stops.
+#![tactic(auto)]
+
 ghost use Rattle.std.specs.Prelude.{◌≡◌, true, map, ◌≤◌, min, leb, length};
 ghost use Rattle.limits.specs.Numbers.{every, miss};
 ghost use Rattle.rows.specs.Rows.{quantized};

@@ -1,5 +1,7 @@
 // Replays inputs of the programs report and mend, stored with the answers to them, from standard input, and holds what is written to the answer.
 // A case is a line with the lengths of input and answer, six decimal digits each, then the bytes of both and a line feed.
+#![tactic(auto)]
+
 ghost use Rattle.std.specs.Prelude.{◌≤◌};
 ghost use Rattle.io.specs.Counts.{IsPrefixLen};
 ghost use Rattle.replay_cases.specs.Replayed.{Replayed};
@@ -7,7 +9,7 @@ ghost use Rattle.replay_cases.specs.Replayed.{Replayed};
 use libc::{STDIN_FILENO, STDOUT_FILENO};
 
 // The program that cases are of.
-#[derive(Drop)]
+#[derive(Clone, Copy)]
 pub enum Program {
     Report,
     Mend,
@@ -23,7 +25,7 @@ const LINE: usize = 14;
 const ROOM: usize = 65536;
 
 // The lengths of a case's input and answer; not there where the cases have ended.
-#[derive(Drop)]
+#[derive(Clone, Copy)]
 struct Sizes {
     there: bool,
     input: usize,
@@ -31,7 +33,7 @@ struct Sizes {
 }
 
 // How many cases there are, and of how many the answer differs.
-#[derive(Drop)]
+#[derive(Clone, Copy)]
 pub struct Tally {
     pub answers: u64,
     pub different: u64,

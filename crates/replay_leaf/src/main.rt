@@ -1,5 +1,7 @@
 // Replays the original's stored answers for rounding, narrowing, rows and quantising, from standard input:
 // a line is a letter for the call, the input's bits and the answer's, in 16 hexadecimal digits each.
+#![tactic(auto)]
+
 ghost use Rattle.std.specs.Prelude.{◌≤◌};
 
 use libc::{STDIN_FILENO, STDOUT_FILENO};
@@ -9,7 +11,7 @@ const LINE: usize = 36;
 // More bytes than are stored.
 const ROOM: usize = 131072;
 
-#[derive(Drop)]
+#[derive(Clone, Copy)]
 struct Tally {
     replayed: u64,
     different: u64,

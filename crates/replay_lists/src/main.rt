@@ -1,6 +1,8 @@
 // Replays the original's stored answers for the calls that take lists, from standard input: words of 16 hexadecimal digits, one a line.
 // The first says how many cases follow. A case is the call's number, then columns, each with its length before it, and the answer.
 // A room for results has 300 places, each of which holds the same number before the call; what the call has to write is stored.
+#![tactic(auto)]
+
 ghost use Rattle.std.specs.Prelude.{◌≤◌, length};
 
 use chart::State;
@@ -27,7 +29,7 @@ const PIECE: usize = 4096 * LINE;
 const WORDS: usize = 81920;
 
 // Whether a case's call answered as stored, and where the next case begins.
-#[derive(Drop)]
+#[derive(Clone, Copy)]
 struct Replayed {
     same: bool,
     next: usize,

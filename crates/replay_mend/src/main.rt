@@ -1,4 +1,6 @@
 // Replays inputs of the program mend, stored with the answers of a plain reading.
+#![tactic(auto)]
+
 use libc::STDOUT_FILENO;
 use replay_cases::Program;
 

@@ -1,4 +1,6 @@
 // Replays inputs of the report program, stored with the original's answers.
+#![tactic(auto)]
+
 use libc::STDOUT_FILENO;
 use replay_cases::Program;
 

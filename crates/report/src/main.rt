@@ -1,6 +1,8 @@
 // The report program: raw lists of a chart on standard input, the timing lists that come of them on standard output.
 // The input is read in pieces to its end, and only then is anything written, all of it at once; an input that cannot be read to its end is
 // refused, and a write that fails ends the program.
+#![tactic(auto)]
+
 ghost use Rattle.io.specs.Counts.{IsPrefixLen};
 ghost use Rattle.report.specs.Input.{ReportOfSome};
 

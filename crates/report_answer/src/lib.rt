@@ -1,7 +1,9 @@
 // What the report program writes of what assembly left: the answer line, and behind it the lists where they were taken.
+#![tactic(auto)]
+
 ghost use Rattle.std.specs.Prelude.{◌≡◌, take};
 ghost use Rattle.io.specs.Counts.{IsPrefixLen};
-ghost use Rattle.chart.specs.ChartColumns.{lent_columns, lent_speeds, LentChart, ChartRoom, before};
+ghost use Rattle.chart.specs.ChartColumns.{ChartRoom, ChartColumns, list_columns, speed_columns};
 ghost use Rattle.text_page.specs.Page.{Wrote};
 ghost use Rattle.report_text.specs.Output.{answer_line};
 ghost use Rattle.report_answer.specs.Report.{done_text};
@@ -49,14 +51,14 @@ pub fn write_answer(
     fake_beats: &[f32],
     fake_lengths: &[f32],
 ) -> usize
-    ensures fact { let lists : LentChart = record {
-      tempos = lent_columns tempo_beats tempo_values;
-      stops = lent_columns stop_beats stop_values;
-      delays = lent_columns delay_beats delay_values;
-      warps = lent_columns warp_beats warp_lengths;
-      speeds = lent_speeds speed_beats speed_ratios speed_delays speed_units;
-      scrolls = lent_columns scroll_beats scroll_values;
-      fakes = lent_columns fake_beats fake_lengths;
+    ensures fact { let lists : ChartColumns = record {
+      tempos = list_columns tempo_beats.now tempo_values.now;
+      stops = list_columns stop_beats.now stop_values.now;
+      delays = list_columns delay_beats.now delay_values.now;
+      warps = list_columns warp_beats.now warp_lengths.now;
+      speeds = speed_columns speed_beats.now speed_ratios.now speed_delays.now speed_units.now;
+      scrolls = list_columns scroll_beats.now scroll_values.now;
+      fakes = list_columns fake_beats.now fake_lengths.now;
     } in
         let counts : ChartRoom = record {
           tempos = tempos;
@@ -67,7 +69,7 @@ pub fn write_answer(
           scrolls = scrolls;
           fakes = fakes;
         } in
-        Wrote (done_text number offset warped moved warp_marks.now counts (before lists)) 0 result page.old page.new }
+        Wrote (done_text number offset warped moved warp_marks.now counts lists) 0 result page.old page.new }
     ensures prefix_len { IsPrefixLen result page.new }
 {
     let at = report_text::put_answer(page, 0, number);

@@ -1,4 +1,6 @@
 // The report of an input that is there as a whole: bytes in, bytes out.
+#![tactic(auto)]
+
 ghost use Rattle.io.specs.Counts.{IsPrefixLen};
 ghost use Rattle.report_whole.specs.Whole.{report_of, Reported};
 

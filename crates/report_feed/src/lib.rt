@@ -1,4 +1,6 @@
 // The report program's input, fed in pieces of any size into seventeen lent columns.
+#![tactic(auto)]
+
 ghost use Rattle.std.specs.Prelude.{◌≡◌};
 ghost use Rattle.report_form.specs.Form.{read_on};
 ghost use Rattle.report_form.specs.Stores.{number_in, unit_in, count_in, column_after};

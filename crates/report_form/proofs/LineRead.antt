@@ -20,28 +20,28 @@ use Rattle.report_form.proofs.Pieces.{Reads, reads_none, reads-join, reads_byte,
 -- a byte that is no separator
 pub record Plain (byte : ℕ) : Type 0 where
   pub no_end : eqb byte 10 ≡ false
-  pub no-equals : eqb byte 61 ≡ false
-  pub no-comma : eqb byte 44 ≡ false
+  pub no_equals : eqb byte 61 ≡ false
+  pub no_comma : eqb byte 44 ≡ false
 
 digit-plain : (v : ℕ) → v < 10 → Plain (v + 48)
 digit-plain v h =
     record {
       no_end = ne_eqb (v + 48) 10 (λ (e : v + 48 ≡ 10). omega arith);
-      no-equals = ne_eqb (v + 48) 61 (λ (e : v + 48 ≡ 61). omega arith);
-      no-comma = ne_eqb (v + 48) 44 (λ (e : v + 48 ≡ 44). omega arith);
+      no_equals = ne_eqb (v + 48) 61 (λ (e : v + 48 ≡ 61). omega arith);
+      no_comma = ne_eqb (v + 48) 44 (λ (e : v + 48 ≡ 44). omega arith);
     }
 
 letter-plain : (v : ℕ) → 10 ≤ v → Plain (v + 55)
 letter-plain v h =
     record {
       no_end = ne_eqb (v + 55) 10 (λ (e : v + 55 ≡ 10). omega arith);
-      no-equals = ne_eqb (v + 55) 61 (λ (e : v + 55 ≡ 61). omega arith);
-      no-comma = ne_eqb (v + 55) 44 (λ (e : v + 55 ≡ 44). omega arith);
+      no_equals = ne_eqb (v + 55) 61 (λ (e : v + 55 ≡ 61). omega arith);
+      no_comma = ne_eqb (v + 55) 44 (λ (e : v + 55 ≡ 44). omega arith);
     }
 
 plain-store : (from to : Reading) (byte : ℕ) → Plain byte → store_of from byte to ≡ nothing
 unfolding store_of
-plain-store from to byte p = rw (p.no_end, p.no-comma) (either to.fine)
+plain-store from to byte p = rw (p.no_end, p.no_comma) (either to.fine)
   where
     either : (t : Bool) → pick t nothing nothing ≡ nothing
     either true = refl
@@ -101,7 +101,7 @@ module _ (ssc : Bool) (list part count : ℕ) (hex : (j m byte : ℕ) → charac
   unfolding step_of hex_of
   step-digit j m v hv hj hm =
       let d = digit v hv in
-      rw (d.plain.no_end, d.plain.no-equals, d.plain.no-comma, hex j m (hex_digit v), lt-ltb j 16 hj, d.value, lt-ltb v 16 hv, mod-eq_of_lt hm)
+      rw (d.plain.no_end, d.plain.no_equals, d.plain.no_comma, hex j m (hex_digit v), lt-ltb j 16 hj, d.value, lt-ltb v 16 hv, mod-eq_of_lt hm)
 
   same : {i j m n : ℕ} → i ≡ j → m ≡ n → At ssc list part count i m ≡ At ssc list part count j n
   same a b = cc
@@ -249,7 +249,7 @@ unit-read ssc count unit h =
     let p = digit-plain unit h in
     let back : unit + 48 - 48 ≡ unit = omega arith in
     reads_byte (At ssc 6 4 count 0 0) (At ssc 6 4 count 1 unit) (unit + 48)
-    (rw (p.no_end, p.no-equals, p.no-comma, le-ltb (unit + 48) 48 (omega arith), le-ltb 57 (unit + 48) (omega arith), back)) (plain-store _ _ (unit + 48) p)
+    (rw (p.no_end, p.no_equals, p.no_comma, le-ltb (unit + 48) 48 (omega arith), le-ltb 57 (unit + 48) (omega arith), back)) (plain-store _ _ (unit + 48) p)
 
 speed-end : (ssc : Bool) (count unit : ℕ) → Reads (At ssc 6 4 count 1 unit) (10 ∷ []) (Between ssc 6 (more count)) (Stored 6 4 count unit (more count) ∷ [])
 unfolding step_of ended_of entry_ended width_of last_digits_of store_of

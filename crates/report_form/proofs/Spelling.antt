@@ -57,12 +57,12 @@ test false e = let z : ◌≡◌ {A = ℕ} 0 1 = cc in absurd (omega arith)
 
 spelt-on : {word : List ℕ} {size number : ℕ} → Letters word size number → (bytes : List ℕ) → letters_in size bytes ≡ true → Letters (word ++ bytes) (size_is size bytes) (number_is number bytes)
 unfolding letters_in number_is size_is
-spelt-on {word} r [] e = rw append-nil r
-spelt-on {word} {size} r (byte ∷ bytes) e =
+spelt-on {word = word} r [] e = rw append-nil r
+spelt-on {word = word} {size = size} r (byte ∷ bytes) e =
     let low = test (leb 97 byte) e in
     let high = test (leb byte 122) low.1 in
     let few = test (ltb size 6) high.1 in
-    rw append_assoc at (spelt-on (letter r (leb-true 97 byte low.0) (leb-true byte 122 high.0) (ltb-true size 6 few.0)) bytes few.1)
+    rw append_assoc at (spelt-on {word = word ++ byte ∷ []} (letter r (leb-true 97 byte low.0) (leb-true byte 122 high.0) (ltb-true size 6 few.0)) bytes few.1)
 
 pub spelt : (word : List ℕ) → letters_in 0 word ≡ true → Letters word (size_is 0 word) (number_is 0 word)
 spelt word e = spelt-on no-letters word e

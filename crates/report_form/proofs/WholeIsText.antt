@@ -321,7 +321,7 @@ comma-read (in_format {count = count} {size = size} {number = number} r) f =
     absurd (omega arith)
 comma-read (in_number {ssc = ssc} {list = list} {part = part} {count = count} {size = size} {number = number} b o p r) f =
     let c = parted (At ssc list part count size number) f in
-    read_as refl (sym c.is) (comma-step b o p r c.digits c.more-come)
+    read_as refl (sym c.is) (comma-step b o p r c.digits c.more_come)
 comma-read (in_unit {ssc = ssc} {count = count} {size = size} {number = number} b o hb hr hw r) f =
     let all = (parted (At ssc 6 4 count size number) f).digits in
     let few = few-units r in
@@ -415,8 +415,8 @@ kind : (byte : ℕ) → Kind byte
 kind byte = first (eqb byte 10) refl
   where
     third : (t : Bool) → eqb byte 44 ≡ t → eqb byte 10 ≡ false → eqb byte 61 ≡ false → Kind byte
-    third true e no_end no-equals = subst Kind (sym (eqb-true byte 44 e)) comma
-    third false e no_end no-equals = character (record { no_end = no_end; no-equals = no-equals; no-comma = e })
+    third true e no_end no_equals = subst Kind (sym (eqb-true byte 44 e)) comma
+    third false e no_end no_equals = character (record { no_end = no_end; no_equals = no_equals; no_comma = e })
 
     second : (t : Bool) → eqb byte 61 ≡ t → eqb byte 10 ≡ false → Kind byte
     second true e no_end = subst Kind (sym (eqb-true byte 61 e)) equals
@@ -447,7 +447,7 @@ byte-read {reading = reading} byte comma r f =
     let is = fine-step reading (comma_of reading) (fine-read r) in
     read_as refl (sym is) (comma-read r (sym (ap (λ (s : Reading). s.fine) is) ∙ f))
 byte-read {reading = reading} byte (character p) r f =
-    let is : step_of reading byte ≡ character_of reading byte = rw (p.no_end, p.no-equals, p.no-comma) (fine-step reading (character_of reading byte) (fine-read r)) in
+    let is : step_of reading byte ≡ character_of reading byte = rw (p.no_end, p.no_equals, p.no_comma) (fine-step reading (character_of reading byte) (fine-read r)) in
     read_as refl (sym is) (character-read byte r (sym (ap (λ (s : Reading). s.fine) is) ∙ f))
 
 -- what is broken stays so
@@ -472,16 +472,16 @@ still-fine reading bytes f = by_case reading.fine refl
 
 bytes_read : {done : List ℕ} {reading : Reading} (bytes : List ℕ) → Read done reading → (read_on reading bytes).fine ≡ true → Read (done ++ bytes) (read_on reading bytes)
 unfolding read_on
-bytes_read {done} [] r f = read_as (sym (append-nil done)) refl r
-bytes_read {done} {reading} (byte ∷ bytes) r f =
-    read_as (append_assoc done (byte ∷ []) bytes) refl (bytes_read bytes (byte-read byte (kind byte) r (still-fine (step_of reading byte) bytes f)) f)
+bytes_read {done = done} [] r f = read_as (sym (append-nil done)) refl r
+bytes_read {done = done} {reading = reading} (byte ∷ bytes) r f =
+    read_as (append_assoc done (byte ∷ []) bytes) refl (bytes_read {done = done ++ byte ∷ []} {reading = step_of reading byte} bytes (byte-read byte (kind byte) r (still-fine (step_of reading byte) bytes f)) f)
 
 -- ---- a whole input
 record IsWhole (reading : Reading) : Type 0 where
   fine : reading.fine ≡ true
   lined : eqb reading.list 0 ≡ false
   between : reading.part ≡ 0
-  nothing-begun : reading.digits ≡ 0
+  nothing_begun : reading.digits ≡ 0
 
 is_whole : (reading : Reading) → whole reading ≡ true → IsWhole reading
 unfolding whole
@@ -491,7 +491,7 @@ is_whole reading w =
     let between = left (ltb 0 reading.part) lined.1 in
     let no_part = between.0 in
     let no_digit = between.1 in
-    record { fine = fine.0; lined = lined.0; between = omega (arith, ltb-false); nothing-begun = omega (arith, eqb-true, leb-true) }
+    record { fine = fine.0; lined = lined.0; between = omega (arith, ltb-false); nothing_begun = omega (arith, eqb-true, leb-true) }
   where
     left : (t : Bool) {u : Bool} → pick t false u ≡ true → (t ≡ false) × (u ≡ true)
     left false e = (refl, e)
@@ -500,7 +500,7 @@ is_whole reading w =
 text_of : {bytes : List ℕ} {reading : Reading} → Read bytes reading → IsWhole reading → TextOf bytes
 text_of (in_word no_line r) w = let z : ◌≡◌ {A = ℕ} 0 1 = cc w.lined in absurd (omega arith)
 text_of (in_word (lines ssc entries o) no-letters) w = record { ssc = ssc; entries = entries; orderly = o; is = append-nil (text ssc entries) }
-text_of (in_word (lines ssc entries o) (letter r low high few)) w = absurd (omega (arith, w.nothing-begun))
+text_of (in_word (lines ssc entries o) (letter r low high few)) w = absurd (omega (arith, w.nothing_begun))
 text_of (in_format r) w = absurd (omega (arith, w.between))
 text_of (in_number b o p r) w = absurd (omega (arith, w.between, part-later p))
 text_of (in_unit b o hb hr hw r) w = absurd (omega (arith, w.between))

@@ -1,4 +1,6 @@
 // The report program's input as an automaton: one step a byte over a small state, and what each byte completes.
+#![tactic(auto)]
+
 ghost use Rattle.std.specs.Prelude.{◌≡◌, ◌<◌, take};
 ghost use Rattle.report_form.specs.Form.{start, broken, grown, letter_of, hex_of, unit_read, character_of, list_named, follows, opened, named_of};
 ghost use Rattle.report_form.specs.Form.{width_of, last_digits_of, comma_of, more, closed, format_ended, entry_ended, ended_of, step_of, whole, over, answer_of};
@@ -7,7 +9,7 @@ ghost use Rattle.report_form.specs.ReadColumns.{entries_counted};
 
 // How far the input is read: whether it is of the form so far, its format, the list of the last line, the part of the line that is being
 // read (0: the word before the equals sign), that part's characters and what they make, and how many entries of the list stand before.
-#[derive(Drop)]
+#[derive(Clone, Copy)]
 pub struct Reading {
     pub fine: bool,
     pub ssc: bool,
@@ -19,7 +21,7 @@ pub struct Reading {
 }
 
 // A number that a byte completes: its column (list and part), its place there, and the entries that the list has then. List 0: none.
-#[derive(Drop)]
+#[derive(Clone, Copy)]
 pub struct Store {
     pub list: u64,
     pub part: u64,

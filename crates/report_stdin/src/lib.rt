@@ -1,4 +1,6 @@
 // The report program's input, read from standard input in pieces to its end.
+#![tactic(auto)]
+
 ghost use Rattle.std.specs.Prelude.{◌≡◌, false};
 ghost use Rattle.chart.specs.ChartColumns.{lent_columns, lent_speeds, LentChart, before, after};
 ghost use Rattle.report_form.specs.Form.{start, step_of, whole};
@@ -12,7 +14,7 @@ use report_form::Reading;
 const PIECE: usize = 4096;
 
 // How far the input is read after a piece, and whether another may come.
-#[derive(Drop)]
+#[derive(Clone, Copy)]
 struct Piece {
     more: bool,
     reading: Reading,

@@ -1,4 +1,6 @@
 // What the report program writes, laid on a lent page from a place on. Each call answers the place behind what it wrote; a full page takes no more.
+#![tactic(auto)]
+
 ghost use Rattle.std.specs.Prelude.{◌≡◌, ◌∷◌, [], ◌++◌, take};
 ghost use Rattle.std.specs.Float.Ieee.{to_bits};
 ghost use Rattle.std.specs.Float.{binary32};

@@ -1,8 +1,10 @@
 // The whole report of what was read of an input: its own number, or the answer to its lists.
+#![tactic(auto)]
+
 ghost use Rattle.std.specs.Prelude.{◌≡◌, take};
 ghost use Rattle.io.specs.Counts.{IsPrefixLen};
 ghost use Rattle.order.specs.Entries.{entries};
-ghost use Rattle.chart.specs.ChartColumns.{lent_columns, lent_speeds, LentChart, before};
+ghost use Rattle.chart.specs.ChartColumns.{ChartColumns, list_columns, speed_columns};
 ghost use Rattle.lookup_warped.specs.OnePass.{one_pass};
 ghost use Rattle.report_whole.specs.Whole.{format_read, report_text, Reported};
 
@@ -58,16 +60,16 @@ pub fn write_report(
     fake_beats: &[f64],
     fake_lengths: &[f64],
 ) -> usize
-    ensures fact { let lists : LentChart = record {
-      tempos = lent_columns tempo_beats tempo_values;
-      stops = lent_columns stop_beats stop_values;
-      delays = lent_columns delay_beats delay_values;
-      warps = lent_columns warp_beats warp_lengths;
-      speeds = lent_speeds speed_beats speed_ratios speed_delays speed_units;
-      scrolls = lent_columns scroll_beats scroll_values;
-      fakes = lent_columns fake_beats fake_lengths;
+    ensures fact { let lists : ChartColumns = record {
+      tempos = list_columns tempo_beats.now tempo_values.now;
+      stops = list_columns stop_beats.now stop_values.now;
+      delays = list_columns delay_beats.now delay_values.now;
+      warps = list_columns warp_beats.now warp_lengths.now;
+      speeds = speed_columns speed_beats.now speed_ratios.now speed_delays.now speed_units.now;
+      scrolls = list_columns scroll_beats.now scroll_values.now;
+      fakes = list_columns fake_beats.now fake_lengths.now;
     } in
-        Reported (report_text reading counts.now (before lists)) result page.old page.new }
+        Reported (report_text reading counts.now lists) result page.old page.new }
     ensures prefix_len { IsPrefixLen result page.new }
 {
     let number = report_form::answer(reading, counts);

@@ -90,7 +90,7 @@ module _ (f : Format) (n : ℕ) (N : 0 < n) (h : n ≤ 2 ^ prec f) where
         let scaled = near-scaled p (y * 48) (n * one) (2 ^ low f) close.near in
         let a : y * 48 * 2 ^ low f ≡ y * 2 ^ low f * 3 * 16 = omega arith in
         let b : n * one * 2 ^ low f ≡ parts * unit * 16 = mul_right_comm n one (2 ^ low f) ∙ ap (λ (x : ℕ). x * one) in_thirds ∙ omega arith in
-        thirds parts (closest parts 3) unit (y * 2 ^ low f) (2 ^ prec f) (mul-pos close.one-pos (pow_pos cut)) few-thirds (closest_nearest parts 3 (zero-lt-suc 2))
+        thirds parts (closest parts 3) unit (y * 2 ^ low f) (2 ^ prec f) (mul-pos close.one_pos (pow_pos cut)) few-thirds (closest_nearest parts 3 (zero-lt-suc 2))
         (by_sixteen p (y * 2 ^ low f * 3) (parts * unit) (subst (λ (x : ℕ). Near p x (parts * unit * 16)) a (subst (λ (x : ℕ). Near p (y * 48 * 2 ^ low f) x) b scaled)))
       where
         by_sixteen : (p x z : ℕ) → Near p (x * 16) (z * 16) → Near p x z
@@ -101,13 +101,13 @@ module _ (f : Format) (n : ℕ) (N : 0 < n) (h : n ≤ 2 ^ prec f) where
         let t = two f in
         let i : suc (prec f - 1 + cut) ≡ prec f + cut = omega arith in
         let top : 2 ^ prec f * (one * 2 ^ cut) ≡ 2 ^ suc (prec f - 1 + cut) * one = let p = pow-add 2 (prec f) cut in ap (λ (x : ℕ). 2 ^ prec f * x) (mul_comm one (2 ^ cut)) ∙ sym (mul_assoc (2 ^ prec f) (2 ^ cut) one) ∙ ap (λ (x : ℕ). x * one) (sym p ∙ ap (λ (x : ℕ). 2 ^ x) (sym i)) in
-        let z = size_quot (y * 2 ^ low f) one (prec f - 1 + cut) close.one-pos (close.reaches cut at_least) (lt_of_lt_of_le nearest-kept.1 (le_of_eq top)) in
+        let z = size_quot (y * 2 ^ low f) one (prec f - 1 + cut) close.one_pos (close.reaches cut at_least) (lt_of_lt_of_le nearest-kept.1 (le_of_eq top)) in
         ap (λ (x : ℕ). x - prec f) (z ∙ i) ∙ omega arith
 
     same_kept : held f y one ≡ held f n 48
     same_kept =
         ap (λ (x : ℕ). closest (y * 2 ^ low f) (one * 2 ^ x)) same_drop
-        ∙ closest_is (y * 2 ^ low f) (one * 2 ^ cut) (closest parts 3) (mul-pos close.one-pos (pow_pos cut)) nearest-kept.0
+        ∙ closest_is (y * 2 ^ low f) (one * 2 ^ cut) (closest parts 3) (mul-pos close.one_pos (pow_pos cut)) nearest-kept.0
         ∙ sym kept-thirds
 
     pub close-round : (s : Bool) → round f s y one ≡ round f s n 48

@@ -1,4 +1,6 @@
 // Warps and delays as the stops of an SM chart.
+#![tactic(auto)]
+
 ghost use Rattle.std.specs.Prelude.{◌≡◌, ◌+◌, ◌*◌, ◌/◌, ◌%◌, ◌^◌, ◌<◌, ◌≤◌, true, false, ◌++◌, length, get_or, take, ◌==◌, nat_le, nat_lt, slice_index_or, slice_set};
 ghost use Rattle.std.specs.Float.{nan, inf};
 ghost use Rattle.std.specs.Float.Ieee.{ne, lt};
@@ -16,7 +18,7 @@ use limits::Kind;
 
 // What filling the work list answers: the refusal number, the entries written, and whether the caller's own stops are the answer.
 #[repr(C)]
-#[derive(Drop)]
+#[derive(Clone, Copy)]
 pub struct Filled {
     pub number: u32,
     pub count: usize,
@@ -65,7 +67,7 @@ fn are_over(delay_head: f32, warp_head: f32) -> bool
 }
 
 // A list's next place and the beat there, after a turn, and the sum with what the list has on the turn's beat.
-#[derive(Drop)]
+#[derive(Clone, Copy)]
 struct Passed {
     place: usize,
     head: f32,
@@ -134,7 +136,7 @@ fn tempo_up_to(tempo_beats: &[f32], place: usize, beat: f32) -> usize
 }
 
 // The tempo in force: its place, the beat of the next one, and how long a beat lasts.
-#[derive(Drop)]
+#[derive(Clone, Copy)]
 struct Pace {
     tempo: usize,
     next: f32,
@@ -169,7 +171,7 @@ fn pace_up_to(
 }
 
 // The same of warps as of delays, and the tempo in force.
-#[derive(Drop)]
+#[derive(Clone, Copy)]
 struct Warped {
     tempo: usize,
     next: f32,

@@ -1,4 +1,6 @@
 // The text of an f32 with six decimals, laid on a lent page from a place on. Each call answers the place behind what it wrote; a full page takes no more.
+#![tactic(auto)]
+
 ghost use Rattle.std.specs.Prelude.{◌≡◌, ◌+◌, ◌*◌, ◌/◌, ◌%◌, ◌^◌, ◌<◌, ◌≤◌, leb};
 ghost use Rattle.std.specs.Float.{binary32};
 ghost use Rattle.std.specs.Float.Ieee.Nearest.{closest};
@@ -51,7 +53,7 @@ fn put_millionths(page: &mut [u8], at: usize, n: u64) -> usize
 const PART: u64 = 1000000000000000000;
 
 // A number of up to 39 digits.
-#[derive(Drop)]
+#[derive(Clone, Copy)]
 struct Parts {
     low: u64,
     middle: u64,

@@ -1,4 +1,6 @@
 // Bytes laid on a lent page from a place on. Each call answers the place behind what it wrote; a full page takes no more.
+#![tactic(auto)]
+
 ghost use Rattle.std.specs.Prelude.{◌∷◌, []};
 ghost use Rattle.text_page.specs.Page.{Wrote};
 ghost use Rattle.text_page.specs.Digits.{decimal_text};

@@ -1,4 +1,6 @@
 // The tempo list as text, beat=tempo with commas between, over the front of a lent page.
+#![tactic(auto)]
+
 ghost use Rattle.std.specs.Prelude.{◌≡◌, ◌≤◌, map, ◌++◌, leb, length};
 ghost use Rattle.ieee.specs.Narrowing.{narrow};
 ghost use Rattle.limits.specs.Table.{most_entries};

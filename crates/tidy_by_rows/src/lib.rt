@@ -1,4 +1,6 @@
 // Beats by their rows: whether rows never fall or rise, the place after a row, and allowed beats moved to their rows.
+#![tactic(auto)]
+
 ghost use Rattle.std.specs.Prelude.{◌≡◌, true, false, T, Float};
 ghost use Rattle.std.specs.Float.{nan};
 ghost use Rattle.picks.specs.Pick.{pick};

@@ -76,9 +76,9 @@ module _ {A C : Type 0} where
   entries_spliced_in n low high comes x y a c same room h k =
       let room-c : n < length c = omega arith in
       let room-e : n < length (entries a c) = omega (arith, length-entries a c same) in
-      let some-a : length (take n a) ≡ n = length-take-le n a (omega arith) in
+      let some_a : length (take n a) ≡ n = length-take-le n a (omega arith) in
       let some-c : length (take n c) ≡ n = length-take-le n c (omega arith) in
-      let even : length (take n a) ≡ length (take n c) = some-a ∙ sym some-c in
+      let even : length (take n a) ≡ length (take n c) = some_a ∙ sym some-c in
       let size : length (spliced low high comes x (take n a)) ≡ length (spliced low high comes y (take n c)) =
       length-spliced low high comes x (take n a) h (omega arith) ∙ ap (λ (m : ℕ). count_by m low high comes) even ∙ sym (length-spliced low high comes y (take n c) h (omega arith)) in
       rw (lt-ltb n (length a) room, lt-ltb n (length c) room-c, lt-ltb n (length (entries a c)) room-e, le-leb high n k, le-leb low high h)

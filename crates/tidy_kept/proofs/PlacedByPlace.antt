@@ -58,6 +58,7 @@ module _ {B W : Type 0} (row : B → ℕ) (near : W → W → Bool) where
   pub walked : (e : B × W) (front l : List (B × W)) (at : ℕ) → Reaches (row e.0) at l → placed_after row near e front l ≡ placed_between row near e (reverse_aux (take at l) front) (drop at l)
   unfolding placed_after
   walked e front [] zero r = refl
+  walked e front [] (suc at) r = elim r [ ]
   walked e front (x ∷ l) zero r = rw (lt-leb (row x.0) (row e.0) r)
   walked e front (x ∷ l) (suc at) r = rw (le-leb (row x.0) (row e.0) r.0) (walked e (x ∷ front) l at r.1)
 

@@ -1,4 +1,6 @@
 // What the tidying of scrolls and that of speeds share: nearness, and the change that an entry makes in the kept list.
+#![tactic(auto)]
+
 ghost use Rattle.std.specs.Prelude.{◌≡◌, ◌-◌, ◌≤◌, Float};
 ghost use Rattle.picks.specs.Pick.{pick};
 ghost use Rattle.limits.specs.Numbers.{miss};
@@ -36,7 +38,7 @@ pub fn all_apart(values: &[f64]) -> bool
 
 // The places from low up to high go. Where something comes in their place it has the entry's beat, and the entry's value or, where the next one moves, that one's.
 // Whether the kept list falls then.
-#[derive(Drop)]
+#[derive(Clone, Copy)]
 pub struct Change {
     pub low: usize,
     pub high: usize,

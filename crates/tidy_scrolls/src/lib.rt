@@ -1,4 +1,6 @@
 // Scroll tidying: entries in order are kept in one pass; others are placed one by one.
+#![tactic(auto)]
+
 ghost use Rattle.std.specs.Prelude.{◌≡◌, true, false, map, ◌-◌, ◌≤◌, ◌<◌, min, ltb, leb, length, take, get_or};
 ghost use Rattle.std.specs.Float.{nan};
 ghost use Rattle.picks.specs.Pick.{pick};
@@ -24,7 +26,7 @@ use tidy_kept::Change;
 // ---- entries in order: no working memory
 
 // The value written last, and the entry that waits to be written, if one does.
-#[derive(Drop)]
+#[derive(Clone, Copy)]
 struct Held {
     before: f64,
     waits: bool,
@@ -254,7 +256,7 @@ fn value_of(values: &[f64], change: Change, value: f64) -> f64
 }
 
 // How many are kept, and whether they fall somewhere.
-#[derive(Drop)]
+#[derive(Clone, Copy)]
 struct Placed {
     count: usize,
     falls: bool,

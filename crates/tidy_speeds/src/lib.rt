@@ -1,8 +1,10 @@
 // Speed tidying: entries in order are kept in one pass; others are placed one by one.
+#![tactic(auto)]
+
 ghost use Rattle.std.specs.Prelude.{◌≡◌, true, map, ◌≤◌, length};
 ghost use Rattle.limits.specs.Neighbours.{every_two};
 ghost use Rattle.tidy_by_rows.specs.ByMarks.{row_rises};
-ghost use Rattle.chart.specs.ChartColumns.{lent_speeds, speeds_before, speeds_after};
+ghost use Rattle.chart.specs.ChartColumns.{lent_speeds, speeds_before, speeds_after, speed_columns};
 ghost use Rattle.tidy_speeds_entries.specs.Speed.{speeds_in, speed_on_row};
 ghost use Rattle.tidy_speeds_entries.specs.LaidSpeeds.{least_of};
 ghost use Rattle.tidy_speeds_entries.specs.inside.LaidRooms.{LaidOver};
@@ -72,7 +74,7 @@ fn lay_columns(
 )
     requires columns_apart { ColumnsApart beats.now ratios.now delays.now units.now }
     requires beats_len_bound { length beats.now ≤ least_of (length out_beats.old) (length out_ratios.old) (length out_delays.old) (length out_units.old) }
-    ensures { let speeds = speeds_before (lent_speeds beats ratios delays units) in
+    ensures { let speeds = speed_columns beats.now ratios.now delays.now units.now in
         let rooms = lent_speeds out_beats out_ratios out_delays out_units in
         LaidOver (map speed_on_row (speeds_in speeds)) (speeds_before rooms) (speeds_after rooms) }
 {
@@ -93,7 +95,7 @@ fn tidy_rising(
     out_units: &mut [u8],
 ) -> Outcome
     requires { (speed_list_number beats.now ratios.now delays.now units.now ≡ 0) × (every_two row_rises beats.now ≡ true) }
-    ensures { let speeds = speeds_before (lent_speeds beats ratios delays units) in
+    ensures { let speeds = speed_columns beats.now ratios.now delays.now units.now in
         let rooms = lent_speeds out_beats out_ratios out_delays out_units in
         TidiesSpeeds speeds result (speeds_before rooms) (speeds_after rooms) }
 {
@@ -133,7 +135,7 @@ pub fn tidy_speed_segments(
     out_delays: &mut [f64],
     out_units: &mut [u8],
 ) -> Outcome
-    ensures { let speeds = speeds_before (lent_speeds beats ratios delays units) in
+    ensures { let speeds = speed_columns beats.now ratios.now delays.now units.now in
         let rooms = lent_speeds out_beats out_ratios out_delays out_units in
         TidiesSpeeds speeds result (speeds_before rooms) (speeds_after rooms) }
 {

@@ -1,10 +1,12 @@
 // What both ways of speed tidying share: a speed, nearness of speeds, and the room of four columns.
+#![tactic(auto)]
+
 ghost use Rattle.std.specs.Prelude.{◌≡◌};
 ghost use Rattle.tidy_speeds_entries.specs.Speed.{speed_value_of, near_speed};
 ghost use Rattle.tidy_speeds_entries.specs.LaidSpeeds.{least_of};
 
 // What holds from a beat on. Unit 0: the delay is in beats; 1: in seconds.
-#[derive(Drop)]
+#[derive(Clone, Copy)]
 pub struct Speed {
     pub ratio: f64,
     pub delay: f64,

@@ -1,9 +1,11 @@
 // Speeds in order: kept in one pass, without working memory.
+#![tactic(auto)]
+
 ghost use Rattle.std.specs.Prelude.{◌≡◌, false, map, ◌≤◌, ◌<◌, ltb, leb, length, get_or, set};
 ghost use Rattle.std.specs.Float.{nan};
 ghost use Rattle.picks.specs.Pick.{pick};
 ghost use Rattle.rows.specs.RowKey.{row_key_at, beat_on_row};
-ghost use Rattle.chart.specs.ChartColumns.{lent_speeds, speeds_before, speeds_after};
+ghost use Rattle.chart.specs.ChartColumns.{lent_speeds, speeds_before, speeds_after, speed_columns};
 ghost use Rattle.tidy_kept.specs.Passing.{comes, entry_passed};
 ghost use Rattle.tidy_speeds_entries.specs.Speed.{speed_value_of, near_speed, no_speed, speed_entries, speeds_in, speed_on_row};
 ghost use Rattle.tidy_speeds_entries.specs.LaidSpeeds.{least_of};
@@ -15,7 +17,7 @@ use columns::Outcome;
 use tidy_speeds_entries::Speed;
 
 // The speed written last, and the entry that waits to be written, if one does.
-#[derive(Drop)]
+#[derive(Clone, Copy)]
 struct Held {
     before: Speed,
     waits: bool,
@@ -175,7 +177,7 @@ fn lay_kept(
     requires kept_bound { let kept = kept_speeds (speed_entries beats.now ratios.now delays.now units.now) in
         length kept ≤ least_of (length out_beats.old) (length out_ratios.old) (length out_delays.old) (length out_units.old) }
     ensures value { result ≡ length (kept_speeds (speed_entries beats.now ratios.now delays.now units.now)) }
-    ensures fact { let speeds = speeds_before (lent_speeds beats ratios delays units) in
+    ensures fact { let speeds = speed_columns beats.now ratios.now delays.now units.now in
         let rooms = lent_speeds out_beats out_ratios out_delays out_units in
         LaidOver (map speed_on_row (kept_speeds (speeds_in speeds))) (speeds_before rooms) (speeds_after rooms) }
 {
@@ -230,7 +232,7 @@ pub fn tidy_ordered_untested(
     out_delays: &mut [f64],
     out_units: &mut [u8],
 ) -> Outcome
-    ensures { let speeds = speeds_before (lent_speeds beats ratios delays units) in
+    ensures { let speeds = speed_columns beats.now ratios.now delays.now units.now in
         let rooms = lent_speeds out_beats out_ratios out_delays out_units in
         OrderedTidied speeds result (speeds_before rooms) (speeds_after rooms) }
 {

@@ -1,10 +1,12 @@
 // Speeds in no order: placed one by one in four working columns.
+#![tactic(auto)]
+
 ghost use Rattle.std.specs.Prelude.{◌≡◌, true, false, map, ◌-◌, ◌≤◌, ◌<◌, ltb, length, take, get_or};
 ghost use Rattle.std.specs.Float.{nan};
 ghost use Rattle.picks.specs.Pick.{pick};
 ghost use Rattle.order.specs.Order.{never_falls};
 ghost use Rattle.rows.specs.RowKey.{row_key_at};
-ghost use Rattle.chart.specs.ChartColumns.{lent_speeds, speeds_before, speeds_after};
+ghost use Rattle.chart.specs.ChartColumns.{lent_speeds, speeds_before, speeds_after, speed_columns};
 ghost use Rattle.tidy_kept.specs.inside.Changed.{count_by, Changed};
 ghost use Rattle.tidy_kept.specs.inside.Placing.{PlacedOne, PlacedAll};
 ghost use Rattle.tidy_speeds_entries.specs.Speed.{speed_value_of, near_speed, no_speed, speed_values, speed_entries, speed_on_row};
@@ -96,7 +98,7 @@ fn speed_of(ratios: &[f64], delays: &[f64], units: &[u8], change: Change, value:
 }
 
 // How many are kept, and whether they fall somewhere.
-#[derive(Drop)]
+#[derive(Clone, Copy)]
 struct Placed {
     count: usize,
     falls: bool,
@@ -288,7 +290,7 @@ fn tidy_in(
 ) -> Outcome
     requires n_bound { (n ≤ 1024) × (n ≡ least_of (length beats.now) (length ratios.now) (length delays.now) (length units.now)) }
     requires kept_beats_len { (length kept_beats.old ≡ 1024) × (length kept_ratios.old ≡ 1024) × (length kept_delays.old ≡ 1024) × (length kept_units.old ≡ 1024) }
-    ensures { let speeds = speeds_before (lent_speeds beats ratios delays units) in
+    ensures { let speeds = speed_columns beats.now ratios.now delays.now units.now in
         let rooms = lent_speeds out_beats out_ratios out_delays out_units in
         PlacedTidied speeds result (speeds_before rooms) (speeds_after rooms) }
 {
@@ -345,7 +347,7 @@ pub fn tidy_placed_untested(
     out_delays: &mut [f64],
     out_units: &mut [u8],
 ) -> Outcome
-    ensures { let speeds = speeds_before (lent_speeds beats ratios delays units) in
+    ensures { let speeds = speed_columns beats.now ratios.now delays.now units.now in
         let rooms = lent_speeds out_beats out_ratios out_delays out_units in
         PlacedTidied speeds result (speeds_before rooms) (speeds_after rooms) }
 {

@@ -1,4 +1,6 @@
 // A column with a part replaced: of numbers, and of a speed's units.
+#![tactic(auto)]
+
 ghost use Rattle.std.specs.Prelude.{◌≡◌, ◌∷◌, ◌++◌, ◌≤◌, ◌<◌, length, take, drop};
 ghost use Rattle.order.specs.Order.{laid};
 ghost use Rattle.tidy_kept.specs.Changing.{spliced_in};

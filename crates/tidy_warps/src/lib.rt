@@ -1,4 +1,6 @@
 // Warps with their marks, which say where each came from: tidied by row, each row with the length and the mark of the warp that came last for it.
+#![tactic(auto)]
+
 ghost use Rattle.std.specs.Prelude.{◌≡◌, map, length};
 ghost use Rattle.order.specs.Entries.{places};
 ghost use Rattle.columns.specs.Each.{laid_each};

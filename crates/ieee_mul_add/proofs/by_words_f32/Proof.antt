@@ -16,12 +16,12 @@ numbers : (t : tie.Then3) → AllFinite (start t).args.a (start t).args.b (start
 unfolding of_bits
 numbers t =
     record {
-      fits-x = fits_widens (start t).args.a (subst T (sym (start t).well-formed.0.1) tt);
+      fits_x = fits_widens (start t).args.a (subst T (sym (start t).well-formed.0.1) tt);
       fits_y = fits_widens (start t).args.b (subst T (sym (start t).well-formed.1.0.1) tt);
-      fits-z = fits_widens (start t).args.c (subst T (sym (start t).well-formed.1.1.0.1) tt);
-      finite-x = finite_of_test binary32 (start t).args.a t.before.before.if1.true;
+      fits_z = fits_widens (start t).args.c (subst T (sym (start t).well-formed.1.1.0.1) tt);
+      finite_x = finite_of_test binary32 (start t).args.a t.before.before.if1.true;
       finite_y = finite_of_test binary32 (start t).args.b t.before.if2.true;
-      finite-z = finite_of_test binary32 (start t).args.c t.if3.true;
+      finite_z = finite_of_test binary32 (start t).args.c t.if3.true;
     }
 
 number-a : (t : tie.Then3) → T (not (is_nan (start t).args.a))
@@ -37,7 +37,7 @@ unfolding of_bits
 number-c t = number_of_test binary32 (start t).args.c t.if3.true
 
 float-to-float-x : tie.Need-float-to-float-x
-float-to-float-x c = let t = c.before in and_i (fits binary64 (start t).args.a) (not (is_nan (start t).args.a)) (numbers t).fits-x (number-a t)
+float-to-float-x c = let t = c.before in and_i (fits binary64 (start t).args.a) (not (is_nan (start t).args.a)) (numbers t).fits_x (number-a t)
 
 float-to-bits-x : tie.Need-float-to-bits-x
 float-to-bits-x c = number-a c.before
@@ -61,7 +61,7 @@ returns-2 : tie.Need-returns-2
 returns-2 c = let t = c.before.before.before.before.before.before in zero-second binary32 (start t).args.a (start t).args.b (start t).args.c (numbers t) c.before.digits2.result c.before.digits2.ensures c.if5.true
 
 float-to-float-finite-f32 : tie.Need-float-to-float-finite-f32
-float-to-float-finite-f32 c = let t = c.before.before.before.before.before.before.before in and_i (fits binary64 (start t).args.c) (not (is_nan (start t).args.c)) (numbers t).fits-z (number-c t)
+float-to-float-finite-f32 c = let t = c.before.before.before.before.before.before.before in and_i (fits binary64 (start t).args.c) (not (is_nan (start t).args.c)) (numbers t).fits_z (number-c t)
 
 float-to-bits-finite-f32 : tie.Need-float-to-bits-finite-f32
 float-to-bits-finite-f32 c = number-c c.before.before.before.before.before.before.before

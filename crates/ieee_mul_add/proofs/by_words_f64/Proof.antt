@@ -15,12 +15,12 @@ numbers : (t : tie.Then3) → AllFinite (start t).args.a (start t).args.b (start
 unfolding of_bits
 numbers t =
     record {
-      fits-x = subst T (sym (start t).well-formed.0.1) tt;
+      fits_x = subst T (sym (start t).well-formed.0.1) tt;
       fits_y = subst T (sym (start t).well-formed.1.0.1) tt;
-      fits-z = subst T (sym (start t).well-formed.1.1.0.1) tt;
-      finite-x = finite_of_test binary64 (start t).args.a t.before.before.if1.true;
+      fits_z = subst T (sym (start t).well-formed.1.1.0.1) tt;
+      finite_x = finite_of_test binary64 (start t).args.a t.before.before.if1.true;
       finite_y = finite_of_test binary64 (start t).args.b t.before.if2.true;
-      finite-z = finite_of_test binary64 (start t).args.c t.if3.true;
+      finite_z = finite_of_test binary64 (start t).args.c t.if3.true;
     }
 
 number-a : (t : tie.Then3) → T (not (is_nan (start t).args.a))

@@ -34,7 +34,7 @@ returns c =
     rounded-one binary32 2083 c.before.pick.result (two_words q.result.high q.result.low) q.result.exponent c.rounded-f32.result (mul_add binary32 (of_bits binary64 s.args.a) (of_bits binary64 s.args.b) (of_bits binary64 s.args.c)) c.rounded-f32.ensures
     (subst (λ (i : Bool). RoundedFrom binary32 2083 i (two_words q.result.high q.result.low) q.result.exponent (mul_add binary32 (of_bits binary64 s.args.a) (of_bits binary64 s.args.b) (of_bits binary64 s.args.c)))
     (sym (c.before.pick.ensures ∙ ap (λ (i : Bool). cond q.result.second (leb 9223372036854775808 s.args.c) i) u.ensures))
-    (rounded_from_cut s.args.a s.args.b s.args.c s.requires.finite-a s.requires.finite-b s.requires.finite-c s.requires.some-a s.requires.some-b binary32 2083 (omega arith) (omega arith) refl (two_words q.result.high q.result.low) q.result.exponent q.result.second
+    (rounded_from_cut s.args.a s.args.b s.args.c s.requires.finite_a s.requires.finite_b s.requires.finite_c s.requires.some_a s.requires.some_b binary32 2083 (omega arith) (omega arith) refl (two_words q.result.high q.result.low) q.result.exponent q.result.second
     (subst (λ (i : Bool). Summed (beq i (leb 9223372036854775808 s.args.c)) (product_of (digits_of binary64 s.args.a) (digits_of binary64 s.args.b)) (power_of binary64 s.args.a + power_of binary64 s.args.b + 64) (addend_of (digits_of binary64 s.args.c)) (power_of binary64 s.args.c + 1085) (two_words q.result.high q.result.low) q.result.exponent q.result.second) u.ensures q.ensures)))
 
 pub finite-f32-spec : {M : Type 1} → statement M

@@ -34,7 +34,7 @@ sub-shift : tie.Need-overflow-sub-shift
 sub-shift c = search rules
 
 sub-cut : tie.Need-overflow-sub-cut
-sub-cut c = (shift c.before).two-more
+sub-cut c = (shift c.before).two_more
 
 cut-requires : tie.Need-cut-requires
 cut-requires c κs = search rules
