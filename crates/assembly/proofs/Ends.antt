@@ -121,7 +121,7 @@ module _ (delay : ListColumns) (speed : SpeedColumns) (scroll fake : ListColumns
           fit-number Values delay.beats delay.values delay_room taken.delays,
           fit-number Lengths fake.beats fake.values fake_room taken.fakes,
           speeds.later-taken speed taken.speeds speed_room,
-          scrolls.later_taken scroll.beats scroll.values taken.scrolls scroll_room,
+          scrolls.later-taken scroll.beats scroll.values taken.scrolls scroll_room,
         )
 
     pub record OthersFit : Type 0 where

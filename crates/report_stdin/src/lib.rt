@@ -1,14 +1,14 @@
 // The report program's input, read from standard input in pieces to its end.
 #![tactic(auto)]
 
-ghost use Rattle.std.specs.Prelude.{◌≡◌, false};
+ghost use Rattle.std.specs.Prelude.{◌≡◌, ◌<◌, ◌^◌, false, IfOk};
 ghost use Rattle.chart.specs.ChartColumns.{lent_columns, lent_speeds, LentChart, before, after};
 ghost use Rattle.report_form.specs.Form.{start, step_of, whole};
 ghost use Rattle.report_stdin.specs.Fed.{Fed};
 ghost use Rattle.report_stdin.specs.Answers.{more_comes, after_answer};
 
-use libc::{STDERR_FILENO, STDIN_FILENO};
 use report_form::Reading;
+use std::io::{Print, Read};
 
 // The bytes that are read at once.
 const PIECE: usize = 4096;
@@ -21,26 +21,25 @@ struct Piece {
 }
 
 // An input that was not read to its end is none of the form, however far it was read: it counts as fed a byte that no form has.
-fn cut_short(reading: Reading) -> Reading
+fn cut_short(rt: &HostRuntime, reading: Reading) -> Reading
     ensures value { result ≡ step_of reading 0 }
     ensures result_value { whole result ≡ false }
 {
-    io::write_all(
-        STDERR_FILENO,
-        b"standard input was not read to its end: a read failed\n",
-    );
+    let _ = rt
+        .stderr()
+        .write_all(b"standard input was not read to its end: a read failed\n");
     report_form::step(reading, 0)
 }
 
 // What a read's answer says of the input: above 0 there may be more of it, 0 is its end, and below 0 the read failed.
-fn answered(got: isize, reading: Reading) -> Piece
+fn answered(rt: &HostRuntime, got: isize, reading: Reading) -> Piece
     ensures more_value { result.more ≡ more_comes got }
     ensures reading_value { result.reading ≡ after_answer got reading }
 {
     if got < 0 {
         return Piece {
             more: false,
-            reading: cut_short(reading),
+            reading: cut_short(rt, reading),
         };
     }
     Piece {
@@ -49,12 +48,22 @@ fn answered(got: isize, reading: Reading) -> Piece
     }
 }
 
-// A piece of the input, of no more bytes than are left: what the read answered.
-fn read_piece(piece: &mut [u8], left: usize) -> isize {
-    if left < piece.len() {
-        return libc::read(STDIN_FILENO, &mut piece[..left]);
+// What a read answered as one number: how many bytes it handed over, or below 0 where it failed.
+fn as_number(got: std::io::Result<usize>) -> isize
+    requires { IfOk got (λ n. n < 2 ^ 63) }
+{
+    match got {
+        Ok(count) => count as isize,
+        Err(_) => -1,
     }
-    libc::read(STDIN_FILENO, piece)
+}
+
+// A piece of the input, of no more bytes than are left: what the read answered.
+fn read_piece(rt: &HostRuntime, piece: &mut [u8], left: usize) -> isize {
+    if left < piece.len() {
+        return as_number(rt.stdin().read(&mut piece[..left]));
+    }
+    as_number(rt.stdin().read(piece))
 }
 
 fn less(left: usize, count: usize) -> usize {
@@ -67,6 +76,7 @@ fn less(left: usize, count: usize) -> usize {
 // All of standard input, or as many bytes of it as `most`, fed from the first on, and a byte that no form has where a read failed. A proved loop
 // has to end, and nothing says that the input does: the turns are counted down from a number that no run uses up.
 pub fn read_all(
+    rt: &HostRuntime,
     counts: &mut [u64],
     tempo_beats: &mut [f64],
     tempo_values: &mut [f64],
@@ -102,7 +112,7 @@ pub fn read_all(
     let mut turns = u64::MAX;
     while turns > 0 {
         let mut piece = [0u8; PIECE];
-        let got = read_piece(&mut piece, left);
+        let got = read_piece(rt, &mut piece, left);
         let count = io::count(got, &piece);
         let fed = report_feed::feed(
             reading,
@@ -125,7 +135,7 @@ pub fn read_all(
             fake_beats,
             fake_lengths,
         );
-        let after = answered(got, fed);
+        let after = answered(rt, got, fed);
         reading = after.reading;
         if !after.more {
             return reading;
@@ -133,5 +143,5 @@ pub fn read_all(
         left = less(left, count);
         turns -= 1;
     }
-    cut_short(reading)
+    cut_short(rt, reading)
 }

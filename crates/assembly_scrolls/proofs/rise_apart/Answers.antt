@@ -1,0 +1,12 @@
+-- `assembly_scrolls::rise_apart` looks at the beats first. Assumes nothing.
+use Rattle.assembly_scrolls.specs.AssembledScrolls.{rise_apart}
+use borrow.Author.Rules.{rules}
+use Rattle.assembly_scrolls.proofs.rise_apart.Goals as goal
+
+pub returns-then-rise_f32 : goal.returns-then-rise_f32
+unfolding rise_apart
+returns-then-rise_f32 c = rw (← c.rise_f32.ensures, c.if-rise_f32.true) c.all_apart.ensures
+
+pub returns : goal.returns
+unfolding rise_apart
+returns c = rw (← c.rise_f32.ensures, c.if-rise_f32.false)

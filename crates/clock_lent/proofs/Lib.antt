@@ -1,2 +1,0 @@
-pub mod CopiedBeside
-pub mod LentQuestion

@@ -1,0 +1,15 @@
+-- `columns_each::narrow_column` writes each number narrowed, as far as both columns go. Assumes nothing.
+use Rattle.std.proofs.Common.{◌-◌, arith, rules}
+use lib.Ieee.{nan}
+use Rattle.ieee.specs.Narrowing.{narrow}
+use Rattle.columns.proofs.LaidEach.{LayingEach, begun, turned, ended}
+use Rattle.columns_each.proofs.narrow_column.Goals as goal
+
+pub loop-i-init : goal.loop-i-init
+loop-i-init c = begun c.room_of-n.ensures
+
+pub loop-i-preserved : goal.loop-i-preserved
+loop-i-preserved c = turned c.loop-i.invariant nan (omega arith) (search rules)
+
+pub returns : goal.returns
+returns c = ended c.loop-i.invariant (omega arith)

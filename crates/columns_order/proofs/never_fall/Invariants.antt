@@ -1,0 +1,16 @@
+-- `columns_order::never_fall` counts the neighbours that fail. Assumes nothing.
+use Prim.Native.Nat.{◌+◌, ◌-◌, ◌≤◌}
+use native.Mathlib.Omega.{arith}
+use lib.ListN.{length, get_or}
+use lib.Ieee.{nan}
+use Rattle.limits.proofs.Every.{counted_start, miss-few}
+use Rattle.limits.specs.Neighbours.{neighbours, not_falling}
+use Rattle.limits.proofs.EachTwo.{passes, CountedTwo, two-turn, two-end}
+use borrow.Author.Rules.{rules}
+use Rattle.columns_order.proofs.never_fall.Given as goal
+
+abbrev pub invariant-loop-i : goal.invariant-loop-i
+invariant-loop-i l = (l.i ≤ length l.column) × CountedTwo not_falling l.column l.i l.fail
+
+abbrev pub decreases-loop-i : goal.decreases-loop-i
+decreases-loop-i l = length l.column - l.i

@@ -1,0 +1,29 @@
+-- `limits::all_plain` keeps the worst of a column, and that is none. Assumes nothing.
+use Prim.Native.Nat.{◌+◌, ◌-◌}
+use mathlib.Core.Path.{◌≡◌, refl}
+use lib.Ieee.{nan}
+use lib.ListN.{length, drop, get_or}
+use Rattle.limits.specs.Numbers.{every}
+use Rattle.limits.specs.Plain.{plain}
+use Rattle.limits.proofs.WorstSoFar.{passing, worst_turn, worst_last, every-parts, every-none}
+use borrow.Author.Rules.{rules}
+use Rattle.limits.proofs.all_plain.Goals as goal
+
+pub loop-i-init : goal.loop-i-init
+loop-i-init c = refl
+
+pub loop-i-preserved : goal.loop-i-preserved
+loop-i-preserved c =
+    let range = c.args.range in
+    let column = c.args.column.now in
+    let l = c.loop-i in
+    let known = rw (every-parts (plain range) column l.i nan c.loop-i-test.true) at l.invariant in
+    rw c.worse_of-worst.ensures
+    (worst_turn l.worst c.one_not_plain.result (plain range (get_or column l.i nan)) (every (plain range) (drop (l.i + 1) column)) (every (plain range) column) c.one_not_plain.ensures known)
+
+pub returns : goal.returns
+returns c =
+    let range = c.args.range in
+    let column = c.args.column.now in
+    let l = c.loop-i in
+    worst_last l.worst (every (plain range) column) (rw (every-none (plain range) column l.i c.loop-i-test.false) at l.invariant)

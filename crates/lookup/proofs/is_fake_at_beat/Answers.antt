@@ -1,0 +1,7 @@
+-- `lookup::is_fake_at_beat` answers what the definition gives, or the number that refuses. Assumes nothing.
+use Rattle.std.proofs.Common.{◌≡◌, w32, rules}
+use mir.ValLaws.{to_z-of_z}
+use Rattle.lookup.proofs.is_fake_at_beat.Goals as goal
+
+pub returns : goal.returns
+returns c = rw (c.look_up_fake.ensures, c.taken.ensures, to_z-of_z w32 c.asked_row.result (record { sfits = c.asked_row.type_inv }), c.asked_row.ensures)

@@ -1,0 +1,141 @@
+-- `lookup_checked::is_judgable_at_beat_checked` answers by the row's beat, or refuses the beat. Assumes nothing.
+use mathlib.Core.Path.{sym, ap, ◌∙◌}
+use mathlib.Core.Bool.{not}
+use mathlib.Core.Logic.{inl, inr}
+use mir.Syntax.{w32}
+use mir.Val.{to_z, of_z}
+use mir.ValLaws.{to_z-of_z}
+use Rattle.limits.specs.declared.Kind.TheVariants.{Beat}
+use Rattle.limits.specs.Numbers.{range_of, in_range}
+use Rattle.rows.specs.RowKey.{row_key}
+use Rattle.order_search.specs.Search.{place_of}
+use Rattle.lookup.specs.Lookups.{asked_row, warp_covers}
+use Rattle.lookup_tests.specs.LookupLists.{LookupLists, lookup_lists}
+use Rattle.lookup_checked.specs.Checked.{last_covers, unpaused_by, fake_by, warped_by, judgable_by}
+use Rattle.lookup_checked.proofs.LastCounted.{last-covers, last_covers_nothing}
+use Rattle.lookup_checked.proofs.AnswersAtRow.{taken-row, refused-row, near, found_in, still-taken, asked_in, in_warp_only, elsewhere}
+use borrow.Author.Rules.{rules}
+use Rattle.lookup_checked.proofs.is_judgable_at_beat_checked.Goals as goal
+use Rattle.lookup_checked.proofs.is_judgable_at_beat_checked.Goals.{Start, then-last_warp_covers+then-not-faked+else-not-next_on_row, then-last_warp_covers+else-not-faked, else-last_warp_covers}
+
+abbrev lists_at : Start → LookupLists
+lists_at start =
+    lookup_lists start.args.stop_beats.now start.args.stop_values.now start.args.delay_beats.now start.args.delay_values.now start.args.warp_beats.now start.args.warp_lengths.now start.args.fake_beats.now start.args.fake_lengths.now
+
+pub beat_of_row-at-requires : goal.beat_of_row-at-requires
+beat_of_row-at-requires c =
+    let allowed = c in
+    let start = allowed in
+    let back = to_z-of_z w32 c.asked_row-row.result (record { sfits = c.asked_row-row.type_inv }) ∙ c.asked_row-row.ensures in
+    near (asked_row start.args.beat) (to_z w32 (of_z w32 c.asked_row-row.result)) back (asked_in start.args.beat (sym allowed.taken.ensures ∙ allowed.if-taken.true))
+
+pub in_fake-faked-requires : goal.in_fake-faked-requires
+in_fake-faked-requires c =
+    let beat = c in
+    let asked = beat in
+    let allowed = asked in
+    let start = allowed in
+    let row = asked_row start.args.beat in
+    let through = to_z w32 (of_z w32 asked.asked_row-row.result) in
+    let back = to_z-of_z w32 asked.asked_row-row.result (record { sfits = asked.asked_row-row.type_inv }) ∙ asked.asked_row-row.ensures in
+    let yes = sym allowed.taken.ensures ∙ allowed.if-taken.true in
+    let taken = asked_in start.args.beat yes in
+    found_in row through back taken beat.beat_of_row-at.result start.args.fake_beats.now c.place_of-fake.result c.place_of-fake.ensures
+
+pub last_warp_covers-requires : goal.last_warp_covers-requires
+last_warp_covers-requires c =
+    let warp = c in
+    let beat = warp in
+    let asked = beat in
+    let allowed = asked in
+    let start = allowed in
+    let row = asked_row start.args.beat in
+    let through = to_z w32 (of_z w32 asked.asked_row-row.result) in
+    let back = to_z-of_z w32 asked.asked_row-row.result (record { sfits = asked.asked_row-row.type_inv }) ∙ asked.asked_row-row.ensures in
+    let yes = sym allowed.taken.ensures ∙ allowed.if-taken.true in
+    let taken = asked_in start.args.beat yes in
+    (found_in row through back taken beat.beat_of_row-at.result start.args.warp_beats.now warp.place_of-warp.result warp.place_of-warp.ensures).0
+
+pub next_on_row-requires : goal.next_on_row-requires
+next_on_row-requires c =
+    let beat = c in
+    let asked = beat in
+    let allowed = asked in
+    let start = allowed in
+    let row = asked_row start.args.beat in
+    let through = to_z w32 (of_z w32 asked.asked_row-row.result) in
+    let back = to_z-of_z w32 asked.asked_row-row.result (record { sfits = asked.asked_row-row.type_inv }) ∙ asked.asked_row-row.ensures in
+    let yes = sym allowed.taken.ensures ∙ allowed.if-taken.true in
+    let taken = asked_in start.args.beat yes in
+    still-taken row through back taken
+
+pub is_unpaused-requires : goal.is_unpaused-requires
+is_unpaused-requires c =
+    let beat = c in
+    let asked = beat in
+    let allowed = asked in
+    let start = allowed in
+    let row = asked_row start.args.beat in
+    let through = to_z w32 (of_z w32 asked.asked_row-row.result) in
+    let back = to_z-of_z w32 asked.asked_row-row.result (record { sfits = asked.asked_row-row.type_inv }) ∙ asked.asked_row-row.ensures in
+    let yes = sym allowed.taken.ensures ∙ allowed.if-taken.true in
+    let taken = asked_in start.args.beat yes in
+    still-taken row through back taken
+
+pub returns-then-not-next_on_row : goal.returns-then-not-next_on_row
+unfolding judgable_by warped_by fake_by
+returns-then-not-next_on_row c =
+    let pauses = c in
+    let alone = pauses in
+    let next = alone in
+    let shown = next in
+    let inside = shown in
+    let warp = inside in
+    let fake = warp in
+    let second = fake in
+    let first = second in
+    let beat = first in
+    let asked = beat in
+    let allowed = asked in
+    let start = allowed in
+    let row = asked_row start.args.beat in
+    let through = to_z w32 (of_z w32 asked.asked_row-row.result) in
+    let back = to_z-of_z w32 asked.asked_row-row.result (record { sfits = asked.asked_row-row.type_inv }) ∙ asked.asked_row-row.ensures in
+    let yes = sym allowed.taken.ensures ∙ allowed.if-taken.true in
+    let taken = asked_in start.args.beat yes in
+    let hides = rw second.place_of-fake.ensures at fake.in_fake-faked.ensures in
+    let at = beat.beat_of_row-at.result in
+    let covers = last-covers (warp_covers at) first.place_of-warp.result (place_of at start.args.warp_beats.now) (row_key through) first.place_of-warp.ensures start.args.warp_beats.now start.args.warp_lengths.now (sym warp.last_warp_covers.ensures ∙ inside.if-last_warp_covers.true) (ap not (sym next.next_on_row.ensures) ∙ alone.if-not-next_on_row.true-raw) in
+    c.answered.ensures ∙ taken-row (judgable_by (lists_at (goal.at.returns-then-not-next_on_row start).Start)) row (in_range (range_of Beat) start.args.beat) through back yes beat.beat_of_row-at.result beat.beat_of_row-at.ensures (not pauses.is_unpaused.result) (rw pauses.is_unpaused.ensures (in_warp_only (last_covers (warp_covers at) (place_of at start.args.warp_beats.now) (row_key through) start.args.warp_beats.now start.args.warp_lengths.now) (fake_by (lists_at (goal.at.returns-then-not-next_on_row start).Start).fakes at (row_key through)) (unpaused_by (lists_at (goal.at.returns-then-not-next_on_row start).Start).stops (lists_at (goal.at.returns-then-not-next_on_row start).Start).delays at (row_key through)) covers (ap not (sym hides) ∙ shown.if-not-faked.true-raw)))
+
+pub returns-then-taken : goal.returns-then-taken
+unfolding judgable_by warped_by fake_by
+returns-then-taken c =
+    let other = c in
+    let warp = other in
+    let fake = warp in
+    let second = fake in
+    let first = second in
+    let beat = first in
+    let asked = beat in
+    let allowed = asked in
+    let start = allowed in
+    let row = asked_row start.args.beat in
+    let through = to_z w32 (of_z w32 asked.asked_row-row.result) in
+    let back = to_z-of_z w32 asked.asked_row-row.result (record { sfits = asked.asked_row-row.type_inv }) ∙ asked.asked_row-row.ensures in
+    let yes = sym allowed.taken.ensures ∙ allowed.if-taken.true in
+    let taken = asked_in start.args.beat yes in
+    let hides = rw second.place_of-fake.ensures at fake.in_fake-faked.ensures in
+    let at = beat.beat_of_row-at.result in
+    let nothing = last_covers_nothing (warp_covers at) first.place_of-warp.result (place_of at start.args.warp_beats.now) (row_key through) first.place_of-warp.ensures start.args.warp_beats.now start.args.warp_lengths.now in
+    c.answered-then-taken.ensures
+    ∙ taken-row (judgable_by (lists_at (goal.at.returns-then-taken start).Start)) row (in_range (range_of Beat) start.args.beat) through back yes beat.beat_of_row-at.result beat.beat_of_row-at.ensures (not fake.in_fake-faked.result) (rw hides (elsewhere (last_covers (warp_covers at) (place_of at start.args.warp_beats.now) (row_key through) start.args.warp_beats.now start.args.warp_lengths.now) (fake_by (lists_at (goal.at.returns-then-taken start).Start).fakes at (row_key through)) (unpaused_by (lists_at (goal.at.returns-then-taken start).Start).stops (lists_at (goal.at.returns-then-taken start).Start).delays at (row_key through)) (elim other.if-last_warp_covers.branch [
+      | then-last_warp_covers+then-not-faked+else-not-next_on_row p ↦ inr (nothing (inl (ap not (sym p.next_on_row.ensures) ∙ p.if-not-next_on_row.false-raw)))
+      | then-last_warp_covers+else-not-faked p ↦ inl (ap not (sym hides) ∙ p.if-not-faked.false-raw)
+      | else-last_warp_covers p ↦ inr (nothing (inr (sym warp.last_warp_covers.ensures ∙ p.if-last_warp_covers.false)))
+    ])))
+
+pub returns : goal.returns
+returns c =
+    let start = c in
+    refused-row (judgable_by (lists_at (goal.at.returns start).Start)) (asked_row start.args.beat) (in_range (range_of Beat) start.args.beat) (sym c.taken.ensures ∙ c.if-taken.false)

@@ -1,0 +1,30 @@
+use Rattle.std.proofs.Common.{◌-◌, length, refl, ◌∙◌, arith, rules}
+use Rattle.process_sm_walk.proofs.LaidOnRows.{Laying, room-left, laid_one, laid-all}
+use Rattle.process_sm_walk.proofs.lay_on_rows.Goals as goal
+
+pub loop-i-init : goal.loop-i-init
+loop-i-init c = record { counts = refl; laid_beats = refl; laid_values = refl; same_beats = refl; same_values = refl }
+
+pub bounds-out_beats-count : goal.bounds-out_beats-count
+bounds-out_beats-count c = let l = c.loop-i.invariant in let h = c.loop-i-test.true in omega (arith, room-left l c.requires.beats_len h, l.same_beats)
+
+pub bounds-out_values-count : goal.bounds-out_values-count
+bounds-out_values-count c = let l = c.loop-i.invariant in let h = c.loop-i-test.true in omega (arith, room-left l c.requires.beats_len h, l.same_values)
+
+pub loop-i-smaller : goal.loop-i-smaller
+loop-i-smaller c = omega arith
+
+pub loop-i-preserved : goal.loop-i-preserved
+loop-i-preserved c =
+    let at = c in
+    laid_one at.loop-i.invariant at.requires.beats_len c.loop-i-test.true c.f32_to_f64_with_nan.result c.f32_to_f64_with_nan-in-loop-i.result
+    (c.f32_to_f64_with_nan.ensures ∙ c.quantize_beat_f32.ensures) c.f32_to_f64_with_nan-in-loop-i.ensures
+
+pub returns : goal.returns
+returns c =
+    let given = laid-all c.loop-i.invariant c.requires.beats_len c.loop-i-test.false in
+    record {
+      value = given.0;
+      out_beats_after = given.1.0;
+      out_values_after = given.1.1;
+    }

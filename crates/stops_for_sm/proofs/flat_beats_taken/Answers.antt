@@ -1,0 +1,27 @@
+-- `stops_for_sm::flat_beats_taken` goes two by two, up to one that is not taken. Assumes nothing.
+use Rattle.std.proofs.Common.{◌≡◌, ◌-◌, length, get_or, drop, sym, refl, ap, ◌∙◌, rules}
+use borrow.Author.Tests.{not-true, not-false}
+use lib.Ieee.{nan}
+use Rattle.limits.specs.declared.Kind.TheVariants.{Beat}
+use Rattle.limits.specs.Numbers.{in_range, range_of}
+use Rattle.stops_for_sm.specs.Filling.{beats_in}
+use Rattle.stops_for_sm.proofs.TwoByTwo.{beat-parts, beats-none}
+use Rattle.stops_for_sm.proofs.flat_beats_taken.Goals as goal
+use Rattle.stops_for_sm.proofs.flat_beats_taken.Goals.{After-taken}
+
+passed : (c : After-taken) → c.taken.result ≡ in_range (range_of Beat) (get_or c.args.list.now c.loop-i.i nan)
+passed c = c.taken.ensures ∙ ap (in_range (range_of Beat)) c.f32_to_f64_with_nan.ensures
+
+pub loop-i-init : goal.loop-i-init
+loop-i-init c = refl
+
+pub returns-then-not-taken : goal.returns-then-not-taken
+returns-then-not-taken c =
+    rw (beat-parts (range_of Beat) c.args.list.now c.loop-i.i c.loop-i-test.true, sym (passed (goal.at.returns-then-not-taken c).After-taken) ∙ not-true c.taken.result c.if-not-taken.true-raw) at c.loop-i.invariant
+
+pub loop-i-preserved : goal.loop-i-preserved
+loop-i-preserved c =
+    rw (beat-parts (range_of Beat) c.args.list.now c.loop-i.i c.loop-i-test.true, sym (passed (goal.at.loop-i-preserved c).After-taken) ∙ not-false c.taken.result c.if-not-taken.false-raw) at c.loop-i.invariant
+
+pub returns : goal.returns
+returns c = sym (beats-none (range_of Beat) c.args.list.now c.loop-i.i c.loop-i-test.false) ∙ c.loop-i.invariant

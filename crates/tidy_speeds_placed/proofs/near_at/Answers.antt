@@ -1,0 +1,11 @@
+-- `tidy_speeds_placed::near_at` meets its contract. Assumes nothing.
+use mathlib.Core.Path.{◌∙◌}
+use Rattle.picks.proofs.Rules.{flags}
+use borrow.Author.Rules.{rules}
+use Rattle.tidy_speeds_placed.proofs.near_at.Goals as goal
+
+pub returns-then-place-n : goal.returns-then-place-n
+returns-then-place-n c = rw (c.near.ensures, c.speed_at.ensures) (search flags)
+
+pub returns : goal.returns
+returns c = search flags
