@@ -11,7 +11,8 @@ import re
 import sys
 
 root = pathlib.Path(__file__).resolve().parent.parent
-KIT = {"io", "libc", "check", "bytes", "os", "std"}
+# libraries of the kit that a crate lists where its files name them; std is never listed
+KIT = {"io", "libc", "check", "bytes", "os"}
 
 # crates that are held against each other by a theorem, so that the first must not stand on the second, directly or through others
 APART = [("clock_bench", "clock_walk")]
@@ -27,24 +28,29 @@ def crates():
         if heading:
             families.append((heading.group(1), heading.group(2), []))
         elif ":" in line and not line.startswith("#"):
-            name, needs = line.split(":")
-            listed[name.strip()] = needs.split()
+            # a static library has that word behind its name
+            head, needs = line.split(":")
+            name = head.split()[0]
+            listed[name] = needs.split()
             if not families:
                 sys.exit(f"structure: crates.txt lists {name} before any family")
-            families[-1][2].append(name.strip())
+            families[-1][2].append(name)
     return listed, families
 
 
 def named(name, known):
-    """The crates that a crate's own files name: in code as a path, in definitions and proofs by their facade."""
+    """The crates that a crate's own files name: in code as the head of a path, in definitions and proofs as `Rattle.NAME`."""
     found = set()
-    for path in (root / "crates" / name).rglob("*"):
-        if path.suffix == ".rt":
-            text = re.sub(r"//.*", "", path.read_text())
-            found |= set(re.findall(r"\b(\w+)::", text)) | set(re.findall(r"Rattle·(\w+)\.", text))
-        elif path.suffix == ".antt":
-            found |= set(re.findall(r"Rattle·(\w+)\.", re.sub(r"--.*", "", path.read_text())))
-    return (found & known) - {name, "std"}
+    for part in ("src", "specs", "proofs"):
+        for path in (root / "crates" / name / part).rglob("*"):
+            if path.suffix == ".rt":
+                text = re.sub(r"//.*", "", path.read_text())
+                # what is brought in from std, as `use std::io`, is no crate of that name
+                of_std = {word for used in re.findall(r"\buse\s+(?:std|core)::([^;]*);", text) for word in re.findall(r"\w+", used)}
+                found |= set(re.findall(r"(?<!:)\b(\w+)::", text)) - of_std | set(re.findall(r"\bRattle\.(\w+)\.", text))
+            elif path.suffix == ".antt":
+                found |= set(re.findall(r"\bRattle\.(\w+)\.", re.sub(r"--.*", "", path.read_text())))
+    return (found & known) - {name}
 
 
 def wrong_lists(listed):

@@ -55,8 +55,17 @@ fn unpacked(archive: &Path) -> PathBuf {
 /// The folder of the library that the sources beside this crate are proved and compiled to.
 fn proved() -> PathBuf {
     let here = PathBuf::from(env::var_os("CARGO_MANIFEST_DIR").unwrap());
-    for name in ["../native-archive", "../../crates.txt", "../../crates"] {
+    for name in ["../native-archive", "../../crates.txt", "../../HANDLES"] {
         println!("cargo::rerun-if-changed={}", here.join(name).display());
+    }
+    // not what the kit makes beside them, in out/
+    for name in fs::read_dir(here.join("../../crates")).into_iter().flatten().flatten() {
+        for part in ["src", "specs", "proofs"] {
+            let folder = name.path().join(part);
+            if folder.is_dir() {
+                println!("cargo::rerun-if-changed={}", folder.display());
+            }
+        }
     }
     let script = here.join("../native-archive");
     assert!(

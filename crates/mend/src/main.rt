@@ -3,13 +3,13 @@
 // refused, and a write that fails ends the program.
 #![tactic(auto)]
 
-use libc::STDOUT_FILENO;
+use std::io::Print;
 
 // The bytes of the page, on which every answer has room.
 const PAGE: usize = 65536;
 
-fn main() {
+fn main(rt: HostRuntime) -> std::io::Result<()> {
     let mut page = [0u8; PAGE];
-    let length = mend_stdin::write_input(&mut page, usize::MAX);
-    io::write_all(STDOUT_FILENO, &page[..length]);
+    let length = mend_stdin::write_input(&rt, &mut page, usize::MAX);
+    rt.write_all(&page[..length])
 }

@@ -6,7 +6,7 @@ ghost use Rattle.mend_stdin.specs.Input.{MendOfSome};
 
 // Reads standard input, to its end or as many bytes as `most`, and writes the answer to it from the page's first byte on. How many bytes that has.
 // Lists that are passed over are lent no room for what they hold.
-pub fn write_input(page: &mut [u8], most: usize) -> usize
+pub fn write_input(rt: &HostRuntime, page: &mut [u8], most: usize) -> usize
     ensures mend_of_some { MendOfSome result page.old page.new }
     ensures prefix_len { IsPrefixLen result page.new }
 {
@@ -28,6 +28,7 @@ pub fn write_input(page: &mut [u8], most: usize) -> usize
     let mut fake_beats = [0.0; 1];
     let mut fake_lengths = [0.0; 1];
     let reading = report_stdin::read_all(
+        rt,
         &mut counts,
         &mut tempo_beats,
         &mut tempo_values,

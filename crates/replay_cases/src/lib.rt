@@ -2,11 +2,11 @@
 // A case is a line with the lengths of input and answer, six decimal digits each, then the bytes of both and a line feed.
 #![tactic(auto)]
 
-ghost use Rattle.std.specs.Prelude.{◌≤◌};
+ghost use Rattle.std.specs.Prelude.{◌≤◌, IfOk};
 ghost use Rattle.io.specs.Counts.{IsPrefixLen};
 ghost use Rattle.replay_cases.specs.Replayed.{Replayed};
 
-use libc::{STDIN_FILENO, STDOUT_FILENO};
+use std::io::{Print, Read};
 
 // The program that cases are of.
 #[derive(Clone, Copy)]
@@ -60,9 +60,24 @@ fn six_digits(a: u8, b: u8, c: u8, d: u8, e: u8, f: u8) -> usize {
         + digit(f)
 }
 
-fn read_sizes() -> Sizes {
+// Reads standard input until the bytes are full, the input ends or a read fails; how many were put at their start.
+fn read_full(rt: &HostRuntime, bytes: &mut [u8]) -> usize
+    ensures { IsPrefixLen result bytes.new }
+{
+    let mut done = 0;
+    while done < bytes.len() {
+        let count = rt.stdin().read(&mut bytes[done..]).unwrap_or(0);
+        if count == 0 {
+            return done;
+        }
+        done += count;
+    }
+    done
+}
+
+fn read_sizes(rt: &HostRuntime) -> Sizes {
     let mut line = [0u8; LINE];
-    let got = io::read_full(STDIN_FILENO, &mut line);
+    let got = read_full(rt, &mut line);
     Sizes {
         there: got > 0,
         input: six_digits(line[0], line[1], line[2], line[3], line[4], line[5]),
@@ -71,11 +86,11 @@ fn read_sizes() -> Sizes {
 }
 
 // The next bytes, so many, to the front of a text; whether they were there, and the text has room for them.
-fn read_text(text: &mut [u8], size: usize) -> bool {
+fn read_text(rt: &HostRuntime, text: &mut [u8], size: usize) -> bool {
     if size > text.len() {
         return false;
     }
-    io::read_full(STDIN_FILENO, &mut text[..size]) == size
+    read_full(rt, &mut text[..size]) == size
 }
 
 fn both(one: bool, other: bool) -> bool {
@@ -86,57 +101,57 @@ fn both(one: bool, other: bool) -> bool {
 }
 
 // What a program writes for an input that is the next bytes, so many: on the page, and how many bytes that has.
-fn answer_next(program: Program, page: &mut [u8], size: usize) -> usize
+fn answer_next(rt: &HostRuntime, program: Program, page: &mut [u8], size: usize) -> usize
     ensures { IsPrefixLen result page.new }
 {
     match program {
         Program::Report => {
             let mut input = [0u8; ROOM];
-            read_text(&mut input, size);
+            read_text(rt, &mut input, size);
             report_bytes::report_of(page, report_answer::front_units(&input, size))
         }
-        Program::Mend => mend_stdin::write_input(page, size),
+        Program::Mend => mend_stdin::write_input(rt, page, size),
     }
 }
 
 // The next bytes are a case's: whether the answer is the stored one. Where it is the first that is not, what was written instead is printed.
-fn replay(program: Program, sizes: Sizes, first: bool) -> bool {
+fn replay(rt: &HostRuntime, program: Program, sizes: Sizes, first: bool) -> std::io::Result<bool> {
     let mut answer = [0u8; ROOM];
     let mut end = [0u8; 1];
     let mut page = [0u8; ROOM];
-    let length = answer_next(program, &mut page, sizes.input);
-    let mut read = read_text(&mut answer, sizes.answer);
-    read = both(read, read_text(&mut end, 1));
+    let length = answer_next(rt, program, &mut page, sizes.input);
+    let mut read = read_text(rt, &mut answer, sizes.answer);
+    read = both(read, read_text(rt, &mut end, 1));
     let stored = report_answer::front_units(&answer, sizes.answer);
     let same = both(read, check::same(&page[..length], stored));
     if both(first, !same) {
-        io::write_all(STDOUT_FILENO, b"an answer differs, and says\n");
-        io::write_all(STDOUT_FILENO, &page[..length]);
+        rt.write_all(b"an answer differs, and says\n")?;
+        rt.write_all(&page[..length])?;
     }
-    same
+    Ok(same)
 }
 
-// Every case of standard input.
-pub fn replay_all(program: Program) -> Tally
-    ensures { Replayed result.answers result.different }
+// Every case of standard input; fails only where an answer that differs could not be printed.
+pub fn replay_all(rt: &HostRuntime, program: Program) -> std::io::Result<Tally>
+    ensures { IfOk result (λ tally. Replayed tally.answers tally.different) }
 {
     let mut answers: u64 = 0;
     let mut different: u64 = 0;
     while answers < MOST {
-        let sizes = read_sizes();
+        let sizes = read_sizes(rt);
         if !sizes.there {
-            return Tally {
+            return Ok(Tally {
                 answers: answers,
                 different: different,
-            };
+            });
         }
-        if !replay(program, sizes, different == 0) {
+        if !replay(rt, program, sizes, different == 0)? {
             different += 1;
         }
         answers += 1;
     }
-    Tally {
+    Ok(Tally {
         answers: answers,
         different: different,
-    }
+    })
 }

@@ -3,8 +3,9 @@
 #![tactic(auto)]
 
 ghost use Rattle.std.specs.Prelude.{◌≤◌};
+ghost use Rattle.io.specs.Counts.{IsPrefixLen};
 
-use libc::{STDIN_FILENO, STDOUT_FILENO};
+use std::io::Read;
 
 const LINE: usize = 36;
 
@@ -93,12 +94,27 @@ fn replay(text: &[u8]) -> Tally {
     }
 }
 
-fn main() {
+// Reads standard input until the bytes are full, the input ends or a read fails; how many were put at their start.
+fn read_full(rt: &HostRuntime, bytes: &mut [u8]) -> usize
+    ensures { IsPrefixLen result bytes.new }
+{
+    let mut done = 0;
+    while done < bytes.len() {
+        let count = rt.stdin().read(&mut bytes[done..]).unwrap_or(0);
+        if count == 0 {
+            return done;
+        }
+        done += count;
+    }
+    done
+}
+
+fn main(rt: HostRuntime) -> std::io::Result<()> {
     let mut room = [0u8; ROOM];
-    let read = io::read_full(STDIN_FILENO, &mut room);
+    let read = read_full(&rt, &mut room);
     let tally = replay(&room[..read]);
-    io::print_decimal(STDOUT_FILENO, tally.replayed);
-    io::write_all(STDOUT_FILENO, b" replayed, ");
-    io::print_decimal(STDOUT_FILENO, tally.different);
-    io::write_all(STDOUT_FILENO, b" different\n");
+    println!(rt;
+        "{} replayed, {} different",
+        tally.replayed, tally.different
+    )
 }

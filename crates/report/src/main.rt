@@ -6,14 +6,14 @@
 ghost use Rattle.io.specs.Counts.{IsPrefixLen};
 ghost use Rattle.report.specs.Input.{ReportOfSome};
 
-use libc::STDOUT_FILENO;
 use report_form::Reading;
+use std::io::Print;
 
 // The bytes of the page, on which every report has room.
 const PAGE: usize = 65536;
 
 // Reads all of standard input and writes its report on the page.
-fn write_input(page: &mut [u8]) -> usize
+fn write_input(rt: &HostRuntime, page: &mut [u8]) -> usize
     ensures report_of_some { ReportOfSome result page.old page.new }
     ensures prefix_len { IsPrefixLen result page.new }
 {
@@ -35,6 +35,7 @@ fn write_input(page: &mut [u8]) -> usize
     let mut fake_beats = [0.0; report_form::MOST_REPORTED];
     let mut fake_lengths = [0.0; report_form::MOST_REPORTED];
     let reading: Reading = report_stdin::read_all(
+        rt,
         &mut counts,
         &mut tempo_beats,
         &mut tempo_values,
@@ -77,8 +78,8 @@ fn write_input(page: &mut [u8]) -> usize
     )
 }
 
-fn main() {
+fn main(rt: HostRuntime) -> std::io::Result<()> {
     let mut page = [0u8; PAGE];
-    let length = write_input(&mut page);
-    io::write_all(STDOUT_FILENO, &page[..length]);
+    let length = write_input(&rt, &mut page);
+    rt.write_all(&page[..length])
 }

@@ -1,0 +1,17 @@
+-- `note_sheet::time_rows` times all rows, piece by piece. Assumes nothing.
+use Prim.Native.Nat.{◌+◌, ◌-◌, ◌<◌, ◌≤◌, ◌^◌}
+use mathlib.Core.Path.{◌≡◌, refl, sym, ap, ◌∙◌}
+use native.Mathlib.Omega.{arith}
+use lib.ListN.{length, take, drop}
+use Rattle.chart.specs.Timing.{timing}
+use Rattle.note_sheet.proofs.RunInPieces.{Timed, none_timed, fresh-made, timed_size, piece_fits, steps-fit, piece_timed, all_timed}
+use Rattle.clock.specs.declared.Made.{Made}
+use Rattle.clock_run.proofs.PlacesInColumns.{scaled4, scaled8}
+use borrow.Author.Rules.{rules}
+use Rattle.note_sheet.proofs.time_rows.Given as goal
+
+abbrev pub invariant-loop-done : goal.invariant-loop-done
+invariant-loop-done l = Timed (timing l.tempo_beats l.tempo_values l.stop_beats l.stop_values l.delay_beats l.delay_values l.warp_beats l.warp_lengths) l.offset l.global l.rows l.initial.times l.times l.at l.steps l.done
+
+abbrev pub decreases-loop-done : goal.decreases-loop-done
+decreases-loop-done l = length l.rows - l.done

@@ -1,0 +1,9 @@
+-- `notes_displayed::number_at` is the number at a place, or a NaN. Assumes nothing.
+use Rattle.std.proofs.Common.{sym, rules}
+use lib.ListN.{get_or-eq_default}
+use lib.Ieee.{nan, div, of_bits}
+use Rattle.notes_displayed.proofs.number_at.Goals as goal
+
+pub returns : goal.returns
+unfolding div of_bits
+returns c = sym (get_or-eq_default c.args.column.now nan c.if-place-column.false)

@@ -1,0 +1,17 @@
+-- `notes_displayed::scroll_columns_number` is the number of the scrolls by themselves. Assumes nothing.
+use Rattle.notes_displayed.specs.Answers.{scroll_columns_number}
+use Rattle.picks.proofs.Rules.{flags}
+use Rattle.std.proofs.Common.{rules}
+use Rattle.notes_displayed.proofs.scroll_columns_number.Goals as goal
+
+pub returns-then-never_fall_f32 : goal.returns-then-never_fall_f32
+unfolding scroll_columns_number
+returns-then-never_fall_f32 c = rw (← c.list_number_f32-number.ensures, ← c.never_fall_f32.ensures) (search flags depth 8)
+
+pub returns-then-number-eq-TAKEN : goal.returns-then-number-eq-TAKEN
+unfolding scroll_columns_number
+returns-then-number-eq-TAKEN c = rw (← c.list_number_f32-number.ensures, ← c.never_fall_f32.ensures) (search flags depth 8)
+
+pub returns : goal.returns
+unfolding scroll_columns_number
+returns c = rw (← c.list_number_f32-number.ensures) (search flags depth 8)
