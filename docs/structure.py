@@ -46,7 +46,7 @@ def named(name, known):
             if path.suffix == ".rt":
                 text = re.sub(r"//.*", "", path.read_text())
                 # what is brought in from std, as `use std::io`, is no crate of that name
-                of_std = {word for used in re.findall(r"\buse\s+(?:std|core)::([^;]*);", text) for word in re.findall(r"\w+", used)}
+                of_std = {word for used in re.findall(r"\buse\s+(?:std|core)::([^;]*);", text) for word in re.findall(r"\b\w+\b(?!\s*::)", used)}
                 found |= set(re.findall(r"(?<!:)\b(\w+)::", text)) - of_std | set(re.findall(r"\bRattle\.(\w+)\.", text))
             elif path.suffix == ".antt":
                 found |= set(re.findall(r"\bRattle\.(\w+)\.", re.sub(r"--.*", "", path.read_text())))

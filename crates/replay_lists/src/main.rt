@@ -4,16 +4,17 @@
 #![tactic(auto)]
 
 ghost use Rattle.std.specs.Prelude.{◌≤◌, length};
+ghost use Rattle.io.specs.Counts.{IsPrefixLen};
 
 use chart::State;
 use clock::{Answer, Cursor};
 use clock_bench::BenchAnswer;
 use clock_walk::Mark;
 use columns::Outcome;
-use libc::{STDIN_FILENO, STDOUT_FILENO};
 use lookup::Looked;
 use notes_displayed::Displayed;
 use process_raw::Processed;
+use std::io::Read;
 
 // The most numbers of a stored column, and the bytes of a line.
 const MOST: usize = 1100;
@@ -1506,14 +1507,29 @@ fn read_words(text: &[u8], words: &mut [u64]) -> usize
     i
 }
 
+// Reads standard input until the bytes are full, the input ends or a read fails; how many were put at their start.
+fn read_full(rt: &HostRuntime, bytes: &mut [u8]) -> usize
+    ensures { IsPrefixLen result bytes.new }
+{
+    let mut done = 0;
+    while done < bytes.len() {
+        let count = rt.stdin().read(&mut bytes[done..]).unwrap_or(0);
+        if count == 0 {
+            return done;
+        }
+        done += count;
+    }
+    done
+}
+
 // The words of standard input, 4,096 lines at a time.
-fn read_input(words: &mut [u64]) -> usize
+fn read_input(rt: &HostRuntime, words: &mut [u64]) -> usize
     ensures { result ≤ length words.old }
 {
     let mut text = [0u8; PIECE];
     let mut count = 0;
     while count < words.len() {
-        let read = io::read_full(STDIN_FILENO, &mut text);
+        let read = read_full(rt, &mut text);
         let more = read_words(&text[..read], &mut words[count..]);
         if more == 0 {
             return count;
@@ -1535,11 +1551,10 @@ fn replay(words: &[u64], read: usize) -> u64 {
     count_different(words, read, &numbers, &floats, &rows, &bytes)
 }
 
-fn main() {
+fn main(rt: HostRuntime) -> std::io::Result<()> {
     let mut words = [0u64; WORDS];
-    let read = read_input(&mut words);
-    io::print_decimal(STDOUT_FILENO, case_count(&words));
-    io::write_all(STDOUT_FILENO, b" replayed, ");
-    io::print_decimal(STDOUT_FILENO, replay(&words, read));
-    io::write_all(STDOUT_FILENO, b" different\n");
+    let read = read_input(&rt, &mut words);
+    let replayed = case_count(&words);
+    let different = replay(&words, read);
+    println!(rt; "{replayed} replayed, {different} different")
 }

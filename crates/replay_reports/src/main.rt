@@ -1,13 +1,9 @@
 // Replays inputs of the report program, stored with the original's answers.
 #![tactic(auto)]
 
-use libc::STDOUT_FILENO;
 use replay_cases::Program;
 
-fn main() {
-    let tally = replay_cases::replay_all(Program::Report);
-    io::print_decimal(STDOUT_FILENO, tally.answers);
-    io::write_all(STDOUT_FILENO, b" reports, ");
-    io::print_decimal(STDOUT_FILENO, tally.different);
-    io::write_all(STDOUT_FILENO, b" different\n");
+fn main(rt: HostRuntime) -> std::io::Result<()> {
+    let tally = replay_cases::replay_all(&rt, Program::Report)?;
+    println!(rt; "{} reports, {} different", tally.answers, tally.different)
 }

@@ -1,0 +1,4 @@
+pub mod MarkedTaken
+pub mod OneOutcome
+pub mod TidiedMarks
+pub mod TooLong

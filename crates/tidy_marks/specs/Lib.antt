@@ -1,0 +1,2 @@
+pub mod MarkTidying
+pub mod inside
