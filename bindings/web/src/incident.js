@@ -42,10 +42,10 @@
     }
 
     function lawOfChange(kind, before, after, stopWritten) {
-        if (kind === 'tempo') return before ? 'tempo-keeps' : after ? 'tempo-opens' : 'tempo-written';
-        if (!before) return after ? 'stop-opens' : 'stop-written';
+        if (kind === 'tempo') return before ? 'tempo-keeps' : after ? 'tempo_opens' : 'tempo-written';
+        if (!before) return after ? 'stop_opens' : 'stop-written';
         if (!after) return 'stop-ends';
-        return stopWritten ? 'stop-begins-again' : 'stop-keeps';
+        return stopWritten ? 'stop_begins_again' : 'stop-keeps';
     }
 
     // The arrows that a chart's changes take, change by change: { beat, words, laws, open }. A pause that ends no warp meets the arrow that is not there.
@@ -54,7 +54,7 @@
         let [lists, open] = [listsOf(opening, []), false];
         // a tempo that is not written leaves 60 in its place
         const written = processSm(engine, lists).tempos[0].value === (opening.at(-1)?.value ?? 60);
-        const taken = [{ beat: 0, words: 'the opening', laws: [written ? 'opening-written' : 'opening-unwritten'], open }];
+        const taken = [{ beat: 0, words: 'the opening', laws: [written ? 'opening-written' : 'opening_unwritten'], open }];
         changes.forEach((change, place) => {
             const { kind, beat, value } = change;
             const next = listsOf(opening, changes.slice(0, place + 1));
@@ -62,11 +62,11 @@
             const after = isOpen(engine, next, beat);
             const stopWritten = processSm(engine, next).stops.length > processSm(engine, lists).stops.length;
             const laws = [lawOfTime(open, reached), lawOfChange(kind, reached, after, stopWritten)];
-            if (laws[1] === 'stop-keeps' && value > 0) laws.push('pause-keeps');
+            if (laws[1] === 'stop-keeps' && value > 0) laws.push('pause_keeps');
             taken.push({ beat, words: kind === 'tempo' ? `a tempo of ${value}` : `a stop of ${value} s`, laws, open: after });
             [lists, open] = [next, after];
         });
-        taken.push({ beat: Infinity, words: 'the end', laws: [open ? 'end-in-warp' : 'end-outside'], open: false });
+        taken.push({ beat: Infinity, words: 'the end', laws: [open ? 'end_in_warp' : 'end-outside'], open: false });
         return taken;
     }
 

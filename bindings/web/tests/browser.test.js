@@ -65,7 +65,7 @@ test('without a file an example is shown', { skip }, async () => {
     assert.match(await page.text('said'), /^Some dozens \(dozens\.ssc, \.ssc\): chart 2 of 2, its own timing, offset -0\.25 s$/);
     assert.ok(await page.value("document.querySelectorAll('#picture svg path').length") > 10);
     assert.ok(await page.value("document.querySelectorAll('#notes .line').length") > 5);
-    assert.match(await page.text('proof'), /not proved[\s\S]*PROVED\.md[\s\S]*pause-keeps-warp/);
+    assert.match(await page.text('proof'), /not proved[\s\S]*PROVED\.md[\s\S]*pause_keeps_warp/);
 });
 
 test('dropped charts show the numbers of chart-picture', { skip: skip || noPicture }, async () => {
@@ -214,7 +214,7 @@ test('the arrows light up as the cursor passes the changes', { skip }, async () 
         seen.push([await page.value("Number(document.getElementById('incident-beat').value)"), (await lit()).join(' ')]);
         await page.value("document.getElementById('next').click()");
     }
-    assert.deepStrictEqual(seen, [[0, 'opening-written'], [4, 'time-outside tempo-opens'], [8, 'time-keeps tempo-keeps'], [9, 'time-keeps stop-keeps pause-keeps'], [16, 'end-in-warp']]);
+    assert.deepStrictEqual(seen, [[0, 'opening-written'], [4, 'time-outside tempo_opens'], [8, 'time-keeps tempo-keeps'], [9, 'time-keeps stop-keeps pause_keeps'], [16, 'end_in_warp']]);
     assert.match(await page.text('wrongly'), /leaves 4 rows to be judged .*: beat 9 .*, beat 9\.5 .*, beat 10 .*, beat 10\.5 /);
 });
 

@@ -12,19 +12,19 @@ const lawsOf = (text) => arrowsTaken(engine, chartOf(text).read).map(({ laws }) 
 
 test('the charts that were once scored wrong take these arrows', () => {
     const start = '#BPMS:0=120,4=-120;#STOPS:8=';
-    const before = ['opening-written', 'time-outside tempo-opens'];
-    assert.deepStrictEqual(lawsOf(`${start}1;`), [...before, 'time-keeps stop-keeps pause-keeps', 'end-in-warp']);
-    assert.deepStrictEqual(lawsOf(`${start}2;`), [...before, 'time-keeps stop-keeps pause-keeps', 'end-in-warp']);
-    assert.deepStrictEqual(lawsOf(`${start}3;`), [...before, 'time-keeps stop-begins-again', 'end-in-warp']);
-    assert.deepStrictEqual(lawsOf('#BPMS:0=120,4=-120,8=120;#STOPS:10=0.5;'), [...before, 'time-keeps tempo-keeps', 'time-keeps stop-keeps pause-keeps', 'end-in-warp']);
+    const before = ['opening-written', 'time-outside tempo_opens'];
+    assert.deepStrictEqual(lawsOf(`${start}1;`), [...before, 'time-keeps stop-keeps pause_keeps', 'end_in_warp']);
+    assert.deepStrictEqual(lawsOf(`${start}2;`), [...before, 'time-keeps stop-keeps pause_keeps', 'end_in_warp']);
+    assert.deepStrictEqual(lawsOf(`${start}3;`), [...before, 'time-keeps stop_begins_again', 'end_in_warp']);
+    assert.deepStrictEqual(lawsOf('#BPMS:0=120,4=-120,8=120;#STOPS:10=0.5;'), [...before, 'time-keeps tempo-keeps', 'time-keeps stop-keeps pause_keeps', 'end_in_warp']);
 });
 
 test('every other arrow is told too', () => {
-    assert.deepStrictEqual(lawsOf('#BPMS:0=-120,4=60;#STOPS:8=1;'), ['opening-unwritten', 'time-outside tempo-written', 'time-outside stop-written', 'end-outside']);
-    assert.deepStrictEqual(lawsOf('#BPMS:0=120;#STOPS:4=-1,5=2;'), ['opening-written', 'time-outside stop-opens', 'time-keeps stop-ends', 'end-outside']);
-    assert.deepStrictEqual(lawsOf('#BPMS:0=120,9=60;#STOPS:4=-1;'), ['opening-written', 'time-outside stop-opens', 'time-ends tempo-written', 'end-outside']);
+    assert.deepStrictEqual(lawsOf('#BPMS:0=-120,4=60;#STOPS:8=1;'), ['opening_unwritten', 'time-outside tempo-written', 'time-outside stop-written', 'end-outside']);
+    assert.deepStrictEqual(lawsOf('#BPMS:0=120;#STOPS:4=-1,5=2;'), ['opening-written', 'time-outside stop_opens', 'time-keeps stop-ends', 'end-outside']);
+    assert.deepStrictEqual(lawsOf('#BPMS:0=120,9=60;#STOPS:4=-1;'), ['opening-written', 'time-outside stop_opens', 'time-ends tempo-written', 'end-outside']);
     // nothing is owed on beat 6, and the warp is open still
-    assert.deepStrictEqual(lawsOf('#BPMS:0=120,6=60;#STOPS:4=-1;'), ['opening-written', 'time-outside stop-opens', 'time-keeps tempo-keeps', 'end-in-warp']);
+    assert.deepStrictEqual(lawsOf('#BPMS:0=120,6=60;#STOPS:4=-1;'), ['opening-written', 'time-outside stop_opens', 'time-keeps tempo-keeps', 'end_in_warp']);
     const charts = [
         '#BPMS:0=120,4=-120;#STOPS:8=3;', '#BPMS:0=-120,4=60;#STOPS:8=1;', '#BPMS:0=120;#STOPS:4=-1,5=2;', '#BPMS:0=120,9=60;#STOPS:4=-1;', '#BPMS:0=120,4=-120,8=120;#STOPS:10=0.5;',
     ];

@@ -6,7 +6,7 @@
     const { axes: { short, marks, Beats }, incident: { arrowsTaken, compareMachines } } = root.Marrighentu;
     const LAST_BEAT = 16;
     // the law of the arrow that is not there
-    const NO_ARROW = 'pause-keeps';
+    const NO_ARROW = 'pause_keeps';
 
     // The notes on their beats, filled where they are judged, over the warps.
     function noteLine(width, lists, notes, cursor) {

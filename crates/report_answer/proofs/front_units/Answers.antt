@@ -1,0 +1,12 @@
+-- `report_answer::front_units` meets its contract, within the column and past its end. Assumes nothing.
+use mathlib.Core.Path.{sym}
+use native.Mathlib.Omega.{arith}
+use lib.Seq.{take_all, length-take-le}
+use borrow.Author.Rules.{rules}
+use Rattle.report_answer.proofs.front_units.Goals as goal
+
+pub slice_bounds-result-end : goal.slice_bounds-result-end
+slice_bounds-result-end c = sym (length-take-le c.args.count c.args.column.now (omega arith))
+
+pub returns : goal.returns
+returns c = sym (take_all c.args.count c.args.column.now (omega arith))
