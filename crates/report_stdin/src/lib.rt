@@ -1,7 +1,7 @@
 // The report program's input, read from standard input in pieces to its end.
 #![tactic(auto)]
 
-ghost use Rattle.std.specs.Prelude.{◌≡◌, ◌<◌, ◌^◌, false, IfOk};
+ghost use Rattle.std.specs.Prelude.{◌≡◌, ◌<◌, ◌^◌, false, IfOk, OnErr, pos, negsuc};
 ghost use Rattle.chart.specs.ChartColumns.{lent_columns, lent_speeds, LentChart, before, after};
 ghost use Rattle.report_form.specs.Form.{start, step_of, whole};
 ghost use Rattle.report_stdin.specs.Fed.{Fed};
@@ -51,6 +51,8 @@ fn answered(rt: &HostRuntime, got: isize, reading: Reading) -> Piece
 // What a read answered as one number: how many bytes it handed over, or below 0 where it failed.
 fn as_number(got: std::io::Result<usize>) -> isize
     requires { IfOk got (λ n. n < 2 ^ 63) }
+    ensures count_value { IfOk got (λ n. result ≡ pos n) }
+    ensures failure_value { OnErr got (result ≡ negsuc 0) }
 {
     match got {
         Ok(count) => count as isize,
