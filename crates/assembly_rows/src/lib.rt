@@ -170,7 +170,7 @@ pub fn lay_each(
     if count > columns::room_of(out_beats.len(), out_values.len()) {
         return columns::refused(limits::NO_ROOM);
     }
-    columns_each::copy_column_f32(quantised, out_beats);
+    columns::copy(quantised, out_beats);
     change_column_f32(meaning, values, out_values);
     Outcome {
         number: limits::TAKEN,
@@ -191,8 +191,8 @@ fn lay_turned(
         LaidPair 0 turned result out_beats.old out_beats.new out_values.old out_values.new }
 {
     let outcome = lay_each(quantised, values, meaning, out_beats, out_values);
-    columns::turn(&mut out_beats[..outcome.count]);
-    columns::turn(&mut out_values[..outcome.count]);
+    out_beats[..outcome.count].reverse();
+    out_values[..outcome.count].reverse();
     outcome
 }
 
@@ -201,7 +201,7 @@ fn falls_and_taken(beats: &[f64], values: &[f64], quantised: &[f32]) -> bool
     ensures { let tests = rows_number beats.now values.now in
         result ≡ pick (every_two falling quantised.now) (eqb tests 0) false }
 {
-    if columns_order::falls_throughout_f32(quantised) {
+    if columns_order::falls_throughout(quantised) {
         return limits::list_number(Kind::Beat, Kind::Value, beats, values) == limits::TAKEN;
     }
     false
@@ -219,7 +219,7 @@ fn assemble_quantised(
     ensures { RowsUntested meaning beats.now values.now result
         out_beats.old out_beats.new out_values.old out_values.new }
 {
-    if columns_order::rise_f32(quantised) {
+    if columns_order::rise(quantised) {
         return lay_each(quantised, values, meaning, out_beats, out_values);
     }
     if falls_and_taken(beats, values, quantised) {

@@ -106,7 +106,7 @@ fn assemble_any(
 pub fn rise_apart(beats: &[f32], values: &[f64]) -> bool
     ensures { result ≡ rise_apart beats.now values.now }
 {
-    if columns_order::rise_f32(beats) {
+    if columns_order::rise(beats) {
         return tidy_kept::all_apart(values);
     }
     false

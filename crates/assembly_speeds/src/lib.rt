@@ -46,7 +46,7 @@ fn lay_narrowed(
     columns_each::narrow_column(&beats[..n], out_beats);
     columns_each::narrow_column(&ratios[..n], out_ratios);
     columns_each::narrow_column(&delays[..n], out_delays);
-    columns::copy_bytes(&units[..n], out_units);
+    columns::copy(&units[..n], out_units);
     Outcome {
         number: limits::TAKEN,
         count: n,
@@ -201,10 +201,10 @@ fn lay_each(
     if count > room {
         return columns::refused(limits::NO_ROOM);
     }
-    columns_each::copy_column_f32(quantised, out_beats);
+    columns::copy(quantised, out_beats);
     columns_each::narrow_column(ratios, out_ratios);
     columns_each::narrow_column(delays, out_delays);
-    columns::copy_bytes(units, out_units);
+    columns::copy(units, out_units);
     Outcome {
         number: limits::TAKEN,
         count: count,

@@ -206,8 +206,8 @@ fn lay_differing(
         out_marks.old out_marks.new }
 {
     let off = columns_each::quantize_beats(beats, quantised);
-    if columns_order::rise_f32(quantised) {
-        columns::copy_bytes(marks, out_marks);
+    if columns_order::rise(quantised) {
+        columns::copy(marks, out_marks);
         let outcome = assembly_rows::lay_each(
             quantised,
             lengths,
@@ -279,7 +279,7 @@ fn lay_merged(
             out_lengths,
         );
         let count = warps.outcome.count;
-        columns::copy_bytes(&marks[..count], out_marks);
+        columns::copy(&marks[..count], out_marks);
         return warps;
     }
     let n = beats.len();

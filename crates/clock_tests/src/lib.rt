@@ -64,10 +64,10 @@ fn lists_number(
         delay_beats.now delay_values.now warp_beats.now warp_lengths.now in
         result ≡ timing_lists_number t }
 {
-    let tempos = limits_f32::list_number_f32(Kind::Beat, Kind::Tempo, tempo_beats, tempo_values);
-    let stops = limits_f32::list_number_f32(Kind::Beat, Kind::Pause, stop_beats, stop_values);
-    let delays = limits_f32::list_number_f32(Kind::Beat, Kind::Pause, delay_beats, delay_values);
-    let warps = limits_f32::list_number_f32(Kind::Beat, Kind::Value, warp_beats, warp_lengths);
+    let tempos = limits::list_number(Kind::Beat, Kind::Tempo, tempo_beats, tempo_values);
+    let stops = limits::list_number(Kind::Beat, Kind::Pause, stop_beats, stop_values);
+    let delays = limits::list_number(Kind::Beat, Kind::Pause, delay_beats, delay_values);
+    let warps = limits::list_number(Kind::Beat, Kind::Value, warp_beats, warp_lengths);
     let pauses = limits::lower_of(delays, warps);
     let others = limits::lower_of(stops, pauses);
     limits::lower_of(tempos, others)

@@ -30,27 +30,22 @@ pub fn room_of(first: usize, second: usize) -> usize
     if first < second { first } else { second }
 }
 
-// Each number of a column over the front of another, as far as both go.
-pub fn copy(from: &[f64], to: &mut [f64])
-    ensures { to.new ≡ laid_each (λ (x : Float). x) from.now to.old }
+// Each entry of a column over the front of another, as far as both go.
+pub fn copy<T: Copy>(from: &[T], to: &mut [T])
+    ensures { to.new ≡ laid_each (λ (x : T). x) from.now to.old }
 {
     let n = room_of(from.len(), to.len());
-    let mut i = 0;
-    while i < n {
-        to[i] = from[i];
-        i += 1;
-    }
+    to[..n].copy_from_slice(&from[..n]);
 }
 
-// The same of bytes: a column of units, or of marks.
-pub fn copy_bytes(from: &[u8], to: &mut [u8])
-    ensures { to.new ≡ laid_each (λ (x : ℕ). x) from.now to.old }
+// What a function makes of each entry of a column, over the front of another, as far as both go.
+pub fn lay_each<A: Copy, B: Copy, F: Fn(A) -> B>(from: &[A], to: &mut [B], make: F)
+    requires { F.IsAlwaysCallable make }
+    ensures { (of : A → B) → ((x : A) (y : B) → F.post make x y → y ≡ of x) → to.new ≡ laid_each of from.now to.old }
 {
     let n = room_of(from.len(), to.len());
-    let mut i = 0;
-    while i < n {
-        to[i] = from[i];
-        i += 1;
+    for i in 0..n {
+        to[i] = make(from[i]);
     }
 }
 
@@ -59,24 +54,7 @@ pub fn copy_turned(from: &[f64], to: &mut [f64])
     ensures { to.new ≡ laid_each (λ (x : Float). x) (reverse from.now) to.old }
 {
     let n = room_of(from.len(), to.len());
-    let mut i = 0;
-    while i < n {
+    for i in 0..n {
         to[i] = from[from.len() - 1 - i];
-        i += 1;
-    }
-}
-
-// Turns a column round in its place.
-pub fn turn(column: &mut [f32])
-    ensures { column.new ≡ reverse column.old }
-{
-    let n = column.len();
-    let mut i = 0;
-    while i < n / 2 {
-        let other = n - 1 - i;
-        let number = column[i];
-        column[i] = column[other];
-        column[other] = number;
-        i += 1;
     }
 }

@@ -31,12 +31,7 @@ fn quantized_f64(beat: f64) -> f64
 pub fn narrow_column(from: &[f64], to: &mut [f32])
     ensures { to.new ≡ laid_each narrow from.now to.old }
 {
-    let n = columns::room_of(from.len(), to.len());
-    let mut i = 0;
-    while i < n {
-        to[i] = ieee::narrow_f64(from[i]);
-        i += 1;
-    }
+    columns::lay_each(from, to, ieee::narrow_f64);
 }
 
 // ---- quantising: narrowed in one loop and moved to rows in the next, since one loop of both waits on the chain from one to the other
@@ -45,24 +40,14 @@ pub fn narrow_column(from: &[f64], to: &mut [f32])
 fn quantize_each(from: &[f64], to: &mut [f64])
     ensures { to.new ≡ laid_each quantized from.now to.old }
 {
-    let n = columns::room_of(from.len(), to.len());
-    let mut i = 0;
-    while i < n {
-        to[i] = quantized_f64(from[i]);
-        i += 1;
-    }
+    columns::lay_each(from, to, quantized_f64);
 }
 
 // Each f32 moved to its row.
 pub fn move_narrowed(from: &[f32], to: &mut [f64])
     ensures { to.new ≡ laid_each (λ (beat : Float). quantized32 beat) from.now to.old }
 {
-    let n = columns::room_of(from.len(), to.len());
-    let mut i = 0;
-    while i < n {
-        to[i] = std::num::f32_to_f64_with_nan(rows::quantize_beat_f32(from[i]));
-        i += 1;
-    }
+    columns::lay_each(from, to, |beat| std::num::f32_to_f64_with_nan(rows::quantize_beat_f32(beat)));
 }
 
 // By way of a column as long as the first.
@@ -74,21 +59,13 @@ fn quantize_by(from: &[f64], narrowed: &mut [f32], to: &mut [f64])
     move_narrowed(narrowed, to);
 }
 
-fn quantize_few(from: &[f64], to: &mut [f64])
-    requires { length from.now ≤ 64 }
+// By way of a column of N.
+fn quantize_within<const N: usize>(from: &[f64], to: &mut [f64])
+    requires { (length from.now ≤ N) × (N ≤ 1024) }
     ensures { to.new ≡ laid_each quantized from.now to.old }
 {
     let n = from.len();
-    let mut narrowed = [0.0f32; limits::FEW];
-    quantize_by(from, &mut narrowed[..n], to);
-}
-
-fn quantize_many(from: &[f64], to: &mut [f64])
-    requires { length from.now ≤ 1024 }
-    ensures { to.new ≡ laid_each quantized from.now to.old }
-{
-    let n = from.len();
-    let mut narrowed = [0.0f32; limits::MOST_ENTRIES];
+    let mut narrowed = [0.0f32; N];
     quantize_by(from, &mut narrowed[..n], to);
 }
 
@@ -97,11 +74,11 @@ pub fn quantize_column(from: &[f64], to: &mut [f64])
     ensures { to.new ≡ laid_each quantized from.now to.old }
 {
     if from.len() <= limits::FEW {
-        quantize_few(from, to);
+        quantize_within::<{ limits::FEW }>(from, to);
         return;
     }
     if from.len() <= limits::MOST_ENTRIES {
-        quantize_many(from, to);
+        quantize_within::<{ limits::MOST_ENTRIES }>(from, to);
         return;
     }
     quantize_each(from, to);
@@ -112,10 +89,8 @@ fn quantize_front(column: &mut [f32], n: usize)
     requires { n ≤ length column.old }
     ensures { column.new ≡ laid_each (λ (beat : Float). quantized32 beat) (take n column.old) column.old }
 {
-    let mut i = 0;
-    while i < n {
+    for i in 0..n {
         column[i] = rows::quantize_beat_f32(column[i]);
-        i += 1;
     }
 }
 
@@ -145,13 +120,11 @@ fn count_front(column: &mut [f32], n: usize) -> u32
     ensures { FrontCounted n column.old column.new result }
 {
     let mut off: u32 = 0;
-    let mut i = 0;
-    while i < n {
+    for i in 0..n {
         let beat = column[i];
         let moved = rows::quantize_beat_f32(beat);
         off = std::num::wrapping_add_u32(off, apart(beat, moved));
         column[i] = moved;
-        i += 1;
     }
     off
 }
@@ -182,19 +155,5 @@ pub fn with_moved(outcome: Outcome, moved: u32) -> ListOutcome
     ListOutcome {
         outcome: outcome,
         moved: counted,
-    }
-}
-
-// ---- copies
-
-// Each number as it is.
-pub fn copy_column_f32(from: &[f32], to: &mut [f32])
-    ensures { to.new ≡ laid_each (λ (x : Float). x) from.now to.old }
-{
-    let n = columns::room_of(from.len(), to.len());
-    let mut i = 0;
-    while i < n {
-        to[i] = from[i];
-        i += 1;
     }
 }

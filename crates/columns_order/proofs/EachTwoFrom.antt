@@ -8,6 +8,8 @@ use native.Mathlib.Omega.{arith}
 use lib.ListN.{length, drop, get_or, drop_of_length-le}
 use lib.Seq.{drop-cons}
 use lib.Ieee.{Float, nan}
+use mathlib.Core.Logic.{◌⊎◌, inl, inr}
+use Rattle.std.proofs.lemmas.Bool.{cases_lt}
 use Rattle.limits.specs.Numbers.{every}
 use Rattle.limits.specs.Neighbours.{neighbours, every_two}
 
@@ -27,13 +29,15 @@ module _ (column : List Float) (i : ℕ) where
     unfolding neighbours every
     two_fail h t = rw (two h, t)
 
-    pub two-last : i < length column → length column ≤ i + 1 → every_two test (drop i column) ≡ true
+    pub two_end : length column ≤ i + 1 → every_two test (drop i column) ≡ true
     unfolding neighbours every
-    two-last h l = rw (one h, drop_of_length-le column l)
+    two_end l = elim (cases_lt i (length column)) [ inl h ↦ last h l | inr past ↦ none past ]
+      where
+        last : i < length column → length column ≤ i + 1 → every_two test (drop i column) ≡ true
+        last h l = rw (one h, drop_of_length-le column l)
 
-    pub two_none : length column ≤ i → every_two test (drop i column) ≡ true
-    unfolding neighbours every
-    two_none l = rw (drop_of_length-le column l)
+        none : length column ≤ i → every_two test (drop i column) ≡ true
+        none l = rw (drop_of_length-le column l)
 
 -- ---- the same by what such a loop knows: that of the rest is that of the whole
 module _ (test : Float → Float → Bool) (column : List Float) (i : ℕ) (known : every_two test (drop i column) ≡ every_two test column) where
@@ -43,8 +47,5 @@ module _ (test : Float → Float → Bool) (column : List Float) (i : ℕ) (know
   pub fails-here : i + 1 < length column → test (get_or column i nan) (get_or column (i + 1) nan) ≡ false → false ≡ every_two test column
   fails-here h t = sym (two_fail column i test h t) ∙ known
 
-  pub at_last : i < length column → length column ≤ i + 1 → true ≡ every_two test column
-  at_last h l = sym (two-last column i test h l) ∙ known
-
-  pub at-end : length column ≤ i → true ≡ every_two test column
-  at-end l = sym (two_none column i test l) ∙ known
+  pub at_end : length column ≤ i + 1 → true ≡ every_two test column
+  at_end l = sym (two_end column i test l) ∙ known

@@ -8,80 +8,40 @@ ghost use Rattle.limits.specs.Numbers.{miss};
 ghost use Rattle.limits.specs.Neighbours.{every_two, not_falling};
 ghost use Rattle.columns_order.specs.Falling.{falling};
 
+use ieee::Real;
+
 // ---- by counting
 
-fn not_below(number: f64, next: f64) -> usize
-    ensures { result ≡ miss (λ (e : Float × Float). lt e.0 e.1) (number, next) }
+fn not_below<R: Real>(number: R, next: R) -> usize
+    ensures { result ≡ miss (λ (e : Float × Float). lt e.0 e.1) (R.number number, R.number next) }
 {
-    if number < next { 0 } else { 1 }
+    if number.is_below(next) { 0 } else { 1 }
 }
 
 // Whether each number is below the next.
-pub fn rise(column: &[f64]) -> bool
-    ensures { result ≡ every_two lt column.now }
+pub fn rise<R: Real>(column: &[R]) -> bool
+    ensures { result ≡ every_two lt (R.numbers column.now) }
 {
     let mut fail: usize = 0;
-    let mut i = 0;
-    while i + 1 < column.len() {
-        fail += not_below(column[i], column[i + 1]);
-        i += 1;
+    for i in 1..column.len() {
+        fail += not_below(column[i - 1], column[i]);
     }
     fail == 0
 }
 
-fn not_below_f32(narrow: f32, next: f32) -> usize
-    ensures { result ≡ miss (λ (e : Float × Float). lt e.0 e.1) (narrow, next) }
+fn above<R: Real>(number: R, next: R) -> usize
+    ensures { result ≡ miss (λ (e : Float × Float). not_falling e.0 e.1) (R.number number, R.number next) }
 {
-    if narrow < next { 0 } else { 1 }
-}
-
-// The same of f32.
-pub fn rise_f32(narrowed: &[f32]) -> bool
-    ensures { result ≡ every_two lt narrowed.now }
-{
-    let mut fail: usize = 0;
-    let mut i = 0;
-    while i + 1 < narrowed.len() {
-        fail += not_below_f32(narrowed[i], narrowed[i + 1]);
-        i += 1;
-    }
-    fail == 0
-}
-
-fn above(number: f64, next: f64) -> usize
-    ensures { result ≡ miss (λ (e : Float × Float). not_falling e.0 e.1) (number, next) }
-{
-    if next < number { 1 } else { 0 }
+    if next.is_below(number) { 1 } else { 0 }
 }
 
 // Whether no number is above the next.
-pub fn never_fall(column: &[f64]) -> bool
-    ensures { result ≡ every_two not_falling column.now }
+pub fn never_fall<R: Real>(column: &[R]) -> bool
+    ensures { result ≡ every_two not_falling (R.numbers column.now) }
 {
     let mut fail: usize = 0;
-    let mut i = 0;
-    while i + 1 < column.len() {
-        fail += above(column[i], column[i + 1]);
-        i += 1;
-    }
-    fail == 0
-}
-
-fn above_f32(narrow: f32, next: f32) -> usize
-    ensures { result ≡ miss (λ (e : Float × Float). not_falling e.0 e.1) (narrow, next) }
-{
-    if next < narrow { 1 } else { 0 }
-}
-
-// The same of f32.
-pub fn never_fall_f32(narrowed: &[f32]) -> bool
-    ensures { result ≡ every_two not_falling narrowed.now }
-{
-    let mut fail: usize = 0;
-    let mut i = 0;
-    while i + 1 < narrowed.len() {
-        fail += above_f32(narrowed[i], narrowed[i + 1]);
-        i += 1;
+    for i in 1..column.len() {
+        fail += above(column[i - 1], column[i]);
     }
     fail == 0
 }
@@ -89,39 +49,13 @@ pub fn never_fall_f32(narrowed: &[f32]) -> bool
 // ---- up to what fails
 
 // Whether each number is above the next. A column that rises early is told by few numbers.
-pub fn falls_throughout(column: &[f64]) -> bool
-    ensures { result ≡ every_two falling column.now }
+pub fn falls_throughout<R: Real>(column: &[R]) -> bool
+    ensures { result ≡ every_two falling (R.numbers column.now) }
 {
-    let mut i = 0;
-    while i < column.len() {
-        let next = i + 1;
-        if next < column.len() {
-            if column[next] < column[i] {
-                i = next;
-                continue;
-            }
+    for i in 1..column.len() {
+        if !column[i].is_below(column[i - 1]) {
             return false;
         }
-        return true;
-    }
-    true
-}
-
-// The same of f32.
-pub fn falls_throughout_f32(narrowed: &[f32]) -> bool
-    ensures { result ≡ every_two falling narrowed.now }
-{
-    let mut i = 0;
-    while i < narrowed.len() {
-        let next = i + 1;
-        if next < narrowed.len() {
-            if narrowed[next] < narrowed[i] {
-                i = next;
-                continue;
-            }
-            return false;
-        }
-        return true;
     }
     true
 }

@@ -5,59 +5,50 @@ ghost use Rattle.std.specs.Prelude.{◌≡◌, ℕ, get_or};
 ghost use Rattle.std.specs.Float.{nan};
 ghost use Rattle.columns.specs.Each.{laid_each};
 
-// ---- one place
+// An entry of a column that is read by places, and what stands for one beyond the column's end.
+pub trait Entry: Copy {
+    ghost beyond: { Self };
 
-// The number at a place; beyond the end a NaN.
-pub fn number_at(column: &[f64], place: usize) -> f64
-    ensures { result ≡ get_or column.now place nan }
-{
-    if place < column.len() {
-        column[place]
-    } else {
-        0.0 / 0.0
+    fn beyond() -> Self
+        ensures { result ≡ beyond };
+}
+
+impl Entry for f64 {
+    ghost beyond = { nan };
+
+    fn beyond() -> f64 {
+        f64::NAN
     }
 }
 
-// The byte at a place; beyond the end 0.
-pub fn byte_at(bytes: &[u8], place: usize) -> u8
-    ensures { result ≡ get_or bytes.now place 0 }
-{
-    if place < bytes.len() { bytes[place] } else { 0 }
-}
+// A unit, a mark or a fate.
+impl Entry for u8 {
+    ghost beyond = { 0 };
 
-// The place at a place; beyond the end 0.
-pub fn place_at(places: &[u32], at: usize) -> usize
-    ensures { result ≡ get_or places.now at 0 }
-{
-    if at < places.len() {
-        places[at] as usize
-    } else {
+    fn beyond() -> u8 {
         0
     }
 }
 
-// ---- many places, over the front of a room, as far as both go
+// A place.
+impl Entry for u32 {
+    ghost beyond = { 0 };
 
-pub fn gather(from: &[f64], places: &[u32], to: &mut [f64])
-    ensures { to.new ≡ laid_each (λ (p : ℕ). get_or from.now p nan) places.now to.old }
-{
-    let n = columns::room_of(places.len(), to.len());
-    let mut i = 0;
-    while i < n {
-        let place = places[i] as usize;
-        to[i] = number_at(from, place);
-        i += 1;
+    fn beyond() -> u32 {
+        0
     }
 }
 
-pub fn gather_bytes(from: &[u8], places: &[u32], to: &mut [u8])
-    ensures { to.new ≡ laid_each (λ (p : ℕ). get_or from.now p 0) places.now to.old }
+// The entry at a place.
+pub fn entry_at<T: Entry>(column: &[T], place: usize) -> T
+    ensures { result ≡ get_or column.now place T.beyond }
 {
-    let n = columns::room_of(places.len(), to.len());
-    let mut i = 0;
-    while i < n {
-        let place = places[i] as usize;
-        to[i] = byte_at(from, place);
-        i += 1;
-    }
+    column.get(place).copied().unwrap_or(T::beyond())
+}
+
+// The entries at many places, over the front of a room, as far as both go.
+pub fn gather<T: Entry>(from: &[T], places: &[u32], to: &mut [T])
+    ensures { to.new ≡ laid_each (λ (p : ℕ). get_or from.now p T.beyond) places.now to.old }
+{
+    columns::lay_each(places, to, |place| entry_at(from, place as usize));
 }

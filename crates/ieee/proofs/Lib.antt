@@ -38,3 +38,4 @@ pub mod ShiftedSize
 pub mod PatternValue
 pub mod SumBySigns
 pub mod NarrowOnce
+pub mod ColumnNumbers

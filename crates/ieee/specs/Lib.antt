@@ -4,3 +4,4 @@ pub mod Nearest
 pub mod Magnitude
 pub mod Constants
 pub mod inside
+pub mod Columns

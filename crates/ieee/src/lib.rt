@@ -1,7 +1,8 @@
 // A float to the nearest whole number of an i32, and an f64 narrowed to f32, as IEEE 754 has them.
 #![tactic(auto)]
 
-ghost use Rattle.std.specs.Prelude.{◌≡◌, false, not, T};
+ghost use Rattle.std.specs.Prelude.{◌≡◌, false, not, T, Float, List, map};
+ghost use Rattle.ieee.specs.Columns.{each_as_it_is};
 ghost use Rattle.std.specs.Float.Ieee.{is_nan, lt};
 ghost use Rattle.std.specs.Float.Ieee.Scale.{finite};
 ghost use Rattle.ieee.specs.Rounding.{rint, hold};
@@ -117,5 +118,56 @@ pub fn narrow_f64(x: f64) -> f32
         signed_as(narrowed(size(x)), x) as f32
     } else {
         0.0 / 0.0
+    }
+}
+
+// ---- the two formats
+
+// A number as columns have it, of the one format or the other.
+pub trait Real: Copy {
+    // Which number it is, and which a column of it has.
+    ghost number: { Self → Float };
+
+    ghost numbers: { List Self → List Float };
+
+    // As an f64: each number of an f32 is one of an f64.
+    fn widened(self) -> f64
+        ensures { result ≡ number self };
+
+    fn is_below(self, other: Self) -> bool
+        ensures { result ≡ lt (number self) (number other) };
+
+    ghost each: { (column : List Self) → numbers column ≡ map number column };
+}
+
+impl Real for f64 {
+    ghost number = { λ x. x };
+
+    ghost numbers = { λ column. column };
+
+    ghost each = { each_as_it_is };
+
+    fn widened(self) -> f64 {
+        self
+    }
+
+    fn is_below(self, other: f64) -> bool {
+        self < other
+    }
+}
+
+impl Real for f32 {
+    ghost number = { λ x. x };
+
+    ghost numbers = { λ column. column };
+
+    ghost each = { each_as_it_is };
+
+    fn widened(self) -> f64 {
+        std::num::f32_to_f64_with_nan(self)
+    }
+
+    fn is_below(self, other: f32) -> bool {
+        self < other
     }
 }

@@ -41,3 +41,13 @@ module _ {A : Type 0} (test : A → A → Bool) where
 
   pub two-end : (xs : List A) {i fail : ℕ} → length xs ≤ i + 1 → CountedTwo xs i fail → eqb fail 0 ≡ every_two test xs
   two-end xs h c = counted-end passes (omega (arith, neighbours-length xs)) c
+
+  -- ---- the same by a loop that has come to the later one of two
+  pub two-next : (none : A) (xs : List A) {i fail : ℕ} (one : ℕ) → 1 ≤ i → i < length xs → one ≡ miss passes (get_or xs (i - 1) none, get_or xs i none) → CountedTwo xs (i - 1) fail → CountedTwo xs (i + 1 - 1) (fail + one)
+  two-next none xs {i} one h k e c =
+      let back : i - 1 + 1 ≡ i = omega arith in
+      let on : i + 1 - 1 ≡ i - 1 + 1 = omega arith in
+      rw on (two-turn none xs one (rw back k) (rw back e) c)
+
+  pub two-last : (xs : List A) {i fail : ℕ} → 1 ≤ i → length xs ≤ i → CountedTwo xs (i - 1) fail → eqb fail 0 ≡ every_two test xs
+  two-last xs h l c = two-end xs (omega arith) c

@@ -7,6 +7,8 @@ ghost use Rattle.picks.specs.Pick.{pick};
 ghost use Rattle.limits.specs.Plain.{inside, within, plain};
 ghost use Rattle.limits.specs.Refusals.{lower, list_number, sizes_number};
 
+use ieee::Real;
+
 // ---- what a refusal answers
 
 // Nothing is refused.
@@ -244,33 +246,29 @@ pub fn worse_of(one: u32, other: u32) -> u32
     if one < other { other } else { one }
 }
 
-fn all_plain(range: Range, column: &[f64]) -> bool
-    ensures { result ≡ every (plain range) column.now }
+fn all_plain<R: Real>(range: Range, column: &[R]) -> bool
+    ensures { result ≡ every (plain range) (R.numbers column.now) }
 {
     let mut worst: u32 = 0;
-    let mut i = 0;
-    while i < column.len() {
-        worst = worse_of(worst, one_not_plain(range, column[i]));
-        i += 1;
+    for &x in column {
+        worst = worse_of(worst, one_not_plain(range, x.widened()));
     }
     worst == 0
 }
 
-fn all_in(range: Range, column: &[f64]) -> bool
-    ensures { result ≡ all_in range column.now }
+fn all_in<R: Real>(range: Range, column: &[R]) -> bool
+    ensures { result ≡ all_in range (R.numbers column.now) }
 {
     let mut outside: usize = 0;
-    let mut i = 0;
-    while i < column.len() {
-        outside += one_outside(range, column[i]);
-        i += 1;
+    for &x in column {
+        outside += one_outside(range, x.widened());
     }
     outside == 0
 }
 
 // Whether every number of a column is taken.
-pub fn column_taken(kind: Kind, column: &[f64]) -> bool
-    ensures { result ≡ all_in (range_of kind) column.now }
+pub fn column_taken<R: Real>(kind: Kind, column: &[R]) -> bool
+    ensures { result ≡ all_in (range_of kind) (R.numbers column.now) }
 {
     let range = range_of(kind);
     if all_plain(range, column) {
@@ -290,10 +288,8 @@ pub fn units_taken(units: &[u8]) -> bool
     ensures { result ≡ units_in units.now }
 {
     let mut outside: usize = 0;
-    let mut i = 0;
-    while i < units.len() {
-        outside += one_no_unit(units[i]);
-        i += 1;
+    for &unit in units {
+        outside += one_no_unit(unit);
     }
     outside == 0
 }
@@ -317,8 +313,8 @@ pub fn sizes_number(beats: usize, values: usize) -> u32
 }
 
 // What a list of beats and values answers by itself: 1, 2, 3 or 4, and 0 where it is taken.
-pub fn list_number(beat_kind: Kind, value_kind: Kind, beats: &[f64], values: &[f64]) -> u32
-    ensures { result ≡ list_number (range_of beat_kind) (range_of value_kind) beats.now values.now }
+pub fn list_number<R: Real>(beat_kind: Kind, value_kind: Kind, beats: &[R], values: &[R]) -> u32
+    ensures { result ≡ list_number (range_of beat_kind) (range_of value_kind) (R.numbers beats.now) (R.numbers values.now) }
 {
     if beats.len() > MOST_ENTRIES {
         return TOO_LONG;

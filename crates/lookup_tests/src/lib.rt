@@ -45,7 +45,7 @@ fn rows_rise(beats: &[f32]) -> bool
 fn rising_number(value_kind: Kind, beats: &[f32], values: &[f32]) -> u32
     ensures { result ≡ rising_number (range_of value_kind) beats.now values.now }
 {
-    let number = limits_f32::list_number_f32(Kind::Beat, value_kind, beats, values);
+    let number = limits::list_number(Kind::Beat, value_kind, beats, values);
     if number == limits::TAKEN {
         if rows_rise(beats) {
             return limits::TAKEN;

@@ -20,10 +20,10 @@ fn near_last(values: &[f64], kept: &[u32], count: usize, place: usize) -> bool
     if count == 0 {
         return false;
     }
-    let last = columns_places::place_at(kept, count - 1);
+    let last = columns_places::entry_at(kept, count - 1) as usize;
     tidy_kept::near(
-        columns_places::number_at(values, place),
-        columns_places::number_at(values, last),
+        columns_places::entry_at(values, place),
+        columns_places::entry_at(values, last),
     )
 }
 
@@ -93,7 +93,7 @@ fn lay_mended(
     let written = &kept[..count];
     columns_places::gather(beats, written, out_beats);
     columns_places::gather(values, written, out_values);
-    columns::copy_bytes(fates, out_fates);
+    columns::copy(fates, out_fates);
     Outcome {
         number: limits::TAKEN,
         count: count,

@@ -19,9 +19,9 @@ fn speed_at(ratios: &[f64], delays: &[f64], units: &[u8], place: usize) -> Speed
     ensures { speed_value_of result ≡ (get_or ratios.now place nan, (get_or delays.now place nan, get_or units.now place 0)) }
 {
     Speed {
-        ratio: columns_places::number_at(ratios, place),
-        delay: columns_places::number_at(delays, place),
-        unit: columns_places::byte_at(units, place),
+        ratio: columns_places::entry_at(ratios, place),
+        delay: columns_places::entry_at(delays, place),
+        unit: columns_places::entry_at(units, place),
     }
 }
 
@@ -41,7 +41,7 @@ fn near_last(
     if count == 0 {
         return false;
     }
-    let last = columns_places::place_at(kept, count - 1);
+    let last = columns_places::entry_at(kept, count - 1) as usize;
     let speed = speed_at(ratios, delays, units, place);
     let other = speed_at(ratios, delays, units, last);
     tidy_speeds_entries::near(speed, other)
@@ -136,8 +136,8 @@ fn lay_mended(
     columns_places::gather(beats, written, out_beats);
     columns_places::gather(ratios, written, out_ratios);
     columns_places::gather(delays, written, out_delays);
-    columns_places::gather_bytes(units, written, out_units);
-    columns::copy_bytes(fates, out_fates);
+    columns_places::gather(units, written, out_units);
+    columns::copy(fates, out_fates);
     Outcome {
         number: limits::TAKEN,
         count: count,

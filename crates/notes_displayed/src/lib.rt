@@ -28,9 +28,9 @@ pub struct Displayed {
 fn scroll_columns_number(scroll_beats: &[f32], scroll_ratios: &[f32]) -> u32
     ensures { result ≡ scroll_columns_number scroll_beats.now scroll_ratios.now }
 {
-    let number = limits_f32::list_number_f32(Kind::Beat, Kind::Value, scroll_beats, scroll_ratios);
+    let number = limits::list_number(Kind::Beat, Kind::Value, scroll_beats, scroll_ratios);
     if number == limits::TAKEN {
-        if columns_order::never_fall_f32(scroll_beats) {
+        if columns_order::never_fall(scroll_beats) {
             return limits::TAKEN;
         }
         return limits::NOT_RISING;

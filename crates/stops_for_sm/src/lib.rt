@@ -410,7 +410,7 @@ fn flat_number(list: &[f32]) -> u32
     if !is_even(list.len()) {
         return limits::UNEVEN;
     }
-    if limits_f32::column_taken_f32(Kind::Beat, list) {
+    if limits::column_taken(Kind::Beat, list) {
         return limits::TAKEN;
     }
     if !flat_beats_taken(list) {
@@ -445,10 +445,10 @@ fn lists_number(
         delay_beats.now delay_values.now warp_beats.now warp_lengths.now in
         result ≡ sources_number lists size }
 {
-    let tempos = limits_f32::list_number_f32(Kind::Beat, Kind::Tempo, tempo_beats, tempo_values);
+    let tempos = limits::list_number(Kind::Beat, Kind::Tempo, tempo_beats, tempo_values);
     let own = flat_number(stops);
-    let delays = limits_f32::list_number_f32(Kind::Beat, Kind::Pause, delay_beats, delay_values);
-    let warps = limits_f32::list_number_f32(Kind::Beat, Kind::Value, warp_beats, warp_lengths);
+    let delays = limits::list_number(Kind::Beat, Kind::Pause, delay_beats, delay_values);
+    let warps = limits::list_number(Kind::Beat, Kind::Value, warp_beats, warp_lengths);
     let room = work_number(size);
     let first = limits::lower_of(tempos, own);
     let others = limits::lower_of(delays, warps);

@@ -169,7 +169,7 @@ pub fn format_bpm_segments_f32_like_itg(beats: &[f32], tempos: &[f32], page: &mu
     ensures { let tests = tempo_text_tests beats.now tempos.now in
         TextLaid tests (tempo_text beats.now tempos.now) result page.old page.new }
 {
-    let number = limits_f32::list_number_f32(Kind::Beat, Kind::RawTempo, beats, tempos);
+    let number = limits::list_number::<f32>(Kind::Beat, Kind::RawTempo, beats, tempos);
     if number != limits::TAKEN {
         return columns::refused(number);
     }

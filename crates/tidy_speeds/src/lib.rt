@@ -81,7 +81,7 @@ fn lay_columns(
     tidy_by_rows::lay_on_rows(beats, out_beats);
     columns::copy(ratios, out_ratios);
     columns::copy(delays, out_delays);
-    columns::copy_bytes(units, out_units);
+    columns::copy(units, out_units);
 }
 
 fn tidy_rising(

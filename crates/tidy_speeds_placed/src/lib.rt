@@ -270,7 +270,7 @@ fn lay_rows(
     tidy_by_rows::lay_each_on_row(&beats[..count], out_beats);
     columns::copy(&ratios[..count], out_ratios);
     columns::copy(&delays[..count], out_delays);
-    columns::copy_bytes(&units[..count], out_units);
+    columns::copy(&units[..count], out_units);
 }
 
 fn tidy_in(

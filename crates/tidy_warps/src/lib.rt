@@ -101,7 +101,7 @@ fn tidy_in(
     let count = outcome.count;
     to_places(&tidied[..count], kept);
     columns_places::gather(lengths, &kept[..count], out_lengths);
-    columns_places::gather_bytes(marks, &kept[..count], out_marks);
+    columns_places::gather(marks, &kept[..count], out_marks);
     outcome
 }
 

@@ -5,8 +5,8 @@ use lib.Dec.{eqb}
 use borrow.Author.Rules.{rules}
 use Rattle.assembly_rows.proofs.falls_and_taken.Goals as goal
 
-pub returns-then-falls_throughout_f32 : goal.returns-then-falls_throughout_f32
-returns-then-falls_throughout_f32 c = rw (sym c.falls_throughout_f32.ensures ∙ c.if-falls_throughout_f32.true) (ap (λ (n : ℕ). eqb n 0) c.list_number.ensures)
+pub returns-then-falls_throughout : goal.returns-then-falls_throughout
+returns-then-falls_throughout c = rw (sym c.falls_throughout.ensures ∙ c.if-falls_throughout.true) (ap (λ (n : ℕ). eqb n 0) c.list_number.ensures)
 
 pub returns : goal.returns
-returns c = rw (sym c.falls_throughout_f32.ensures ∙ c.if-falls_throughout_f32.false)
+returns c = rw (sym c.falls_throughout.ensures ∙ c.if-falls_throughout.false)

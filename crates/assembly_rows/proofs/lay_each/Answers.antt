@@ -45,7 +45,7 @@ returns c =
     let long : length (each_by_itself given.meaning quantised values) ≡ length quantised = length-entries quantised (map change values) as_many in
     let room : length quantised ≤ min (length given.out_beats.now) (length given.out_values.now) = omega (arith, c.if-count-room_of.false, c.room_of.ensures) in
     taken _ (each_by_itself given.meaning quantised values) given.out_beats.now given.out_values.now (length quantised) _ _ (rw (eq-eqb (length quantised) (length values) even)) (omega (arith, long, room)) (sym long)
-    (c.copy_column_f32.ensures ∙ copied_over_front quantised given.out_beats.now (omega (arith, room))
+    (c.copy.ensures ∙ copied_over_front quantised given.out_beats.now (omega (arith, room))
     ∙ ap (λ (l : List Float). laid l given.out_beats.now) (sym (first-entries quantised (map change values) as_many)))
     (c.change_column_f32.ensures ∙ each_over_front change values given.out_values.now (omega (arith, room, even))
     ∙ ap (λ (l : List Float). laid l given.out_values.now) (sym (second-entries quantised (map change values) as_many)))

@@ -42,4 +42,4 @@ slice_bounds-turn-end-4 c = sym (length-take-le _ _ (in-values (goal.at.slice_bo
 pub returns : goal.returns
 returns c =
     let laying = c in
-    rw (c.turn.ensures, c.turn-2.ensures) (pair-turned (laid-pair (goal.at.returns laying).After-lay_each-outcome))
+    rw (c.reverse.ensures.after, c.reverse-2.ensures.after) (pair-turned (laid-pair (goal.at.returns laying).After-lay_each-outcome))

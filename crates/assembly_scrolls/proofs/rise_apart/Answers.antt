@@ -3,10 +3,10 @@ use Rattle.assembly_scrolls.specs.AssembledScrolls.{rise_apart}
 use borrow.Author.Rules.{rules}
 use Rattle.assembly_scrolls.proofs.rise_apart.Goals as goal
 
-pub returns-then-rise_f32 : goal.returns-then-rise_f32
+pub returns-then-rise : goal.returns-then-rise
 unfolding rise_apart
-returns-then-rise_f32 c = rw (← c.rise_f32.ensures, c.if-rise_f32.true) c.all_apart.ensures
+returns-then-rise c = rw (← c.rise.ensures, c.if-rise.true) c.all_apart.ensures
 
 pub returns : goal.returns
 unfolding rise_apart
-returns c = rw (← c.rise_f32.ensures, c.if-rise_f32.false)
+returns c = rw (← c.rise.ensures, c.if-rise.false)

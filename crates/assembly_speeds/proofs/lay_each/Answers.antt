@@ -26,8 +26,8 @@ returns c =
     let laid = each_laid (speed_columns given.quantised.now given.ratios.now given.delays.now given.units.now) c.requires (speed_columns given.out_beats.now given.out_ratios.now given.out_delays.now given.out_units.now) room in
     taken 0 (each_speed (speed_columns given.quantised.now given.ratios.now given.delays.now given.units.now)) given.out_beats.now given.out_ratios.now given.out_delays.now given.out_units.now (length given.quantised.now) _ _ _ _ refl (le_trans (le_of_eq long) room) (sym long)
     (record {
-      beats_are = c.copy_column_f32.ensures ∙ laid.beats_are;
+      beats_are = c.copy.ensures ∙ laid.beats_are;
       ratios_are = c.narrow_column.ensures ∙ laid.ratios_are;
       delays_are = c.narrow_column-2.ensures ∙ laid.delays_are;
-      units_are = c.copy_bytes.ensures ∙ laid.units_are;
+      units_are = c.copy-2.ensures ∙ laid.units_are;
     })

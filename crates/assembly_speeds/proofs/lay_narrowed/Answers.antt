@@ -38,8 +38,8 @@ slice_bounds-narrow_column-end-2 c = sym (length-take-le _ _ (omega (arith, c.ro
 pub slice_bounds-narrow_column-end-3 : goal.slice_bounds-narrow_column-end-3
 slice_bounds-narrow_column-end-3 c = sym (length-take-le _ _ (omega (arith, c.room_of-n.ensures, c.least_of-given.ensures)))
 
-pub slice_bounds-copy_bytes-end : goal.slice_bounds-copy_bytes-end
-slice_bounds-copy_bytes-end c = sym (length-take-le _ _ (omega (arith, c.room_of-n.ensures, c.least_of-given.ensures)))
+pub slice_bounds-copy-end : goal.slice_bounds-copy-end
+slice_bounds-copy-end c = sym (length-take-le _ _ (omega (arith, c.room_of-n.ensures, c.least_of-given.ensures)))
 
 pub returns : goal.returns
 returns c =
@@ -61,6 +61,6 @@ returns c =
           c.narrow_column-3.ensures ∙ laid-front narrow n given.delays.now given.out_delays.now own.2 out.2
           ∙ ap (λ (l : List Float). laid l given.out_delays.now) (sym (front-delays given.count n (speed_columns given.beats.now given.ratios.now given.delays.now given.units.now) few));
       units_are =
-          c.copy_bytes.ensures ∙ laid-front (λ (unit : ℕ). unit) n given.units.now given.out_units.now own.3 out.3
+          c.copy.ensures ∙ laid-front (λ (unit : ℕ). unit) n given.units.now given.out_units.now own.3 out.3
           ∙ ap (λ (l : List ℕ). laid l given.out_units.now) (map-id (take n given.units.now) ∙ sym (front-units given.count n (speed_columns given.beats.now given.ratios.now given.delays.now given.units.now) few));
     })

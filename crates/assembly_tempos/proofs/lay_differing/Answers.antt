@@ -26,12 +26,12 @@ beats-are c = let s = start c in c.quantize_beats-off.ensures.to_after ∙ laid-
 counted : (c : After-quantize_beats-off) → c.quantize_beats-off.result ≡ moved_in (start c).args.beats.now
 counted c = let s = start c in c.quantize_beats-off.ensures.value ∙ whole-counted s.args.beats.now s.args.quantised.now s.requires.quantised_len (short c)
 
-pub returns-then-rise_f32 : goal.returns-then-rise_f32
-returns-then-rise_f32 c =
+pub returns-then-rise : goal.returns-then-rise
+returns-then-rise c =
     let at = c in
-    let given = (start (goal.at.returns-then-rise_f32 at).After-quantize_beats-off).args in
+    let given = (start (goal.at.returns-then-rise at).After-quantize_beats-off).args in
     let up = c.with_moved.ensures in
-    rising-written given.beats.now given.lengths.now given.marks.now given.out_beats.now given.out_lengths.now given.out_marks.now (start (goal.at.returns-then-rise_f32 at).After-quantize_beats-off).requires.warps_fit (beats-are (goal.at.returns-then-rise_f32 at).After-quantize_beats-off) (sym c.rise_f32.ensures ∙ c.if-rise_f32.true) c.lay_each-outcome.ensures c.copy_bytes.ensures up.0 up.1 (counted (goal.at.returns-then-rise_f32 at).After-quantize_beats-off)
+    rising-written given.beats.now given.lengths.now given.marks.now given.out_beats.now given.out_lengths.now given.out_marks.now (start (goal.at.returns-then-rise at).After-quantize_beats-off).requires.warps_fit (beats-are (goal.at.returns-then-rise at).After-quantize_beats-off) (sym c.rise.ensures ∙ c.if-rise.true) c.lay_each-outcome.ensures c.copy.ensures up.0 up.1 (counted (goal.at.returns-then-rise at).After-quantize_beats-off)
 
 pub slice_bounds-lay_tidied-end : goal.slice_bounds-lay_tidied-end
 slice_bounds-lay_tidied-end c = sym (length-take-le _ _ c.if-n-le-FEW.true)

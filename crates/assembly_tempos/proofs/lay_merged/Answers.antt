@@ -11,8 +11,8 @@ use Rattle.assembly_tempos.proofs.lay_merged.Goals.{Else-all_the_same}
 short : (c : Else-all_the_same) → length c.args.beats.now ≤ 1024
 short c = let given = c.args in few-beats given.beats.now given.lengths.now given.marks.now given.out_beats.now given.out_lengths.now given.out_marks.now c.requires
 
-pub slice_bounds-copy_bytes-end : goal.slice_bounds-copy_bytes-end
-slice_bounds-copy_bytes-end c =
+pub slice_bounds-copy-end : goal.slice_bounds-copy-end
+slice_bounds-copy-end c =
     let warps = c.assemble_untested-warps in
     let given = c.args in
     sym (length-take-le _ _ (marks-inside given.beats.now given.lengths.now given.marks.now given.out_beats.now given.out_lengths.now given.out_marks.now c.requires warps.result warps.ensures.rows_untested))
@@ -21,7 +21,7 @@ pub returns-then-all_the_same : goal.returns-then-all_the_same
 returns-then-all_the_same c =
     let warps = c.assemble_untested-warps in
     let given = c.args in
-    front-written given.beats.now given.lengths.now given.marks.now given.out_beats.now given.out_lengths.now given.out_marks.now c.requires warps.result warps.ensures.rows_untested warps.ensures.moved_value (sym c.all_the_same.ensures ∙ c.if-all_the_same.true) c.copy_bytes.ensures
+    front-written given.beats.now given.lengths.now given.marks.now given.out_beats.now given.out_lengths.now given.out_marks.now c.requires warps.result warps.ensures.rows_untested warps.ensures.moved_value (sym c.all_the_same.ensures ∙ c.if-all_the_same.true) c.copy.ensures
 
 pub slice_bounds-lay_differing-end : goal.slice_bounds-lay_differing-end
 slice_bounds-lay_differing-end c = sym (length-take-le _ _ c.if-n-le-FEW.true)

@@ -7,10 +7,10 @@ pub returns : goal.returns
 unfolding timing_lists_number
 returns c =
     rw (
-      ← c.list_number_f32-tempos.ensures,
-      ← c.list_number_f32-stops.ensures,
-      ← c.list_number_f32-delays.ensures,
-      ← c.list_number_f32-warps.ensures,
+      ← c.list_number-tempos.ensures,
+      ← c.list_number-stops.ensures,
+      ← c.list_number-delays.ensures,
+      ← c.list_number-warps.ensures,
       ← c.lower_of-pauses.ensures,
       ← c.lower_of-others.ensures,
     )

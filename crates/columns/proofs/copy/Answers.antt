@@ -1,17 +1,16 @@
--- `columns::copy` writes each number, as far as both columns go. Assumes nothing.
-use mathlib.Core.Path.{refl}
-use Prim.Native.Nat.{◌-◌}
-use native.Mathlib.Omega.{arith}
-use lib.Ieee.{Float, nan}
-use Rattle.columns.proofs.LaidEach.{LayingEach, begun, turned, ended}
-use borrow.Author.Rules.{rules}
+-- `columns::copy` copies the front. Assumes nothing.
+use Rattle.std.proofs.Common.{ℕ, zero, suc, ◌≡◌, List, [], ◌∷◌, ◌++◌, length, take, drop, min, refl, ap, arith}
+use Rattle.columns.specs.Each.{laid_each}
 use Rattle.columns.proofs.copy.Goals as goal
 
-pub loop-i-init : goal.loop-i-init
-loop-i-init c = begun c.room_of-n.ensures
-
-pub loop-i-preserved : goal.loop-i-preserved
-loop-i-preserved c = turned c.loop-i.invariant nan (omega arith) refl
+copied : {A : Type 0} (n : ℕ) (from old : List A) → n ≡ min (length from) (length old) → take n from ++ drop n old ≡ laid_each (λ (x : A). x) from old
+unfolding laid_each
+copied zero [] old e = refl
+copied zero (x ∷ from) [] e = refl
+copied zero (x ∷ from) (y ∷ old) e = absurd (omega arith)
+copied (suc n) [] old e = absurd (omega arith)
+copied (suc n) (x ∷ from) [] e = absurd (omega arith)
+copied (suc n) (x ∷ from) (y ∷ old) e = ap (◌∷◌ x) (copied n from old (omega arith))
 
 pub returns : goal.returns
-returns c = ended c.loop-i.invariant (omega arith)
+returns g c = rw c.copy_from_slice.ensures.after (copied c.room_of-n.result c.args.from.now c.args.to.now c.room_of-n.ensures)

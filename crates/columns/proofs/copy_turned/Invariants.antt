@@ -13,5 +13,3 @@ use Rattle.columns.proofs.copy_turned.Given as goal
 abbrev pub invariant-loop-i : goal.invariant-loop-i
 invariant-loop-i l = LayingEach (λ (x : Float). x) (reverse l.from) l.initial.to l.n l.to l.i
 
-abbrev pub decreases-loop-i : goal.decreases-loop-i
-decreases-loop-i l = l.n - l.i

@@ -10,6 +10,3 @@ use Rattle.columns_each.proofs.count_front.Given as goal
 
 abbrev pub invariant-loop-i : goal.invariant-loop-i
 invariant-loop-i l = Rewriting move l.initial.column l.n l.column l.i × CountedRound on_grid32 (take l.n l.initial.column) l.i l.off
-
-abbrev pub decreases-loop-i : goal.decreases-loop-i
-decreases-loop-i l = l.n - l.i

@@ -7,6 +7,3 @@ use Rattle.columns_each.proofs.quantize_front.Given as goal
 
 abbrev pub invariant-loop-i : goal.invariant-loop-i
 invariant-loop-i l = Rewriting move l.initial.column l.n l.column l.i
-
-abbrev pub decreases-loop-i : goal.decreases-loop-i
-decreases-loop-i l = l.n - l.i

@@ -1,16 +1,8 @@
 -- `columns_order::falls_throughout` compares each number with the next. Assumes nothing.
-use Prim.Native.Nat.{◌-◌, ◌≤◌}
-use mathlib.Core.Path.{◌≡◌, refl}
-use native.Mathlib.Omega.{arith}
-use lib.ListN.{length, drop}
+use Rattle.std.proofs.Common.{◌≡◌, ◌-◌, drop}
 use Rattle.limits.specs.Neighbours.{every_two}
 use Rattle.columns_order.specs.Falling.{falling}
-use Rattle.columns_order.proofs.EachTwoFrom.{passes_on, fails-here, at_last, at-end}
-use borrow.Author.Rules.{rules}
 use Rattle.columns_order.proofs.falls_throughout.Given as goal
 
 abbrev pub invariant-loop-i : goal.invariant-loop-i
-invariant-loop-i l = (l.i ≤ length l.column) × (every_two falling (drop l.i l.column) ≡ every_two falling l.column)
-
-abbrev pub decreases-loop-i : goal.decreases-loop-i
-decreases-loop-i l = length l.column - l.i
+invariant-loop-i g l = let numbers = g.R.Real.numbers l.column in every_two falling (drop (l.i - 1) numbers) ≡ every_two falling numbers

@@ -1,22 +1,31 @@
 -- `columns_order::never_fall` counts the neighbours that fail. Assumes nothing.
-use Prim.Native.Nat.{◌+◌, ◌-◌, ◌≤◌}
-use native.Mathlib.Omega.{arith}
-use lib.ListN.{length, get_or}
-use lib.Ieee.{nan}
-use Rattle.limits.proofs.Every.{counted_start, miss-few}
+use Rattle.std.proofs.Common.{◌≡◌, ◌-◌, ◌<◌, ◌≤◌, length, get_or, arith}
+use Rattle.std.specs.Float.{nan}
+use Rattle.std.specs.Float.Ieee.{lt}
+use Rattle.ieee.proofs.ColumnNumbers.{numbers_long, number_at}
+use Rattle.limits.specs.Numbers.{miss}
 use Rattle.limits.specs.Neighbours.{neighbours, not_falling}
-use Rattle.limits.proofs.EachTwo.{passes, CountedTwo, two-turn, two-end}
-use borrow.Author.Rules.{rules}
+use Rattle.limits.proofs.Every.{counted_start, miss-few}
+use Rattle.limits.proofs.EachTwo.{passes, two-next, two-last}
 use Rattle.columns_order.proofs.never_fall.Goals as goal
 
+pub loop-i-init : goal.loop-i-init
+loop-i-init g c = counted_start (passes not_falling) (neighbours (g.R.Real.numbers c.args.column.now))
+
 pub overflow_add-fail : goal.overflow_add-fail
-overflow_add-fail c = record { fits = omega (arith, c.loop-i.invariant.1.few, c.above-fail.ensures, miss-few (passes not_falling) (get_or c.args.column.now c.loop-i.i nan, get_or c.args.column.now (c.loop-i.i + 1) nan)) }
+overflow_add-fail g c =
+    record { fits = omega (arith, c.loop-i.invariant.few, c.above-fail.ensures, miss-few (passes not_falling) (g.R.Real.number c.index-column-i.result, g.R.Real.number c.index-column-i-in-loop-i.result)) }
 
 pub loop-i-preserved : goal.loop-i-preserved
-loop-i-preserved c = (omega arith, two-turn not_falling nan c.args.column.now c.above-fail.result c.loop-i-test.true c.above-fail.ensures c.loop-i.invariant.1)
-
-pub loop-i-init : goal.loop-i-init
-loop-i-init c = (omega arith, counted_start (passes not_falling) (neighbours c.args.column.now))
+loop-i-preserved g c =
+    let each = g.met.R.Real.each in
+    let column = c.args.column.now in
+    let numbers = g.R.Real.numbers column in
+    let i = c.loop-i.i in
+    let before = number_at each column (i - 1) c.index-column-i.result nan (omega arith) c.index-column-i.is in
+    let here = number_at each column i c.index-column-i-in-loop-i.result nan c.loop-i-test.true c.index-column-i-in-loop-i.is in
+    let one : c.above-fail.result ≡ miss (passes not_falling) (get_or numbers (i - 1) nan, get_or numbers i nan) = rw (before, here) c.above-fail.ensures in
+    two-next not_falling nan numbers c.above-fail.result c.loop-i.auto.i (rw (numbers_long each column) c.loop-i-test.true) one c.loop-i.invariant
 
 pub returns : goal.returns
-returns c = two-end not_falling c.args.column.now c.loop-i-test.false c.loop-i.invariant.1
+returns g c = two-last not_falling (g.R.Real.numbers c.args.column.now) c.loop-i.auto.i (rw (numbers_long g.met.R.Real.each c.args.column.now) c.loop-i-test.false) c.loop-i.invariant

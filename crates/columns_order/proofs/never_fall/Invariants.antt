@@ -1,16 +1,9 @@
 -- `columns_order::never_fall` counts the neighbours that fail. Assumes nothing.
-use Prim.Native.Nat.{◌+◌, ◌-◌, ◌≤◌}
-use native.Mathlib.Omega.{arith}
-use lib.ListN.{length, get_or}
-use lib.Ieee.{nan}
-use Rattle.limits.proofs.Every.{counted_start, miss-few}
-use Rattle.limits.specs.Neighbours.{neighbours, not_falling}
-use Rattle.limits.proofs.EachTwo.{passes, CountedTwo, two-turn, two-end}
-use borrow.Author.Rules.{rules}
+use Rattle.std.proofs.Common.{◌-◌}
+use Rattle.std.specs.Float.Ieee.{lt}
+use Rattle.limits.specs.Neighbours.{not_falling}
+use Rattle.limits.proofs.EachTwo.{CountedTwo}
 use Rattle.columns_order.proofs.never_fall.Given as goal
 
 abbrev pub invariant-loop-i : goal.invariant-loop-i
-invariant-loop-i l = (l.i ≤ length l.column) × CountedTwo not_falling l.column l.i l.fail
-
-abbrev pub decreases-loop-i : goal.decreases-loop-i
-decreases-loop-i l = length l.column - l.i
+invariant-loop-i g l = CountedTwo not_falling (g.R.Real.numbers l.column) (l.i - 1) l.fail

@@ -1,16 +1,8 @@
 -- `columns_order::rise` counts the neighbours that fail. Assumes nothing.
-use Prim.Native.Nat.{◌+◌, ◌-◌, ◌≤◌}
-use native.Mathlib.Omega.{arith}
-use lib.ListN.{length, get_or}
-use lib.Ieee.{lt, nan}
-use Rattle.limits.proofs.Every.{counted_start, miss-few}
-use Rattle.limits.specs.Neighbours.{neighbours}
-use Rattle.limits.proofs.EachTwo.{passes, CountedTwo, two-turn, two-end}
-use borrow.Author.Rules.{rules}
+use Rattle.std.proofs.Common.{◌-◌}
+use Rattle.std.specs.Float.Ieee.{lt}
+use Rattle.limits.proofs.EachTwo.{CountedTwo}
 use Rattle.columns_order.proofs.rise.Given as goal
 
 abbrev pub invariant-loop-i : goal.invariant-loop-i
-invariant-loop-i l = (l.i ≤ length l.column) × CountedTwo lt l.column l.i l.fail
-
-abbrev pub decreases-loop-i : goal.decreases-loop-i
-decreases-loop-i l = length l.column - l.i
+invariant-loop-i g l = CountedTwo lt (g.R.Real.numbers l.column) (l.i - 1) l.fail

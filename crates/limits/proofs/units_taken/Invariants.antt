@@ -8,8 +8,6 @@ use Rattle.limits.proofs.Every.{Counted, miss-few, counted_start, counted-turn, 
 use borrow.Author.Rules.{rules}
 use Rattle.limits.proofs.units_taken.Given as goal
 
-abbrev pub invariant-loop-i : goal.invariant-loop-i
-invariant-loop-i l = Counted is_unit l.units l.i l.outside
+abbrev pub invariant-loop-unit : goal.invariant-loop-unit
+invariant-loop-unit l = Counted is_unit l.units l.unit-index l.outside
 
-abbrev pub decreases-loop-i : goal.decreases-loop-i
-decreases-loop-i l = length l.units - l.i

@@ -34,4 +34,4 @@ returns c =
     let asked = branch in
     let start = asked in
     let given = start.args in
-    all_laid (list_columns given.beats.now given.values.now) (list_columns given.out_beats.now given.out_values.now) given.out_fates.now start.requires.values_value start.requires.walked_beats asked.if-fates-out_fates.false (omega (arith, asked.room_of.ensures, branch.if-count-room_of.false)) beats.gather.ensures values.gather-2.ensures copied.copy_bytes.ensures
+    all_laid (list_columns given.beats.now given.values.now) (list_columns given.out_beats.now given.out_values.now) given.out_fates.now start.requires.values_value start.requires.walked_beats asked.if-fates-out_fates.false (omega (arith, asked.room_of.ensures, branch.if-count-room_of.false)) beats.gather.ensures values.gather-2.ensures copied.copy.ensures

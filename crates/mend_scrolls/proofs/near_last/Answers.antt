@@ -17,5 +17,5 @@ returns c =
     let last = here in
     let given = last.args in
     rw (ne_eqb given.count 0 last.if-count-eq0.false)
-    (c.near.ensures ∙ ap (λ (v : Float). near_to v c.number_at-2.result) here.number_at.ensures
-    ∙ ap (near_to (get_or given.values.now given.place nan)) (c.number_at-2.ensures ∙ ap (λ (p : ℕ). get_or given.values.now p nan) last.place_at-last.ensures))
+    (c.near.ensures ∙ ap (λ (v : Float). near_to v c.entry_at-2.result) here.entry_at.ensures
+    ∙ ap (near_to (get_or given.values.now given.place nan)) (c.entry_at-2.ensures ∙ ap (λ (p : ℕ). get_or given.values.now p nan) last.entry_at-last.ensures))

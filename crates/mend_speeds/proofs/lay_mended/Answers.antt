@@ -36,4 +36,4 @@ returns c =
     let asked = branch in
     let start = asked in
     let given = start.args in
-    all_laid (speed_columns given.beats.now given.ratios.now given.delays.now given.units.now) (speed_columns given.out_beats.now given.out_ratios.now given.out_delays.now given.out_units.now) given.out_fates.now start.requires.units_value start.requires.walked_beats asked.if-fates-out_fates.false (omega (arith, asked.least_of-room.ensures, branch.if-count-room.false)) beats.gather.ensures ratios.gather-2.ensures delays.gather-3.ensures units.gather_bytes.ensures copied.copy_bytes.ensures
+    all_laid (speed_columns given.beats.now given.ratios.now given.delays.now given.units.now) (speed_columns given.out_beats.now given.out_ratios.now given.out_delays.now given.out_units.now) given.out_fates.now start.requires.units_value start.requires.walked_beats asked.if-fates-out_fates.false (omega (arith, asked.least_of-room.ensures, branch.if-count-room.false)) beats.gather.ensures ratios.gather-2.ensures delays.gather-3.ensures units.gather-4.ensures copied.copy.ensures

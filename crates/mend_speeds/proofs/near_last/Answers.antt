@@ -22,4 +22,4 @@ returns c =
     rw (ne_eqb given.count 0 last.if-count-eq0.false)
     (c.near.ensures
     ∙ ap (λ (v : SpeedValue). near_speed v (speed_value_of c.speed_at-other.result)) (here.speed_at-speed.ensures ∙ sym (at given.place))
-    ∙ ap (near_speed (get_or values given.place no_speed)) (c.speed_at-other.ensures ∙ sym (at last.place_at-last.result) ∙ ap (λ (p : ℕ). get_or values p no_speed) last.place_at-last.ensures))
+    ∙ ap (near_speed (get_or values given.place no_speed)) (c.speed_at-other.ensures ∙ sym (at last.entry_at-last.result) ∙ ap (λ (p : ℕ). get_or values p no_speed) last.entry_at-last.ensures))

@@ -3,4 +3,4 @@ use borrow.Author.Rules.{rules}
 use Rattle.mend_speeds.proofs.speed_at.Goals as goal
 
 pub returns : goal.returns
-returns c = rw (c.number_at.ensures, c.number_at-2.ensures, c.byte_at.ensures)
+returns c = rw (c.entry_at.ensures, c.entry_at-2.ensures, c.entry_at-3.ensures)

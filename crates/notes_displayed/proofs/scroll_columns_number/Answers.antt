@@ -4,14 +4,14 @@ use Rattle.picks.proofs.Rules.{flags}
 use Rattle.std.proofs.Common.{rules}
 use Rattle.notes_displayed.proofs.scroll_columns_number.Goals as goal
 
-pub returns-then-never_fall_f32 : goal.returns-then-never_fall_f32
+pub returns-then-never_fall : goal.returns-then-never_fall
 unfolding scroll_columns_number
-returns-then-never_fall_f32 c = rw (← c.list_number_f32-number.ensures, ← c.never_fall_f32.ensures) (search flags depth 8)
+returns-then-never_fall c = rw (← c.list_number-number.ensures, ← c.never_fall.ensures) (search flags depth 8)
 
 pub returns-then-number-eq-TAKEN : goal.returns-then-number-eq-TAKEN
 unfolding scroll_columns_number
-returns-then-number-eq-TAKEN c = rw (← c.list_number_f32-number.ensures, ← c.never_fall_f32.ensures) (search flags depth 8)
+returns-then-number-eq-TAKEN c = rw (← c.list_number-number.ensures, ← c.never_fall.ensures) (search flags depth 8)
 
 pub returns : goal.returns
 unfolding scroll_columns_number
-returns c = rw (← c.list_number_f32-number.ensures) (search flags depth 8)
+returns c = rw (← c.list_number-number.ensures) (search flags depth 8)

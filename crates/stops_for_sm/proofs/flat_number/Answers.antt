@@ -23,12 +23,12 @@ returns-then-not-is_even c =
       sym c.is_even.ensures ∙ not-true c.is_even.result c.if-not-is_even.true-raw,
     )
 
-pub returns-then-column_taken_f32 : goal.returns-then-column_taken_f32
+pub returns-then-column_taken : goal.returns-then-column_taken
 unfolding flat_number
-returns-then-column_taken_f32 c =
+returns-then-column_taken c =
     let list = c.args.list.now in
-    let small = sym c.column_taken_f32.ensures ∙ c.if-column_taken_f32.true in
-    rw (le-ltb _ _ c.if-list-gt-MOST_FLAT.false, even (goal.at.returns-then-column_taken_f32 c).Else-not-is_even, small-beats list small, small-values list small)
+    let small = sym c.column_taken.ensures ∙ c.if-column_taken.true in
+    rw (le-ltb _ _ c.if-list-gt-MOST_FLAT.false, even (goal.at.returns-then-column_taken c).Else-not-is_even, small-beats list small, small-values list small)
 
 pub returns-then-not-flat_beats_taken : goal.returns-then-not-flat_beats_taken
 unfolding flat_number

@@ -7,10 +7,10 @@ pub returns : goal.returns
 unfolding sources_number
 returns c =
     rw (
-      ← c.list_number_f32-tempos.ensures,
+      ← c.list_number-tempos.ensures,
       ← c.flat_number-own.ensures,
-      ← c.list_number_f32-delays.ensures,
-      ← c.list_number_f32-warps.ensures,
+      ← c.list_number-delays.ensures,
+      ← c.list_number-warps.ensures,
       ← c.work_number-room.ensures,
       ← c.lower_of-first.ensures,
       ← c.lower_of-others.ensures,

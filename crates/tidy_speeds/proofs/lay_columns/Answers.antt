@@ -22,5 +22,5 @@ returns c =
       beats_are = c.lay_on_rows.ensures ∙ marked_over_front s.args.beats.now s.args.out_beats.now apart.allowed (omega (arith, room)) ∙ ap (λ (l : List Float). laid l s.args.out_beats.now) (sym fields.beats_are);
       ratios_are = c.copy.ensures ∙ copied_over_front s.args.ratios.now s.args.out_ratios.now (omega (arith, room, apart.ratios_even)) ∙ ap (λ (l : List Float). laid l s.args.out_ratios.now) (sym fields.ratios_are);
       delays_are = c.copy-2.ensures ∙ copied_over_front s.args.delays.now s.args.out_delays.now (omega (arith, room, apart.delays_even)) ∙ ap (λ (l : List Float). laid l s.args.out_delays.now) (sym fields.delays_are);
-      units_are = c.copy_bytes.ensures ∙ copied_over_front s.args.units.now s.args.out_units.now (omega (arith, room, apart.units_even)) ∙ ap (λ (l : List ℕ). laid l s.args.out_units.now) (sym fields.units_are);
+      units_are = c.copy-3.ensures ∙ copied_over_front s.args.units.now s.args.out_units.now (omega (arith, room, apart.units_even)) ∙ ap (λ (l : List ℕ). laid l s.args.out_units.now) (sym fields.units_are);
     }

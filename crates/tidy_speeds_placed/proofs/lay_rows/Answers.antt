@@ -25,8 +25,8 @@ slice_bounds-copy-end c = sym (length-take-le _ _ c.requires.count_in_bounds.1)
 pub slice_bounds-copy-end-2 : goal.slice_bounds-copy-end-2
 slice_bounds-copy-end-2 c = sym (length-take-le _ _ c.requires.count_in_bounds.2)
 
-pub slice_bounds-copy_bytes-end : goal.slice_bounds-copy_bytes-end
-slice_bounds-copy_bytes-end c = sym (length-take-le _ _ c.requires.count_in_bounds.3)
+pub slice_bounds-copy-end-3 : goal.slice_bounds-copy-end-3
+slice_bounds-copy-end-3 c = sym (length-take-le _ _ c.requires.count_in_bounds.3)
 
 pub returns : goal.returns
 returns c =
@@ -49,7 +49,7 @@ returns c =
           ∙ copied_over_front (take n s.args.delays.now) s.args.out_delays.now (omega (arith, length-take-le n s.args.delays.now s.requires.count_in_bounds.2, room))
           ∙ ap (λ (l : List Float). laid l s.args.out_delays.now) (sym (ap (λ (l : List SpeedEntry). map delay_of (map speed_on_row l)) front ∙ fields.delays_are));
       units_are =
-          c.copy_bytes.ensures
+          c.copy-3.ensures
           ∙ copied_over_front (take n s.args.units.now) s.args.out_units.now (omega (arith, length-take-le n s.args.units.now s.requires.count_in_bounds.3, room))
           ∙ ap (λ (l : List ℕ). laid l s.args.out_units.now) (sym (ap (λ (l : List SpeedEntry). map unit_of (map speed_on_row l)) front ∙ fields.units_are));
     }

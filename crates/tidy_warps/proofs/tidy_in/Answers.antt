@@ -52,11 +52,11 @@ slice_bounds-gather-end c = in-read (goal.at.slice_bounds-gather-end c).After-to
 pub slice_bounds-gather-end-2 : goal.slice_bounds-gather-end-2
 slice_bounds-gather-end-2 c = sym (length-take-le _ _ (in-read (goal.at.slice_bounds-gather-end-2 c).After-to_places))
 
-pub slice_bounds-gather_bytes-end : goal.slice_bounds-gather_bytes-end
-slice_bounds-gather_bytes-end c = in-read (goal.at.slice_bounds-gather_bytes-end c).After-to_places
+pub slice_bounds-gather-end-3 : goal.slice_bounds-gather-end-3
+slice_bounds-gather-end-3 c = in-read (goal.at.slice_bounds-gather-end-3 c).After-to_places
 
-pub slice_bounds-gather_bytes-end-2 : goal.slice_bounds-gather_bytes-end-2
-slice_bounds-gather_bytes-end-2 c = sym (length-take-le _ _ (in-read (goal.at.slice_bounds-gather_bytes-end-2 c).After-to_places))
+pub slice_bounds-gather-end-4 : goal.slice_bounds-gather-end-4
+slice_bounds-gather-end-4 c = sym (length-take-le _ _ (in-read (goal.at.slice_bounds-gather-end-4 c).After-to_places))
 
 pub returns : goal.returns
 returns c =
@@ -64,4 +64,4 @@ returns c =
     let tidied = read in
     let at = tidied in
     let given = (start (goal.at.returns at).After-room_of-room).args in
-    all_read given.beats.now given.lengths.now given.marks.now given.out_beats.now given.out_lengths.now given.out_marks.now (start (goal.at.returns at).After-room_of-room).requires.marks_value (numbered (goal.at.returns at).After-room_of-room) (least (goal.at.returns at).After-room_of-room) (start (goal.at.returns at).After-room_of-room).requires.numbers_len.1 tidied.tidy_row_segments-outcome.ensures given.kept.now (start (goal.at.returns at).After-room_of-room).requires.numbers_len.2 read.to_places.ensures c.gather.ensures c.gather_bytes.ensures
+    all_read given.beats.now given.lengths.now given.marks.now given.out_beats.now given.out_lengths.now given.out_marks.now (start (goal.at.returns at).After-room_of-room).requires.marks_value (numbered (goal.at.returns at).After-room_of-room) (least (goal.at.returns at).After-room_of-room) (start (goal.at.returns at).After-room_of-room).requires.numbers_len.1 tidied.tidy_row_segments-outcome.ensures given.kept.now (start (goal.at.returns at).After-room_of-room).requires.numbers_len.2 read.to_places.ensures c.gather.ensures c.gather-2.ensures
