@@ -1,4 +1,4 @@
-// The calls of `ieee` and `rows` under C names, for native programs to link: each by itself, and in a loop over lent columns.
+// The calls of `ieee` and `rows` under C names, for native programs to link: each by itself, and for each entry of a lent column.
 #![tactic(auto)]
 
 ghost use Rattle.std.specs.Prelude.{◌≡◌, not, Float};
@@ -98,19 +98,14 @@ pub extern "C" fn marrighentu_quantize_beat_f32(beat: f32) -> f32
     rows::quantize_beat_f32(beat)
 }
 
-// Each loop below writes the call's answer for entry i of its first list into entry i of its second, for every i that both have, and nothing else.
+// Each call below writes what the call above answers for entry i of its first list into entry i of its second, for every i that both have, and nothing else.
 
 // The nearest whole number of each f64.
 #[unsafe(no_mangle)]
 pub extern "C" fn marrighentu_each_lrint_f64(from: &[f64], to: &mut [i32])
     ensures { to.new ≡ laid_each (λ (x : Float). hold (rint x)) from.now to.old }
 {
-    let n = columns::room_of(from.len(), to.len());
-    let mut i = 0;
-    while i < n {
-        to[i] = ieee::lrint_f64(from[i]);
-        i += 1;
-    }
+    columns::lay_each(from, to, ieee::lrint_f64);
 }
 
 // The nearest whole number of each f32.
@@ -118,12 +113,7 @@ pub extern "C" fn marrighentu_each_lrint_f64(from: &[f64], to: &mut [i32])
 pub extern "C" fn marrighentu_each_lrint_f32(from: &[f32], to: &mut [i32])
     ensures { to.new ≡ laid_each (λ (x : Float). hold (rint x)) from.now to.old }
 {
-    let n = columns::room_of(from.len(), to.len());
-    let mut i = 0;
-    while i < n {
-        to[i] = ieee::lrint_f32(from[i]);
-        i += 1;
-    }
+    columns::lay_each(from, to, ieee::lrint_f32);
 }
 
 // The nearest f32 of each f64.
@@ -139,12 +129,7 @@ pub extern "C" fn marrighentu_each_narrow_f64(from: &[f64], to: &mut [f32])
 pub extern "C" fn marrighentu_each_note_row_to_beat(rows: &[i32], beats: &mut [f64])
     ensures { beats.new ≡ laid_each (beat_of binary64) rows.now beats.old }
 {
-    let n = columns::room_of(rows.len(), beats.len());
-    let mut i = 0;
-    while i < n {
-        beats[i] = rows::note_row_to_beat(rows[i]);
-        i += 1;
-    }
+    columns::lay_each(rows, beats, rows::note_row_to_beat);
 }
 
 // The f32 beat of each row.
@@ -152,12 +137,7 @@ pub extern "C" fn marrighentu_each_note_row_to_beat(rows: &[i32], beats: &mut [f
 pub extern "C" fn marrighentu_each_note_row_to_beat_f32(rows: &[i32], beats: &mut [f32])
     ensures { beats.new ≡ laid_each (beat_of binary32) rows.now beats.old }
 {
-    let n = columns::room_of(rows.len(), beats.len());
-    let mut i = 0;
-    while i < n {
-        beats[i] = rows::note_row_to_beat_f32(rows[i]);
-        i += 1;
-    }
+    columns::lay_each(rows, beats, rows::note_row_to_beat_f32);
 }
 
 // The row of each beat.
@@ -165,12 +145,7 @@ pub extern "C" fn marrighentu_each_note_row_to_beat_f32(rows: &[i32], beats: &mu
 pub extern "C" fn marrighentu_each_beat_to_note_row(beats: &[f64], rows: &mut [i32])
     ensures { rows.new ≡ laid_each (row binary64) beats.now rows.old }
 {
-    let n = columns::room_of(beats.len(), rows.len());
-    let mut i = 0;
-    while i < n {
-        rows[i] = rows::beat_to_note_row(beats[i]);
-        i += 1;
-    }
+    columns::lay_each(beats, rows, rows::beat_to_note_row);
 }
 
 // The row of each f32 beat.
@@ -178,12 +153,7 @@ pub extern "C" fn marrighentu_each_beat_to_note_row(beats: &[f64], rows: &mut [i
 pub extern "C" fn marrighentu_each_beat_to_note_row_f32(beats: &[f32], rows: &mut [i32])
     ensures { rows.new ≡ laid_each (row binary32) beats.now rows.old }
 {
-    let n = columns::room_of(beats.len(), rows.len());
-    let mut i = 0;
-    while i < n {
-        rows[i] = rows::beat_to_note_row_f32(beats[i]);
-        i += 1;
-    }
+    columns::lay_each(beats, rows, rows::beat_to_note_row_f32);
 }
 
 // Each beat moved to its row.
@@ -191,12 +161,7 @@ pub extern "C" fn marrighentu_each_beat_to_note_row_f32(beats: &[f32], rows: &mu
 pub extern "C" fn marrighentu_each_quantize_beat(beats: &[f64], quantised: &mut [f64])
     ensures { quantised.new ≡ laid_each quantized beats.now quantised.old }
 {
-    let n = columns::room_of(beats.len(), quantised.len());
-    let mut i = 0;
-    while i < n {
-        quantised[i] = rows::quantize_beat(beats[i]);
-        i += 1;
-    }
+    columns::lay_each(beats, quantised, rows::quantize_beat);
 }
 
 // Each f32 beat moved to its row.
@@ -204,10 +169,5 @@ pub extern "C" fn marrighentu_each_quantize_beat(beats: &[f64], quantised: &mut 
 pub extern "C" fn marrighentu_each_quantize_beat_f32(beats: &[f32], quantised: &mut [f32])
     ensures { quantised.new ≡ laid_each quantized32 beats.now quantised.old }
 {
-    let n = columns::room_of(beats.len(), quantised.len());
-    let mut i = 0;
-    while i < n {
-        quantised[i] = rows::quantize_beat_f32(beats[i]);
-        i += 1;
-    }
+    columns::lay_each(beats, quantised, rows::quantize_beat_f32);
 }
