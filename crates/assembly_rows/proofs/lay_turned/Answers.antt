@@ -27,17 +27,17 @@ in_beats_lem c = omega (arith, front_fits (laid-pair c), c.lay_each-outcome.auto
 in-values : (c : After-lay_each-outcome) → c.lay_each-outcome.result.count ≤ length c.lay_each-outcome.new.out_values
 in-values c = omega (arith, front_fits (laid-pair c), c.lay_each-outcome.auto.out_values)
 
-pub slice_bounds-turn-end : goal.slice_bounds-turn-end
-slice_bounds-turn-end c = in_beats_lem (goal.at.slice_bounds-turn-end c).After-lay_each-outcome
+pub slice_bounds-reverse-end : goal.slice_bounds-reverse-end
+slice_bounds-reverse-end c = in_beats_lem (goal.at.slice_bounds-reverse-end c).After-lay_each-outcome
 
-pub slice_bounds-turn-end-2 : goal.slice_bounds-turn-end-2
-slice_bounds-turn-end-2 c = sym (length-take-le _ _ (in_beats_lem (goal.at.slice_bounds-turn-end-2 c).After-lay_each-outcome))
+pub slice_bounds-reverse-end-2 : goal.slice_bounds-reverse-end-2
+slice_bounds-reverse-end-2 c = sym (length-take-le _ _ (in_beats_lem (goal.at.slice_bounds-reverse-end-2 c).After-lay_each-outcome))
 
-pub slice_bounds-turn-end-3 : goal.slice_bounds-turn-end-3
-slice_bounds-turn-end-3 c = in-values (goal.at.slice_bounds-turn-end-3 c).After-lay_each-outcome
+pub slice_bounds-reverse-end-3 : goal.slice_bounds-reverse-end-3
+slice_bounds-reverse-end-3 c = in-values (goal.at.slice_bounds-reverse-end-3 c).After-lay_each-outcome
 
-pub slice_bounds-turn-end-4 : goal.slice_bounds-turn-end-4
-slice_bounds-turn-end-4 c = sym (length-take-le _ _ (in-values (goal.at.slice_bounds-turn-end-4 c).After-lay_each-outcome))
+pub slice_bounds-reverse-end-4 : goal.slice_bounds-reverse-end-4
+slice_bounds-reverse-end-4 c = sym (length-take-le _ _ (in-values (goal.at.slice_bounds-reverse-end-4 c).After-lay_each-outcome))
 
 pub returns : goal.returns
 returns c =
