@@ -2,7 +2,7 @@
 #![tactic(auto)]
 
 ghost use Rattle.std.specs.Prelude.{◌≡◌, reverse, ℕ, min, Float};
-ghost use Rattle.columns.specs.Each.{laid_each};
+ghost use Rattle.columns.specs.Each.{laid_each, Computes};
 ghost use Rattle.columns.specs.Laying.{room_number, refused_by};
 
 // The refusal number, 0 where the call is taken, and how many entries were written.
@@ -41,7 +41,7 @@ pub fn copy<T: Copy>(from: &[T], to: &mut [T])
 // What a function makes of each entry of a column, over the front of another, as far as both go.
 pub fn lay_each<A: Copy, B: Copy, F: Fn(A) -> B>(from: &[A], to: &mut [B], make: F)
     requires { F.IsAlwaysCallable make }
-    ensures { (of : A → B) → ((x : A) (y : B) → F.post make x y → y ≡ of x) → to.new ≡ laid_each of from.now to.old }
+    ensures { (of : A → B) → Computes (F.post make) of → to.new ≡ laid_each of from.now to.old }
 {
     let n = room_of(from.len(), to.len());
     for i in 0..n {

@@ -3,5 +3,5 @@ pub mod Narrowing
 pub mod Nearest
 pub mod Magnitude
 pub mod Constants
-pub mod inside
 pub mod Columns
+pub mod inside
