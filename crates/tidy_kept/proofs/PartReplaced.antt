@@ -2,12 +2,12 @@
 use mathlib.Core.Path.{◌≡◌, refl, ap, sym, ◌∙◌}
 use mathlib.Core.Bool.{Bool, true, false}
 use borrow.Author.Tests.{lt-ltb, le-leb}
-use mathlib.Core.List.{List, [], ◌∷◌, ◌++◌, append_assoc, append-nil}
-use Prim.Native.Nat.{ℕ, zero, suc, ◌+◌, ◌-◌, ◌≤◌, ◌<◌}
+use mathlib.Core.List.{List, [], ◌∷◌, ◌++◌, append_assoc}
+use Prim.Native.Nat.{ℕ, suc, ◌+◌, ◌-◌, ◌≤◌, ◌<◌}
 use native.Mathlib.Omega.{arith}
 use native.Mathlib.Numerals.{add-one}
 use lib.ListN.{length, take, drop, set, get_or, length-set, length-take, length-append, length-drop, drop_of_length-le, take-append-drop}
-use lib.Seq.{set_split, take-take, take-set-le, take-set-lt, take-suc-set, drop-set-lt, get_or-take, get_or-drop, drop-cons, drop_at, take_at, length-take-le, take-suc, drop-drop, append_snoc}
+use lib.Seq.{set_split, take-take, take-set-le, take-set-lt, take-suc-set, drop-set-lt, get_or-take, get_or-drop, drop-cons, drop_at, length-take-le, append_snoc}
 use Rattle.order.specs.Order.{laid}
 use Rattle.order.proofs.LaidOverFront.{Laying, laying-more, laying-all}
 use Rattle.tidy_kept.specs.Changing.{spliced, spliced_in}
