@@ -1,5 +1,5 @@
 -- The entries of a list from a place on, laid one by one behind what is written. Assumes nothing.
-use Rattle.std.proofs.Common.{◌≡◌, ℕ, suc, ◌+◌, ◌<◌, ◌≤◌, List, [], ◌∷◌, map, length, get_or, set, sym, refl, ap, ◌∙◌, add-one, arith, length-set}
+use Rattle.std.proofs.Common.{◌≡◌, ℕ, ◌+◌, ◌<◌, ◌≤◌, List, [], ◌∷◌, map, length, get_or, set, ap, ◌∙◌, add-one, arith, length-set}
 use lib.Ieee.{Float, nan}
 use Rattle.rows.specs.Rows.{quantized32}
 use Rattle.order.specs.Entries.{first, second}

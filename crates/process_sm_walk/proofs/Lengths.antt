@@ -1,5 +1,5 @@
 -- How much a chart writes: tempos no more than given, or one; stops no more than given; warps at most one a change. Assumes nothing.
-use Rattle.std.proofs.Common.{◌≡◌, ℕ, zero, suc, ◌+◌, ◌-◌, ◌≤◌, max, Bool, true, false, List, [], ◌∷◌, length, drop, arith, length-drop}
+use Rattle.std.proofs.Common.{◌≡◌, ℕ, zero, suc, ◌+◌, ◌≤◌, max, Bool, true, false, List, [], ◌∷◌, length, drop, arith, length-drop}
 use native.Mathlib.Nat.{le-max_left, max-le}
 use lib.Ieee.{Float, eq, le}
 use Rattle.process_sm_machine.specs.declared.Change.{Change}

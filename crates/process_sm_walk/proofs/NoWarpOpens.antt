@@ -1,5 +1,5 @@
 -- Where no warp is open and none is opened, the walk writes either list by itself: each entry, its beat on its row. Assumes nothing.
-use Rattle.std.proofs.Common.{◌≡◌, ℕ, zero, suc, Bool, true, false, not, List, [], ◌∷◌, map, length, drop, refl, ap, arith}
+use Rattle.std.proofs.Common.{◌≡◌, ℕ, zero, suc, Bool, true, false, not, List, [], ◌∷◌, map, length, drop, refl, arith}
 use lib.Ieee.{Float, le, lt}
 use Rattle.ieee.specs.Constants.{plus_zero32}
 use Rattle.picks.specs.Pick.{pick}

@@ -1,5 +1,5 @@
 -- The opening: its two loops, and what holds after it. Assumes nothing.
-use Rattle.std.proofs.Common.{◌≡◌, ℕ, zero, suc, ◌+◌, ◌-◌, ◌<◌, ◌≤◌, max, Bool, true, false, List, [], ◌∷◌, length, get_or, drop, sym, refl, ap, ◌∙◌, add-one, arith}
+use Rattle.std.proofs.Common.{◌≡◌, ℕ, zero, suc, ◌+◌, ◌<◌, ◌≤◌, max, Bool, true, false, List, [], ◌∷◌, length, get_or, drop, sym, refl, ap, ◌∙◌, add-one, arith}
 use native.Mathlib.Nat.{max-zero, suc-max-suc}
 use lib.Ieee.{Float, binary32, sub, lt, le, eq, nan}
 use Rattle.ieee.specs.Constants.{plus_zero32, sixty32}

@@ -1,5 +1,5 @@
 -- The opening and the walk together. Assumes nothing.
-use Rattle.std.proofs.Common.{◌≡◌, ◌-◌, ◌≤◌, max, true, List, [], ◌∷◌, length, sym, refl, ap, ◌∙◌, arith}
+use Rattle.std.proofs.Common.{◌≡◌, ◌≤◌, max, true, List, [], ◌∷◌, length, sym, refl, ap, ◌∙◌, arith}
 use native.Mathlib.Nat.{le-max_left, le-max_right, max-le}
 use lib.Ieee.{Float, eq, of_bits}
 use Rattle.ieee.specs.Constants.{sixty32}

@@ -231,10 +231,8 @@ fn all_fit(tempos: &[f32], from: usize) -> bool
     ensures { result ≡ every fits (drop from tempos.now) }
 {
     let mut so_far = true;
-    let mut i = from;
-    while i < tempos.len() {
+    for i in from..tempos.len() {
         so_far = both(so_far, process_sm_machine::fits(tempos[i]));
-        i += 1;
     }
     so_far
 }
@@ -249,10 +247,8 @@ fn all_pause(stops: &[f32], from: usize) -> bool
     ensures { result ≡ every is_pause (drop from stops.now) }
 {
     let mut so_far = true;
-    let mut i = from;
-    while i < stops.len() {
+    for i in from..stops.len() {
         so_far = both(so_far, is_pause(stops[i]));
-        i += 1;
     }
     so_far
 }
@@ -288,12 +284,10 @@ fn lay_on_rows(
     ensures out_beats_after { out_beats.new ≡ laid_from written (map first (rowed beats.now values.now from)) out_beats.old }
     ensures out_values_after { out_values.new ≡ laid_from written (map second (rowed beats.now values.now from)) out_values.old }
 {
-    let mut i = from;
     let mut count = written;
-    while i < beats.len() {
+    for i in from..beats.len() {
         out_beats[count] = std::num::f32_to_f64_with_nan(rows::quantize_beat_f32(beats[i]));
         out_values[count] = std::num::f32_to_f64_with_nan(values[i]);
-        i += 1;
         count += 1;
     }
     count
@@ -425,17 +419,14 @@ fn opening_tempo(beats: &[f32], values: &[f32]) -> Opener
         result ≡ record { tempo = opening_tempo list; used = max (tempos_by0 list) 1 } }
 {
     let mut tempo = first_tempo(values);
-    let mut at = 0;
-    while at < beats.len() {
-        let beat = beats[at];
+    for (at, &beat) in beats.iter().enumerate() {
         if beat <= 0.0 {
             tempo = values[at];
-            at += 1;
         } else {
             return opener_at(tempo, at);
         }
     }
-    opener_at(tempo, at)
+    opener_at(tempo, beats.len())
 }
 
 // What the stops before 0 take off the offset, and the place of the next stop.
@@ -451,17 +442,17 @@ fn early_stops(beats: &[f32], values: &[f32]) -> Early
         result ≡ record { offset = offset_of list; used = stops_before list } }
 {
     let mut offset: f32 = 0.0;
-    let mut at = 0;
-    while at < beats.len() {
-        let beat = beats[at];
+    for (at, &beat) in beats.iter().enumerate() {
         if beat < 0.0 {
             offset = offset - values[at];
-            at += 1;
         } else {
             return Early { offset, used: at };
         }
     }
-    Early { offset, used: at }
+    Early {
+        offset,
+        used: beats.len(),
+    }
 }
 
 // ---- the whole
@@ -553,10 +544,8 @@ fn all_numbers(values: &[f32]) -> bool
     ensures { result ≡ every is_number values.now }
 {
     let mut so_far = true;
-    let mut i = 0;
-    while i < values.len() {
-        so_far = both(so_far, is_number(values[i]));
-        i += 1;
+    for &value in values {
+        so_far = both(so_far, is_number(value));
     }
     so_far
 }

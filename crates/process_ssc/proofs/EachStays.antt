@@ -6,7 +6,7 @@ use mathlib.Core.Bool.{Bool, true, false}
 use mathlib.Core.List.{List, [], ◌∷◌}
 use native.Mathlib.Omega.{arith}
 use lib.Dec.{T}
-use lib.IntN.{ℤ, pos, negsuc}
+use lib.IntN.{pos, negsuc}
 use lib.ListN.{length}
 use lib.Ieee.{Float, nan, inf, fin, up, down, lt, le, eq}
 use lib.Ieee.Fits.{down_pos}
@@ -15,7 +15,7 @@ use Rattle.ieee.specs.Constants.{plus_zero}
 use Rattle.picks.specs.Pick.{pick}
 use Rattle.ieee.proofs.FloatOrder.{lt_or_le, lt_le, lt_not_le, le_sizes}
 use Rattle.limits.specs.declared.Kind.TheVariants.{RawBeat, RawTempo}
-use Rattle.limits.specs.Numbers.{range_of, in_range, size_of, every}
+use Rattle.limits.specs.Numbers.{range_of, in_range, every}
 use Rattle.limits.proofs.ListTaken.{list-passes}
 use Rattle.limits.proofs.Every.{every_rest, every_more}
 use Rattle.order.specs.Entries.{entries}

@@ -2,7 +2,6 @@
 use mathlib.Core.Path.{◌≡◌, refl}
 use mathlib.Core.Bool.{Bool, true, false}
 use lib.Ieee.{Float, nan, inf, fin, lt, eq, le}
-use lib.Ieee.Scale.{finite}
 use Rattle.ieee.specs.Constants.{plus_zero}
 use Rattle.picks.specs.Pick.{pick}
 use Rattle.process_ssc.specs.Ssc.{stays_ssc}

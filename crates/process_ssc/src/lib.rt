@@ -37,14 +37,10 @@ fn count_stayed(beats: &[f64], values: &[f64]) -> usize
     ensures { result ≡ length (stayed_ssc beats.now values.now) }
 {
     let mut count = 0;
-    let mut i = 0;
-    while i < beats.len() {
-        if stays(beats[i], values[i]) {
+    for (i, &beat) in beats.iter().enumerate() {
+        if stays(beat, values[i]) {
             count += 1;
-            i += 1;
-            continue;
         }
-        i += 1;
     }
     count
 }
@@ -69,18 +65,13 @@ fn lay_some(beats: &[f64], values: &[f64], out_beats: &mut [f64], out_values: &m
     ensures out_values_after { out_values.new ≡ laid (map second (stayed_ssc beats.now values.now)) out_values.old }
 {
     let mut count = 0;
-    let mut i = 0;
-    while i < beats.len() {
-        let beat = beats[i];
+    for (i, &beat) in beats.iter().enumerate() {
         let value = values[i];
         if stays(beat, value) {
             out_beats[count] = rows::quantize_beat(beat);
             out_values[count] = value;
             count += 1;
-            i += 1;
-            continue;
         }
-        i += 1;
     }
     count
 }
@@ -114,10 +105,8 @@ fn beats_stay(beats: &[f64]) -> bool
     ensures { result ≡ every beat_stays beats.now }
 {
     let mut gone: usize = 0;
-    let mut i = 0;
-    while i < beats.len() {
-        gone += beat_goes(beats[i]);
-        i += 1;
+    for &beat in beats {
+        gone += beat_goes(beat);
     }
     gone == 0
 }
@@ -138,10 +127,8 @@ fn values_stay(values: &[f64]) -> bool
     ensures { result ≡ every value_stays values.now }
 {
     let mut gone: usize = 0;
-    let mut i = 0;
-    while i < values.len() {
-        gone += value_goes(values[i]);
-        i += 1;
+    for &value in values {
+        gone += value_goes(value);
     }
     gone == 0
 }

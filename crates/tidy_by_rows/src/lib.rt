@@ -20,14 +20,12 @@ pub fn in_order(beats: &[f64]) -> bool
     ensures { result ≡ never_falls row_key_at beats.now }
 {
     let mut last = 0;
-    let mut i = 0;
-    while i < beats.len() {
-        let row = rows::row_key(beats[i]);
+    for &beat in beats {
+        let row = rows::row_key(beat);
         if row < last {
             return false;
         }
         last = row;
-        i += 1;
     }
     true
 }
@@ -68,10 +66,8 @@ fn allowed_rise(beats: &[f64]) -> bool
     ensures { result ≡ every_two row_rises beats.now }
 {
     let mut fail: usize = 0;
-    let mut i = 0;
-    while i + 1 < beats.len() {
-        fail += not_later(beats[i], beats[i + 1]);
-        i += 1;
+    for i in 1..beats.len() {
+        fail += not_later(beats[i - 1], beats[i]);
     }
     fail == 0
 }
@@ -91,10 +87,8 @@ pub fn lay_on_rows(beats: &[f64], to: &mut [f64])
     ensures { to.new ≡ laid_each on_marked_row beats.now to.old }
 {
     let n = columns::room_of(beats.len(), to.len());
-    let mut i = 0;
-    while i < n {
-        to[i] = rows::beat_of_mark(rows::row_mark(beats[i]));
-        i += 1;
+    for (i, &beat) in beats[..n].iter().enumerate() {
+        to[i] = rows::beat_of_mark(rows::row_mark(beat));
     }
 }
 
@@ -103,9 +97,7 @@ pub fn lay_each_on_row(beats: &[f64], to: &mut [f64])
     ensures { to.new ≡ laid_each beat_on_row beats.now to.old }
 {
     let n = columns::room_of(beats.len(), to.len());
-    let mut i = 0;
-    while i < n {
-        to[i] = rows::on_row(beats[i]);
-        i += 1;
+    for (i, &beat) in beats[..n].iter().enumerate() {
+        to[i] = rows::on_row(beat);
     }
 }

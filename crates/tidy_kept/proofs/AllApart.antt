@@ -7,12 +7,11 @@ use native.Mathlib.Omega.{arith}
 use lib.Dec.{ltb}
 use lib.ListN.{length}
 use borrow.Author.Tests.{lt-ltb, ltb-true, not-true}
-use Rattle.picks.specs.Pick.{pick}
 use Rattle.limits.specs.Neighbours.{neighbours, every_two}
 use Rattle.limits.proofs.Every.{every_rest}
 use Rattle.limits.proofs.EachTwo.{passes}
 use Rattle.order.specs.Entries.{entries}
-use Rattle.tidy_kept.specs.Passing.{Waiting, writes, comes, entry_passed, still_written}
+use Rattle.tidy_kept.specs.Passing.{writes, entry_passed, still_written}
 use Rattle.tidy_kept.proofs.InOnePass.{state}
 
 module _ {B W : Type 0} (row : B → ℕ) (near : W → W → Bool) where

@@ -1,5 +1,5 @@
 -- Columns with a part replaced are the entries with that part replaced. Assumes nothing.
-use Prim.Native.Nat.{ℕ, zero, suc, ◌+◌, ◌-◌, ◌≤◌, ◌<◌}
+use Prim.Native.Nat.{ℕ, zero, suc, ◌≤◌, ◌<◌}
 use mathlib.Core.Path.{◌≡◌, refl, sym, ap, ◌∙◌}
 use mathlib.Core.Bool.{Bool, true, false}
 use mathlib.Core.List.{List, [], ◌∷◌, ◌++◌}
@@ -7,12 +7,11 @@ use native.Mathlib.Omega.{arith}
 use lib.ListN.{length, take, drop, length-append, length-take, length-drop}
 use lib.Seq.{take_at, length-take-le}
 use borrow.Author.Tests.{lt-ltb, le-leb}
-use Rattle.picks.specs.Pick.{pick}
 use Rattle.order.specs.Order.{laid, never_falls, may_precede}
 use Rattle.order.specs.Entries.{entries}
 use Rattle.order.proofs.Columns.{length-entries}
 use Rattle.tidy_kept.specs.Keeping.{row_of}
-use Rattle.tidy_kept.specs.Changing.{coming, spliced, spliced_in}
+use Rattle.tidy_kept.specs.Changing.{spliced, spliced_in}
 use Rattle.tidy_kept.specs.inside.Changed.{count_by}
 
 module _ {A : Type 0} where

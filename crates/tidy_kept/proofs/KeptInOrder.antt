@@ -1,13 +1,13 @@
 -- Entries in order: they are never refused with 6, what is kept of them rises strictly by row with no two neighbours near, and keeping it again gives it back. Assumes nothing.
 use Prim.Native.Nat.{ℕ, ◌≤◌, ◌<◌}
-use mathlib.Core.Path.{◌≡◌, refl, sym, ap, ◌∙◌}
+use mathlib.Core.Path.{◌≡◌, refl}
 use mathlib.Core.Bool.{Bool, true, false}
 use mathlib.Core.List.{List, [], ◌∷◌, reverse, reverse_aux}
 use mathlib.Core.Logic.{inl, inr}
 use native.Mathlib.Omega.{arith}
 use borrow.Author.Tests.{lt-ltb, le-ltb}
 use Rattle.picks.specs.Pick.{pick}
-use Rattle.order.specs.Order.{run, never_falls, NeverFalls, From, Above, Rises}
+use Rattle.order.specs.Order.{run, never_falls, NeverFalls, From}
 use Rattle.order.proofs.Compare.{below?}
 use Rattle.order.proofs.OrderedList.{never_falls_yes}
 use Rattle.tidy_kept.specs.Keeping.{row_of, nearby, on_last_row, keep, kept_of, keep_number}

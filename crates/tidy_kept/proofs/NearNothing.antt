@@ -1,7 +1,7 @@
 -- No value is near a NaN. Assumes nothing.
 use mathlib.Core.Path.{◌≡◌, refl}
 use mathlib.Core.Bool.{false}
-use lib.Ieee.{Float, nan, inf, fin, binary64, lt, sub, add, neg, sum, of_bits}
+use lib.Ieee.{Float, nan, inf, fin, lt, sub, add, neg}
 use Rattle.tidy_kept.specs.Near.{near_to}
 
 pub near-nothing : (v : Float) → near_to v nan ≡ false

@@ -2,14 +2,14 @@
 use Prim.Native.Nat.{ℕ, zero, suc, ◌+◌, ◌-◌, ◌≤◌, ◌<◌}
 use mathlib.Core.Path.{◌≡◌, refl, sym, ap, ◌∙◌}
 use mathlib.Core.Bool.{Bool, true, false, not}
-use mathlib.Core.List.{List, [], ◌∷◌, ◌++◌, reverse, reverse_aux}
+use mathlib.Core.List.{List, [], ◌∷◌, reverse, reverse_aux}
 use native.Mathlib.Omega.{arith}
 use lib.ListN.{length, take, drop}
-use lib.Dec.{ltb, leb, eqb}
+use lib.Dec.{eqb}
 use borrow.Author.Tests.{lt-leb, le-leb, ne_eqb}
 use Rattle.picks.specs.Pick.{pick}
-use Rattle.order.specs.Order.{never_falls, may_precede, NeverFalls, From}
-use Rattle.order.proofs.OrderedList.{never_falls_yes, never_falls_test}
+use Rattle.order.specs.Order.{never_falls, may_precede, NeverFalls}
+use Rattle.order.proofs.OrderedList.{never_falls_yes}
 use Rattle.tidy_kept.specs.Keeping.{row_of, nearby, moved_to, at_front, on_row_of, previous, cleared, settled, amid, placed_between, placed_after}
 use Rattle.tidy_kept.proofs.PlacedByPlace.{Reaches, walked, reaches-rest, near_at, against_at, change_by, near-behind, change-falls}
 

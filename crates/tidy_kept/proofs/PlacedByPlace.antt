@@ -4,17 +4,16 @@ use mathlib.Core.Path.{◌≡◌, refl, sym, ap, ◌∙◌}
 use mathlib.Core.Bool.{Bool, true, false}
 use mathlib.Core.List.{List, [], ◌∷◌, ◌++◌, reverse, reverse_aux}
 use native.Mathlib.Omega.{arith}
-use native.Mathlib.Numerals.{add-one}
 use lib.ListN.{length, take, drop, get_or, length-reverse_aux, length-reverse, length-drop, take-append-drop}
 use lib.Seq.{length-take-le}
-use lib.Dec.{ltb, leb, eqb}
+use lib.Dec.{ltb, eqb}
 use borrow.Author.Tests.{lt-ltb, le-ltb, le-leb, lt-leb, ne_eqb}
 use Rattle.picks.specs.Pick.{pick}
 use mathlib.Core.Logic.{inl, inr}
 use Rattle.order.proofs.Compare.{below?}
 use Rattle.tidy_kept.specs.declared.Change.{Change}
-use Rattle.tidy_kept.specs.Keeping.{row_of, nearby, moved_to, at_front, on_row_of, previous, cleared, settled, amid, placed_between, placed_after}
-use Rattle.tidy_kept.specs.Changing.{coming, spliced, change, cut, branch_of, change_where, change_of}
+use Rattle.tidy_kept.specs.Keeping.{nearby, moved_to, at_front, on_row_of, previous, cleared, settled, amid, placed_between, placed_after}
+use Rattle.tidy_kept.specs.Changing.{coming, spliced, cut, branch_of, change_where, change_of}
 
 -- ---- a list whose front is given nearest first
 module _ {A : Type 0} where

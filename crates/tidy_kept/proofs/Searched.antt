@@ -1,20 +1,18 @@
 -- A search by halves in rows that never fall finds how many are up to one; and its loop. Assumes nothing.
 use Prim.Native.Nat.{ℕ, zero, suc, ◌+◌, ◌-◌, ◌/◌, ◌≤◌, ◌<◌}
-use mathlib.Core.Path.{◌≡◌, refl, sym, ap, ◌∙◌}
+use mathlib.Core.Path.{◌≡◌, refl, sym, ◌∙◌}
 use mathlib.Core.Bool.{Bool, true, false}
 use mathlib.Core.List.{List, [], ◌∷◌}
 use mathlib.Core.Logic.{inl, inr}
 use native.Mathlib.Omega.{arith}
-use lib.Dec.{ltb, leb}
+use lib.Dec.{leb}
 use lib.ListN.{length, get_or, take}
 use lib.Seq.{length-take-le}
 use borrow.Author.Tests.{lt-ltb, le-ltb, le-leb, lt-leb}
-use Rattle.picks.specs.Pick.{pick}
 use Rattle.order.specs.Order.{never_falls, NeverFalls, From}
 use Rattle.order.specs.Entries.{entries}
 use Rattle.order.proofs.Compare.{below?}
 use Rattle.order.proofs.OrderedList.{never_falls_yes}
-use Rattle.order.proofs.Columns.{length-entries}
 use Rattle.tidy_kept.specs.Searching.{UpTo, halved, place_after}
 use Rattle.tidy_kept.proofs.PlacedByPlace.{Reaches}
 

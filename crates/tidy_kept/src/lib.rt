@@ -26,10 +26,8 @@ pub fn all_apart(values: &[f64]) -> bool
     ensures { result ≡ every_two far_from values.now }
 {
     let mut fail: usize = 0;
-    let mut i = 0;
-    while i + 1 < values.len() {
-        fail += one_near(values[i], values[i + 1]);
-        i += 1;
+    for i in 1..values.len() {
+        fail += one_near(values[i - 1], values[i]);
     }
     fail == 0
 }

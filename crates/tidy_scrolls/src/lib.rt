@@ -105,18 +105,13 @@ fn count_kept(beats: &[f64], values: &[f64]) -> usize
 {
     let mut held = none_held();
     let mut count = 0;
-    let mut i = 0;
-    while i < beats.len() {
-        let row = rows::row_key(beats[i]);
-        let next = pass(held, row, beats[i], values[i]);
+    for (i, &beat) in beats.iter().enumerate() {
+        let row = rows::row_key(beat);
+        let next = pass(held, row, beat, values[i]);
         if writes(held, row) {
             count += 1;
-            held = next;
-            i += 1;
-            continue;
         }
         held = next;
-        i += 1;
     }
     if held.waits {
         return count + 1;
@@ -133,20 +128,15 @@ fn lay_kept(beats: &[f64], values: &[f64], out_beats: &mut [f64], out_values: &m
 {
     let mut held = none_held();
     let mut count = 0;
-    let mut i = 0;
-    while i < beats.len() {
-        let row = rows::row_key(beats[i]);
-        let next = pass(held, row, beats[i], values[i]);
+    for (i, &beat) in beats.iter().enumerate() {
+        let row = rows::row_key(beat);
+        let next = pass(held, row, beat, values[i]);
         if writes(held, row) {
             out_beats[count] = rows::on_row(held.beat);
             out_values[count] = held.value;
             count += 1;
-            held = next;
-            i += 1;
-            continue;
         }
         held = next;
-        i += 1;
     }
     if held.waits {
         out_beats[count] = rows::on_row(held.beat);
@@ -313,16 +303,14 @@ fn place_all(
         count: 0,
         falls: false,
     };
-    let mut i = 0;
-    while i < beats.len() {
+    for (i, &beat) in beats.iter().enumerate() {
         if kept.falls {
             return Placed {
                 count: 0,
                 falls: true,
             };
         }
-        kept = add_scroll_segment_slow(kept_beats, kept_values, kept.count, beats[i], values[i]);
-        i += 1;
+        kept = add_scroll_segment_slow(kept_beats, kept_values, kept.count, beat, values[i]);
     }
     Placed {
         count: kept.count,

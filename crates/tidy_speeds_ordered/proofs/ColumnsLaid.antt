@@ -1,10 +1,9 @@
 -- Of columns that are apart every entry is kept, and the entries on their rows are the columns, beats moved to their rows. Assumes nothing.
-use Prim.Native.Nat.{ℕ, ◌<◌}
-use mathlib.Core.Path.{◌≡◌, refl, sym, ap, ◌∙◌}
-use mathlib.Core.Bool.{Bool, true, false}
+use Prim.Native.Nat.{ℕ}
+use mathlib.Core.Path.{◌≡◌, refl}
+use mathlib.Core.Bool.{true, false}
 use mathlib.Core.List.{List, [], ◌∷◌}
 use native.Mathlib.Omega.{arith}
-use lib.ListN.{length}
 use lib.Ieee.{Float}
 use borrow.Author.Tests.{ltb-true, not-true}
 use Rattle.limits.specs.Neighbours.{neighbours, every_two}
@@ -15,7 +14,7 @@ use Rattle.rows.specs.RowKey.{row_key_at}
 use Rattle.tidy_kept.specs.Near.{near_to, far_from}
 use Rattle.tidy_kept.proofs.AllApart.{Apart}
 use Rattle.tidy_by_rows.specs.ByMarks.{row_rises}
-use Rattle.tidy_speeds_entries.specs.Speed.{near_speed, no_speed, speed_entries}
+use Rattle.tidy_speeds_entries.specs.Speed.{near_speed, speed_entries}
 use Rattle.tidy_speeds_entries.proofs.FieldsOfSpeeds.{Even, Fields, speed-fields}
 use Rattle.tidy_speeds_ordered.specs.inside.Apart.{ColumnsApart}
 use Rattle.tidy_speeds_ordered.specs.OrderedSpeeds.{kept_speeds}

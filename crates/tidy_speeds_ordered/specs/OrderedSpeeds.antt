@@ -1,5 +1,5 @@
 -- What the one pass over speeds in order writes. Definitions only.
-use Rattle.std.specs.Prelude.{ℕ, false, List, map, Float}
+use Rattle.std.specs.Prelude.{false, List, map, Float}
 use Rattle.ieee.specs.Constants.{plus_zero}
 use Rattle.rows.specs.RowKey.{row_key_at}
 use Rattle.tidy_kept.specs.Passing.{Waiting, still_written}

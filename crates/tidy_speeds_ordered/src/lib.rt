@@ -121,18 +121,13 @@ fn count_kept(beats: &[f64], ratios: &[f64], delays: &[f64], units: &[u8], n: us
 {
     let mut held = none_held();
     let mut count = 0;
-    let mut i = 0;
-    while i < n {
+    for i in 0..n {
         let row = rows::row_key(beats[i]);
         let next = pass(held, row, beats[i], speed_at(ratios, delays, units, i));
         if writes(held, row) {
             count += 1;
-            held = next;
-            i += 1;
-            continue;
         }
         held = next;
-        i += 1;
     }
     if held.waits {
         return count + 1;
@@ -183,8 +178,7 @@ fn lay_kept(
 {
     let mut held = none_held();
     let mut count = 0;
-    let mut i = 0;
-    while i < n {
+    for i in 0..n {
         let row = rows::row_key(beats[i]);
         let next = pass(held, row, beats[i], speed_at(ratios, delays, units, i));
         if writes(held, row) {
@@ -193,12 +187,8 @@ fn lay_kept(
                 out_beats, out_ratios, out_delays, out_units, count, held.beat, waiting,
             );
             count += 1;
-            held = next;
-            i += 1;
-            continue;
         }
         held = next;
-        i += 1;
     }
     if held.waits {
         let waiting = held.value;

@@ -224,8 +224,7 @@ fn place_all(
         count: 0,
         falls: false,
     };
-    let mut i = 0;
-    while i < n {
+    for i in 0..n {
         if kept.falls {
             return Placed {
                 count: 0,
@@ -242,7 +241,6 @@ fn place_all(
             beats[i],
             value,
         );
-        i += 1;
     }
     Placed {
         count: kept.count,

@@ -10,12 +10,8 @@ fn open_place(column: &mut [f64], n: usize, at: usize, x: f64)
     requires { (at ≤ n) × (n < length column.old) }
     ensures { column.new ≡ laid (take at (take n column.old) ++ (x ∷ drop at (take n column.old))) column.old }
 {
-    let mut i = n;
-    while at < i {
-        column[i] = column[i - 1];
-        i -= 1;
-    }
-    column[i] = x;
+    column.copy_within(at..n, at + 1);
+    column[at] = x;
 }
 
 // The first n without the places from low up to high.
@@ -24,13 +20,7 @@ fn close_gap(column: &mut [f64], n: usize, low: usize, high: usize)
     ensures { column.new ≡ laid (take low (take n column.old) ++ drop high (take n column.old)) column.old }
 {
     if low < high {
-        let mut to = low;
-        let mut i = high;
-        while i < n {
-            column[to] = column[i];
-            to += 1;
-            i += 1;
-        }
+        column.copy_within(high..n, low);
     }
 }
 
@@ -63,12 +53,8 @@ fn open_unit(column: &mut [u8], n: usize, at: usize, x: u8)
     requires { (at ≤ n) × (n < length column.old) }
     ensures { column.new ≡ laid (take at (take n column.old) ++ (x ∷ drop at (take n column.old))) column.old }
 {
-    let mut i = n;
-    while at < i {
-        column[i] = column[i - 1];
-        i -= 1;
-    }
-    column[i] = x;
+    column.copy_within(at..n, at + 1);
+    column[at] = x;
 }
 
 // The first n without the places from low up to high.
@@ -77,13 +63,7 @@ fn close_units(column: &mut [u8], n: usize, low: usize, high: usize)
     ensures { column.new ≡ laid (take low (take n column.old) ++ drop high (take n column.old)) column.old }
 {
     if low < high {
-        let mut to = low;
-        let mut i = high;
-        while i < n {
-            column[to] = column[i];
-            to += 1;
-            i += 1;
-        }
+        column.copy_within(high..n, low);
     }
 }
 

@@ -1,4 +1,3 @@
-use Rattle.std.proofs.Common.{rules}
 use Rattle.process_sm_walk.proofs.advance.Goals as goal
 
 pub returns-in-Tempo : goal.returns-in-Tempo

@@ -1,6 +1,5 @@
 use Rattle.picks.proofs.Rules.{flags}
 use Rattle.process_sm_walk.specs.Walking.{chart_number}
-use Rattle.std.proofs.Common.{rules}
 use Rattle.process_sm_walk.proofs.chart_number.Goals as goal
 
 pub returns-then-all_numbers : goal.returns-then-all_numbers

@@ -1,5 +1,4 @@
 use Rattle.process_sm_walk.proofs.Opening.{first_empty, first_some}
-use Rattle.std.proofs.Common.{rules}
 use Rattle.process_sm_walk.proofs.first_tempo.Goals as goal
 
 pub returns-then-values-eq0 : goal.returns-then-values-eq0

@@ -1,5 +1,5 @@
-use Rattle.std.proofs.Common.{◌-◌, length, refl, ◌∙◌, arith, rules}
-use Rattle.process_sm_walk.proofs.LaidOnRows.{Laying, room-left, laid_one, laid-all}
+use Rattle.std.proofs.Common.{refl, ◌∙◌, arith}
+use Rattle.process_sm_walk.proofs.LaidOnRows.{room-left, laid_one, laid-all}
 use Rattle.process_sm_walk.proofs.lay_on_rows.Goals as goal
 
 pub loop-i-init : goal.loop-i-init
@@ -11,13 +11,9 @@ bounds-out_beats-count c = let l = c.loop-i.invariant in let h = c.loop-i-test.t
 pub bounds-out_values-count : goal.bounds-out_values-count
 bounds-out_values-count c = let l = c.loop-i.invariant in let h = c.loop-i-test.true in omega (arith, room-left l c.requires.beats_len h, l.same_values)
 
-pub loop-i-smaller : goal.loop-i-smaller
-loop-i-smaller c = omega arith
-
 pub loop-i-preserved : goal.loop-i-preserved
 loop-i-preserved c =
-    let at = c in
-    laid_one at.loop-i.invariant at.requires.beats_len c.loop-i-test.true c.f32_to_f64_with_nan.result c.f32_to_f64_with_nan-in-loop-i.result
+    laid_one c.loop-i.invariant c.requires.beats_len c.loop-i-test.true c.f32_to_f64_with_nan.result c.f32_to_f64_with_nan-in-loop-i.result
     (c.f32_to_f64_with_nan.ensures ∙ c.quantize_beat_f32.ensures) c.f32_to_f64_with_nan-in-loop-i.ensures
 
 pub returns : goal.returns

@@ -1,4 +1,3 @@
-use Rattle.std.proofs.Common.{rules}
 use Rattle.process_sm_walk.proofs.most_of.Goals as goal
 
 pub returns : goal.returns

@@ -1,5 +1,4 @@
 use Rattle.process_sm_walk.proofs.NextChange.{next-tempo, next-stop, next_last_tempo, next_last_stop, next-none}
-use Rattle.std.proofs.Common.{rules}
 use Rattle.process_sm_walk.proofs.next_change.Goals as goal
 
 pub returns-then-tempo_beat-stop_beat : goal.returns-then-tempo_beat-stop_beat

@@ -1,4 +1,4 @@
-use Rattle.std.proofs.Common.{◌≡◌, ℕ, sym, ◌∙◌, arith, rules}
+use Rattle.std.proofs.Common.{◌≡◌, ℕ, sym, ◌∙◌, arith}
 use Rattle.process_sm_walk.proofs.no_warp.Goals as goal
 
 pub returns-then-all_fit : goal.returns-then-all_fit

@@ -1,5 +1,4 @@
 use Rattle.process_sm_walk.proofs.Opening.{max-one}
-use Rattle.std.proofs.Common.{rules}
 use Rattle.process_sm_walk.proofs.opener_at.Goals as goal
 
 pub returns-then-at-eq0 : goal.returns-then-at-eq0

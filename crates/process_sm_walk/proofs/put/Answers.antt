@@ -1,4 +1,4 @@
-use Rattle.std.proofs.Common.{refl, arith, rules}
+use Rattle.std.proofs.Common.{refl, arith}
 use Rattle.process_sm_walk.specs.inside.Written.{laid_from}
 use Rattle.process_sm_walk.proofs.put.Goals as goal
 

@@ -1,5 +1,4 @@
 use Rattle.picks.proofs.Rules.{flags}
-use Rattle.std.proofs.Common.{rules}
 use Rattle.process_sm_walk.proofs.room_for.Goals as goal
 
 pub returns-then-counts-stop_room : goal.returns-then-counts-stop_room

@@ -1,6 +1,6 @@
-use Rattle.process_sm_machine.specs.Machine.{pass, meet}
+use Rattle.process_sm_machine.specs.Machine.{pass}
 use lib.Ieee.{Float}
-use Rattle.std.proofs.Common.{ap, ◌∙◌, rules}
+use Rattle.std.proofs.Common.{ap, ◌∙◌}
 use Rattle.process_sm_walk.specs.Chart.{written_by}
 use Rattle.process_sm_walk.specs.Columns.{columns}
 use Rattle.process_sm_walk.proofs.OneChange.{same-written, same_then, room-passing, room-meeting, turned}

@@ -1,4 +1,4 @@
-use Rattle.std.proofs.Common.{sym, ◌∙◌, rules}
+use Rattle.std.proofs.Common.{sym, ◌∙◌}
 use Rattle.process_sm_walk.specs.Columns.{columns}
 use Rattle.process_sm_walk.proofs.Outcomes.{number_by_rooms, refused-laid, chart-taken, room-taken, taken-laid}
 use Rattle.process_sm_walk.proofs.walk_changes.Goals as goal

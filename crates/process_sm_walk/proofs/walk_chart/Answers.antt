@@ -3,7 +3,7 @@ use Rattle.process_sm_walk.specs.Changes.{changes_left}
 use Rattle.process_sm_walk.specs.Chart.{walk_changes, written_by}
 use Rattle.process_sm_walk.specs.Columns.{columns, most_written}
 use Rattle.process_sm_walk.specs.inside.Written.{none_counted}
-use Rattle.std.proofs.Common.{length, rules}
+use Rattle.std.proofs.Common.{length}
 use Rattle.process_sm_walk.proofs.OneChange.{same-written, same_then, room-same}
 use Rattle.process_sm_walk.proofs.WholeChart.{room-opening, reached-here, within-here, whole}
 use Rattle.process_sm_walk.proofs.walk_chart.Goals as goal

@@ -1,5 +1,4 @@
 use Rattle.picks.proofs.Rules.{flags}
-use Rattle.std.proofs.Common.{rules}
 use Rattle.process_sm_walk.proofs.walk_number.Goals as goal
 
 pub returns-then-room_for : goal.returns-then-room_for

@@ -1,5 +1,5 @@
 -- `process_sm_walk::walk_on` lays each list by itself where no warp opens, and else takes change after change. Assumes nothing.
-use Rattle.std.proofs.Common.{◌+◌, ◌<◌, ◌≤◌, max, length, sym, refl, ◌∙◌, arith, rules}
+use Rattle.std.proofs.Common.{◌+◌, ◌<◌, ◌≤◌, max, length, sym, refl, ◌∙◌, arith}
 use native.Mathlib.Nat.{max-le}
 use Rattle.process_sm_walk.specs.Chart.{written_by}
 use Rattle.process_sm_walk.specs.Columns.{Columns, columns}

@@ -1,11 +1,6 @@
 -- `process_sm_walk::walk_on` lays each list by itself where no warp opens, and else takes change after change. Assumes nothing.
-use Rattle.std.proofs.Common.{◌+◌, ◌<◌, ◌≤◌, max, length, sym, refl, ◌∙◌, arith, rules}
-use native.Mathlib.Nat.{max-le}
-use Rattle.process_sm_walk.specs.Chart.{written_by}
-use Rattle.process_sm_walk.specs.Columns.{Columns, columns}
-use Rattle.process_sm_walk.proofs.OneChange.{SameLengths, same_refl, same-written, same_then}
-use Rattle.process_sm_walk.proofs.WalkTurns.{Going, ahead, room-turn, turn, room-end, ended}
-use Rattle.process_sm_walk.proofs.WalkedByLists.{room-tempos, room-stops, by-lists}
+use Rattle.process_sm_walk.specs.Columns.{columns}
+use Rattle.process_sm_walk.proofs.WalkTurns.{Going, ahead}
 use Rattle.process_sm_walk.proofs.walk_on.Given as goal
 
 abbrev pub invariant-loop-ending : goal.invariant-loop-ending

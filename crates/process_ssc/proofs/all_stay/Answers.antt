@@ -1,7 +1,6 @@
 -- `process_ssc::all_stay` looks at the lengths and at each column. Assumes nothing.
 use mathlib.Core.Path.{sym, ◌∙◌}
 use Rattle.process_ssc.proofs.EachStays.{no, whole-list}
-use borrow.Author.Rules.{rules}
 use Rattle.process_ssc.proofs.all_stay.Goals as goal
 
 pub returns-then-beats-gt-MOST_ENTRIES : goal.returns-then-beats-gt-MOST_ENTRIES

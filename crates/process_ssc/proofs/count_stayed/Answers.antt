@@ -1,16 +1,15 @@
 -- `process_ssc::count_stayed` counts the entries that stay, one by one. Assumes nothing.
-use Prim.Native.Nat.{◌-◌, ◌<◌}
+use Prim.Native.Nat.{◌<◌}
 use mathlib.Core.Path.{◌≡◌, sym, ap, ◌∙◌}
 use native.Mathlib.Omega.{arith}
 use lib.ListN.{length, get_or}
 use lib.Ieee.{nan}
 use Rattle.order.specs.Entries.{entries}
 use Rattle.order.proofs.Columns.{length-entries, entries-get_or}
-use Rattle.columns.proofs.KeptLaid.{KeptCount, count_none, count_kept, count_left, count-all}
+use Rattle.columns.proofs.KeptLaid.{count_none, count_kept, count_left, count-all}
 use Rattle.process_ssc.specs.Ssc.{stays_ssc, quantized_entry}
-use borrow.Author.Rules.{rules}
 use Rattle.process_ssc.proofs.count_stayed.Goals as goal
-use Rattle.process_ssc.proofs.count_stayed.Goals.{After-stays}
+use Rattle.process_ssc.proofs.count_stayed.Goals.{After-stays, then-stays, else-stays}
 
 -- the entry at hand, as the definition reads it
 inside : (c : After-stays) → c.loop-i.i < length (entries c.args.beats.now c.args.values.now)
@@ -22,11 +21,13 @@ test c = ap stays_ssc (entries-get_or c.args.beats.now c.args.values.now c.loop-
 pub loop-i-init : goal.loop-i-init
 loop-i-init c = count_none stays_ssc quantized_entry
 
-pub loop-i-preserved-then-stays : goal.loop-i-preserved-then-stays
-loop-i-preserved-then-stays c = count_kept stays_ssc quantized_entry c.loop-i.invariant (nan, nan) (inside (goal.at.loop-i-preserved-then-stays c).After-stays) (test (goal.at.loop-i-preserved-then-stays c).After-stays ∙ c.if-stays.true)
-
 pub loop-i-preserved : goal.loop-i-preserved
-loop-i-preserved c = count_left stays_ssc quantized_entry c.loop-i.invariant (nan, nan) (inside (goal.at.loop-i-preserved c).After-stays) (test (goal.at.loop-i-preserved c).After-stays ∙ c.if-stays.false)
+loop-i-preserved c =
+    let at = (goal.at.loop-i-preserved c).After-stays in
+    elim c.if-stays.branch [
+      | then-stays w ↦ rw w.count-is (count_kept stays_ssc quantized_entry c.loop-i.invariant (nan, nan) (inside at) (test at ∙ w.if-stays.true))
+      | else-stays w ↦ rw w.count-is (count_left stays_ssc quantized_entry c.loop-i.invariant (nan, nan) (inside at) (test at ∙ w.if-stays.false))
+    ]
 
 pub returns : goal.returns
 returns c = count-all stays_ssc quantized_entry c.loop-i.invariant (omega (arith, length-entries c.args.beats.now c.args.values.now c.requires, c.loop-i-test.false))

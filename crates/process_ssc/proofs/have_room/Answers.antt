@@ -1,6 +1,6 @@
 -- `process_ssc::have_room` compares with the room, and counts only where it must. Assumes nothing.
 use Prim.Native.Nat.{ℕ, ◌≤◌}
-use mathlib.Core.Path.{◌≡◌, sym, ap}
+use mathlib.Core.Path.{sym, ap}
 use native.Mathlib.Omega.{arith}
 use borrow.Author.Tests.{le-leb}
 use lib.Dec.{leb}
@@ -9,7 +9,6 @@ use Rattle.order.specs.Entries.{entries}
 use Rattle.order.proofs.Columns.{length-entries}
 use Rattle.columns.proofs.KeptLaid.{few-kept}
 use Rattle.process_ssc.specs.Ssc.{stays_ssc, quantized_entry, stayed_ssc}
-use borrow.Author.Rules.{rules}
 use Rattle.process_ssc.proofs.have_room.Goals as goal
 
 pub returns-then-beats-room : goal.returns-then-beats-room

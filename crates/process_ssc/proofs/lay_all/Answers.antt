@@ -3,7 +3,6 @@ use mathlib.Core.Path.{◌∙◌}
 use native.Mathlib.Omega.{arith}
 use Rattle.rows.specs.Rows.{quantized}
 use Rattle.columns.proofs.EachOverFront.{each_over_front, copied_over_front}
-use borrow.Author.Rules.{rules}
 use Rattle.process_ssc.proofs.lay_all.Goals as goal
 
 pub returns : goal.returns

@@ -1,16 +1,15 @@
 -- `process_ssc::lay_some` lays the entries that stay, one by one. Assumes nothing.
-use Prim.Native.Nat.{◌-◌, ◌<◌}
-use mathlib.Core.Path.{◌≡◌, refl, sym, ap, ◌∙◌}
+use Prim.Native.Nat.{◌<◌}
+use mathlib.Core.Path.{◌≡◌, sym, ap, ◌∙◌}
 use native.Mathlib.Omega.{arith}
 use lib.ListN.{length, get_or}
 use lib.Ieee.{Float, nan}
 use Rattle.order.specs.Entries.{entries}
 use Rattle.order.proofs.Columns.{length-entries, entries-get_or}
-use Rattle.columns.proofs.KeptLaid.{KeptLaying, lay_none, lay_room, lay_kept_lem, lay_left, lay_all_lem}
+use Rattle.columns.proofs.KeptLaid.{lay_none, lay_room, lay_kept_lem, lay_left, lay_all_lem}
 use Rattle.process_ssc.specs.Ssc.{stays_ssc, quantized_entry}
-use borrow.Author.Rules.{rules}
 use Rattle.process_ssc.proofs.lay_some.Goals as goal
-use Rattle.process_ssc.proofs.lay_some.Goals.{After-stays}
+use Rattle.process_ssc.proofs.lay_some.Goals.{After-stays, then-stays, else-stays}
 
 -- the entry at hand, as the definition reads it
 entry : (c : After-stays) → get_or (entries c.args.beats.now c.args.values.now) c.loop-i.i (nan, nan) ≡ (get_or c.args.beats.now c.loop-i.i nan, get_or c.args.values.now c.loop-i.i nan)
@@ -28,11 +27,15 @@ bounds-out_beats-count c = (lay_room stays_ssc quantized_entry c.loop-i.invarian
 pub bounds-out_values-count : goal.bounds-out_values-count
 bounds-out_values-count c = (lay_room stays_ssc quantized_entry c.loop-i.invariant (nan, nan) (inside (goal.at.bounds-out_values-count c).After-stays) (test (goal.at.bounds-out_values-count c).After-stays ∙ c.if-stays.true) c.requires.values_len_bound).1
 
-pub loop-i-preserved-then-stays : goal.loop-i-preserved-then-stays
-loop-i-preserved-then-stays c = lay_kept_lem stays_ssc quantized_entry c.loop-i.invariant (nan, nan) (inside (goal.at.loop-i-preserved-then-stays c).After-stays) (test (goal.at.loop-i-preserved-then-stays c).After-stays ∙ c.if-stays.true) c.requires.values_len_bound _ _ (ap (λ (q : Float). (q, get_or c.args.values.now c.loop-i.i nan)) c.quantize_beat.ensures ∙ sym (ap quantized_entry (entry (goal.at.loop-i-preserved-then-stays c).After-stays)))
-
 pub loop-i-preserved : goal.loop-i-preserved
-loop-i-preserved c = lay_left stays_ssc quantized_entry c.loop-i.invariant (nan, nan) (inside (goal.at.loop-i-preserved c).After-stays) (test (goal.at.loop-i-preserved c).After-stays ∙ c.if-stays.false)
+loop-i-preserved c =
+    let at = (goal.at.loop-i-preserved c).After-stays in
+    elim c.if-stays.branch [
+      | then-stays w ↦
+          rw (w.count-is, w.out_beats-is, w.out_values-is)
+          (lay_kept_lem stays_ssc quantized_entry c.loop-i.invariant (nan, nan) (inside at) (test at ∙ w.if-stays.true) c.requires.values_len_bound _ _ (ap (λ (q : Float). (q, get_or c.args.values.now c.loop-i.i nan)) w.quantize_beat.ensures ∙ sym (ap quantized_entry (entry at))))
+      | else-stays w ↦ rw (w.count-is, w.out_beats-is, w.out_values-is) (lay_left stays_ssc quantized_entry c.loop-i.invariant (nan, nan) (inside at) (test at ∙ w.if-stays.false))
+    ]
 
 pub returns : goal.returns
 returns c =

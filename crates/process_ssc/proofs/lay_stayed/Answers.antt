@@ -1,5 +1,4 @@
 -- `process_ssc::lay_stayed` lays every entry where each stays, and else one by one. Assumes nothing.
-use Prim.Native.Nat.{ℕ}
 use mathlib.Core.Path.{◌≡◌, sym, ap, ◌∙◌}
 use mathlib.Core.List.{List, map-id}
 use native.Mathlib.Omega.{arith}
@@ -9,7 +8,6 @@ use Rattle.rows.specs.Rows.{quantized}
 use Rattle.order.specs.Order.{laid}
 use Rattle.columns.proofs.AllKept.{all_changed}
 use Rattle.process_ssc.specs.Ssc.{stays_ssc, stayed_ssc}
-use borrow.Author.Rules.{rules}
 use Rattle.process_ssc.proofs.lay_stayed.Goals as goal
 use Rattle.process_ssc.proofs.lay_stayed.Goals.{Then-whole}
 

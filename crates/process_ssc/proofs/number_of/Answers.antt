@@ -1,7 +1,6 @@
 -- `process_ssc::number_of` goes by what is known of both lists. Assumes nothing.
-use mathlib.Core.Path.{sym, ◌∙◌}
+use mathlib.Core.Path.{sym}
 use Rattle.limits.proofs.NoRefusal.{none-lower}
-use borrow.Author.Rules.{rules}
 use Rattle.process_ssc.proofs.number_of.Goals as goal
 
 pub returns-then-stops_whole : goal.returns-then-stops_whole

@@ -1,17 +1,15 @@
 -- `process_ssc::process_known` refuses by the tests, for the stops' room and for the tempos', and else lays both results. Assumes nothing.
-use Prim.Native.Nat.{ℕ, ◌≤◌, ◌<◌}
-use mathlib.Core.Path.{◌≡◌, refl, sym, ap, ◌∙◌}
-use mathlib.Core.List.{List}
+use Prim.Native.Nat.{◌≤◌, ◌<◌}
+use mathlib.Core.Path.{◌≡◌, sym, ap, ◌∙◌}
 use native.Mathlib.Omega.{arith}
 use borrow.Author.Tests.{not-true, not-false, leb-true, leb-false}
 use lib.ListN.{length}
-use lib.Ieee.{Float, of_bits}
+use lib.Ieee.{of_bits}
 use Rattle.limits.proofs.ListTaken.{list-taken}
 use Rattle.process_raw.specs.RawLists.{raw_numbers, room_for, processed_nothing}
 use Rattle.process_raw.proofs.BothTaken.{BothTaken, both-taken}
 use Rattle.process_ssc.specs.Ssc.{stayed_ssc}
 use Rattle.process_ssc.proofs.Outcomes.{by_tests, for_stops, for_tempos, taken}
-use borrow.Author.Rules.{rules}
 use Rattle.process_ssc.proofs.process_known.Goals as goal
 use Rattle.process_ssc.proofs.process_known.Goals.{Else-not-have_room, Else-number-ne-TAKEN}
 

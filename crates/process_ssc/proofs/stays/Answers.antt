@@ -1,7 +1,5 @@
 -- `process_ssc::stays` is `stays_by_tests`, test by test. Assumes nothing.
-use mathlib.Core.Path.{◌≡◌, sym, ◌∙◌}
 use lib.Ieee.{div, of_bits}
-use borrow.Author.Rules.{rules}
 use Rattle.picks.proofs.Rules.{flags}
 use Rattle.process_ssc.specs.inside.Tests.{stays_by_tests}
 use Rattle.process_ssc.proofs.StayTests.{stays_by_tests_lem}

@@ -1,6 +1,5 @@
 -- `process_ssc::tidy_many` lends two arrays as long as a list may be. Assumes nothing.
 use Rattle.limits.proofs.ListTaken.{list-taken}
-use borrow.Author.Rules.{rules}
 use Rattle.process_ssc.proofs.tidy_many.Goals as goal
 
 pub tidy_stayed-requires : goal.tidy_stayed-requires

@@ -1,11 +1,10 @@
 -- `process_ssc::tidy_stayed` lays the tempos that stay, reads them back and has them tidied. Assumes nothing.
-use Prim.Native.Nat.{ℕ, ◌≤◌, min}
-use mathlib.Core.Path.{◌≡◌, refl, sym, ap, ◌∙◌}
-use mathlib.Core.List.{List, map}
+use Prim.Native.Nat.{◌≤◌, min}
+use mathlib.Core.Path.{◌≡◌, sym, ap, ◌∙◌}
+use mathlib.Core.List.{map}
 use native.Mathlib.Omega.{arith}
 use lib.ListN.{length, take, length-map}
 use lib.Seq.{length-take-le}
-use lib.Ieee.{Float}
 use Rattle.limits.proofs.ListTaken.{list-taken}
 use Rattle.order.specs.Entries.{entries, first, second}
 use Rattle.order.proofs.Columns.{length-entries}
@@ -14,7 +13,6 @@ use Rattle.columns.proofs.KeptLaid.{few-kept}
 use Rattle.process_raw.proofs.FrontRead.{front_read}
 use Rattle.process_ssc.specs.Ssc.{stays_ssc, quantized_entry, stayed_ssc}
 use Rattle.process_ssc.proofs.TemposTaken.{tempos-taken}
-use borrow.Author.Rules.{rules}
 use Rattle.process_ssc.proofs.tidy_stayed.Goals as goal
 use Rattle.process_ssc.proofs.tidy_stayed.Goals.{After-lay_stayed-count, Start}
 

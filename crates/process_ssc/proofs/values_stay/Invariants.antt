@@ -1,15 +1,7 @@
 -- `process_ssc::values_stay` counts the values that go, and there are none. Assumes nothing.
-use Prim.Native.Nat.{◌+◌, ◌-◌, ◌≤◌}
-use native.Mathlib.Omega.{arith}
-use lib.ListN.{length, get_or}
-use lib.Ieee.{nan}
-use Rattle.limits.proofs.Every.{Counted, miss-few, counted_start, counted-turn, counted-end}
+use Rattle.limits.proofs.Every.{Counted}
 use Rattle.process_ssc.specs.inside.Tests.{value_stays}
-use borrow.Author.Rules.{rules}
 use Rattle.process_ssc.proofs.values_stay.Given as goal
 
-abbrev pub invariant-loop-i : goal.invariant-loop-i
-invariant-loop-i l = Counted value_stays l.values l.i l.gone
-
-abbrev pub decreases-loop-i : goal.decreases-loop-i
-decreases-loop-i l = length l.values - l.i
+abbrev pub invariant-loop-value : goal.invariant-loop-value
+invariant-loop-value l = Counted value_stays l.values l.value-index l.gone

@@ -1,16 +1,7 @@
 -- `tidy_by_rows::lay_on_rows` writes the beat of each row, as far as both columns go. Assumes nothing.
-use mathlib.Core.Path.{ap, ◌∙◌}
-use Prim.Native.Nat.{◌-◌}
-use native.Mathlib.Omega.{arith}
-use lib.Ieee.{nan}
-use Rattle.rows.specs.Marks.{beat_of_mark}
 use Rattle.tidy_by_rows.specs.ByMarks.{on_marked_row}
-use Rattle.columns.proofs.LaidEach.{LayingEach, begun, turned, ended}
-use borrow.Author.Rules.{rules}
+use Rattle.columns.proofs.LaidEach.{LayingEach}
 use Rattle.tidy_by_rows.proofs.lay_on_rows.Given as goal
 
 abbrev pub invariant-loop-i : goal.invariant-loop-i
 invariant-loop-i l = LayingEach on_marked_row l.beats l.initial.to l.n l.to l.i
-
-abbrev pub decreases-loop-i : goal.decreases-loop-i
-decreases-loop-i l = l.n - l.i

@@ -6,7 +6,6 @@ use Rattle.rows.specs.Rows.{row}
 use Rattle.rows.proofs.RowMarks.{mark-order}
 use Rattle.rows.proofs.RowWithin.{row_within, in_i32}
 use Rattle.rows.proofs.RowKeys.{rows-below}
-use borrow.Author.Rules.{rules}
 use Rattle.tidy_by_rows.proofs.not_later.Goals as goal
 use Rattle.tidy_by_rows.proofs.not_later.Goals.{After-row_mark-2}
 

@@ -1,15 +1,12 @@
 -- `tidy_by_rows::place_after` halves what is left until the place is found. Assumes nothing.
-use Rattle.tidy_kept.proofs.Searched.{Halving, halving_all, halving_up, halving_down, halving_ends}
+use Rattle.tidy_kept.proofs.Searched.{Halving}
 use Rattle.rows.specs.RowKey.{row_key_at}
 use lib.Dec.{leb}
 use lib.ListN.{length, get_or}
 use lib.Ieee.{Float, nan}
-use native.Mathlib.Omega.{arith}
 use mathlib.Core.Bool.{Bool}
 use mathlib.Core.List.{List}
-use Prim.Native.Nat.{ℕ, ◌+◌, ◌-◌, ◌/◌}
-use borrow.Author.Tests.{le-leb, lt-leb}
-use borrow.Author.Rules.{rules}
+use Prim.Native.Nat.{ℕ, ◌-◌}
 use Rattle.tidy_by_rows.proofs.place_after.Given as goal
 
 -- whether the beat at a place is on a row up to one

@@ -1,6 +1,5 @@
 -- `tidy_by_rows::rise` compares rows where all beats are allowed. Assumes nothing.
 use mathlib.Core.Path.{sym, ◌∙◌}
-use borrow.Author.Rules.{rules}
 use Rattle.tidy_by_rows.proofs.rise.Goals as goal
 
 pub allowed_rise-requires : goal.allowed_rise-requires

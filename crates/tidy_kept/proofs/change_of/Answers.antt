@@ -1,7 +1,6 @@
 -- `tidy_kept::change_of` meets its contract. Assumes nothing.
 use Rattle.picks.proofs.Rules.{flags}
 use Rattle.tidy_kept.proofs.ByFlags.{by_flags}
-use borrow.Author.Rules.{rules}
 use Rattle.tidy_kept.proofs.change_of.Goals as goal
 
 pub returns-then-at-gt-MOST_ENTRIES : goal.returns-then-at-gt-MOST_ENTRIES

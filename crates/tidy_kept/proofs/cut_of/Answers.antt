@@ -1,6 +1,5 @@
 -- `tidy_kept::cut_of` meets its contract. Assumes nothing.
 use Rattle.picks.proofs.Rules.{flags}
-use borrow.Author.Rules.{rules}
 use Rattle.tidy_kept.proofs.cut_of.Goals as goal
 
 pub returns-then-last-eq0 : goal.returns-then-last-eq0

@@ -1,6 +1,5 @@
 -- `tidy_kept::held_against` meets its contract. Assumes nothing.
 use Rattle.picks.proofs.Rules.{flags}
-use borrow.Author.Rules.{rules}
 use Rattle.tidy_kept.proofs.held_against.Goals as goal
 
 pub returns-then-on_row : goal.returns-then-on_row

@@ -1,6 +1,5 @@
 -- `tidy_kept::near` meets its contract. Assumes nothing.
 use Rattle.tidy_kept.specs.Near.{near_to}
-use borrow.Author.Rules.{rules}
 use Rattle.tidy_kept.proofs.near.Goals as goal
 
 pub returns : goal.returns

@@ -1,6 +1,5 @@
 -- `tidy_kept::one_near` is 1 where the next value is near. Assumes nothing.
 use mathlib.Core.Path.{sym, ◌∙◌}
-use borrow.Author.Rules.{rules}
 use Rattle.tidy_kept.proofs.one_near.Goals as goal
 
 pub returns-then-near : goal.returns-then-near

@@ -3,11 +3,8 @@ use Rattle.rows.specs.RowKey.{row_key_at}
 use Rattle.tidy_kept.specs.Near.{near_to}
 use Rattle.tidy_kept.proofs.PlacedInColumns.{placed_first, high_fits, placed-later}
 use lib.Ieee.{nan}
-use Rattle.tidy_kept.specs.inside.Changed.{count_by}
 use native.Mathlib.Omega.{arith}
-use mathlib.Core.Path.{◌≡◌, refl, sym, ◌∙◌}
-use Prim.Native.Nat.{◌+◌, ◌-◌}
-use borrow.Author.Rules.{rules}
+use mathlib.Core.Path.{refl}
 use Rattle.tidy_scrolls.proofs.add_scroll_segment_slow.Goals as goal
 
 pub returns-then-n-eq0 : goal.returns-then-n-eq0

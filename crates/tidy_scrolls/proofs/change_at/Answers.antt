@@ -7,7 +7,6 @@ use lib.Ieee.{nan}
 use lib.Seq.{length-take-le}
 use native.Mathlib.Omega.{arith}
 use mathlib.Core.Path.{refl, sym}
-use borrow.Author.Rules.{rules}
 use Rattle.tidy_scrolls.proofs.change_at.Goals as goal
 
 pub slice_bounds-place_after-end : goal.slice_bounds-place_after-end

@@ -12,7 +12,6 @@ use lib.Dec.{leb}
 use native.Mathlib.Omega.{arith}
 use mathlib.Core.Path.{sym, ap}
 use Prim.Native.Nat.{ℕ, ◌≤◌}
-use borrow.Author.Rules.{rules}
 use Rattle.tidy_scrolls.proofs.fits.Goals as goal
 
 pub returns-then-beats-room : goal.returns-then-beats-room

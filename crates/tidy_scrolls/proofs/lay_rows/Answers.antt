@@ -1,5 +1,4 @@
 -- `tidy_scrolls::lay_rows` lays the kept entries, each on its row. Assumes nothing.
-use Prim.Native.Nat.{◌≤◌}
 use mathlib.Core.Path.{◌≡◌, sym, ap, ◌∙◌}
 use mathlib.Core.List.{List}
 use native.Mathlib.Omega.{arith}
@@ -10,7 +9,6 @@ use Rattle.order.specs.Order.{laid}
 use Rattle.rows.specs.RowKey.{beat_on_row}
 use Rattle.rows.proofs.EntriesOnRows.{each-beat, each-value}
 use Rattle.columns.proofs.EachOverFront.{each_over_front, copied_over_front}
-use borrow.Author.Rules.{rules}
 use Rattle.tidy_scrolls.proofs.lay_rows.Goals as goal
 
 pub slice_bounds-lay_each_on_row-end : goal.slice_bounds-lay_each_on_row-end

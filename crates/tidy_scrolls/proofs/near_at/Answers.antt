@@ -1,6 +1,5 @@
 -- `tidy_scrolls::near_at` meets its contract. Assumes nothing.
 use Rattle.picks.proofs.Rules.{flags}
-use borrow.Author.Rules.{rules}
 use Rattle.tidy_scrolls.proofs.near_at.Goals as goal
 
 pub returns-then-place-n : goal.returns-then-place-n

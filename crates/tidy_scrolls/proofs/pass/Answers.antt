@@ -6,7 +6,6 @@ use Rattle.rows.specs.RowKey.{row_key_at}
 use lib.Ieee.{Float}
 use native.Mathlib.Omega.{arith}
 use mathlib.Core.Path.{sym, ◌∙◌}
-use borrow.Author.Rules.{rules}
 use Rattle.tidy_scrolls.proofs.pass.Goals as goal
 
 pub returns-then-held-row : goal.returns-then-held-row

@@ -9,7 +9,6 @@ use borrow.Author.Tests.{not-true, not-false, leb-true, leb-false}
 use lib.ListN.{length}
 use native.Mathlib.Omega.{arith}
 use mathlib.Core.Path.{sym, ◌∙◌}
-use borrow.Author.Rules.{rules}
 use Rattle.tidy_scrolls.proofs.tidy_ordered.Goals as goal
 
 pub fits-requires : goal.fits-requires

@@ -1,7 +1,6 @@
 -- `tidy_scrolls::tidy_placed` lends its arrays. Assumes nothing.
 use Rattle.limits.proofs.ListTaken.{list-taken}
 use mathlib.Core.Path.{refl}
-use borrow.Author.Rules.{rules}
 use Rattle.tidy_scrolls.proofs.tidy_placed.Goals as goal
 
 pub tidy_placed_in-requires : goal.tidy_placed_in-requires

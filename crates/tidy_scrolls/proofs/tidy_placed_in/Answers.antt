@@ -3,7 +3,6 @@ use Rattle.tidy_scrolls.proofs.Outcomes.{falls-refused, placed-refused, placed-l
 use Rattle.order.proofs.Columns.{length-entries}
 use Rattle.limits.proofs.ListTaken.{list-taken}
 use native.Mathlib.Omega.{arith}
-use borrow.Author.Rules.{rules}
 use Rattle.tidy_scrolls.proofs.tidy_placed_in.Goals as goal
 
 pub place_all-kept-requires : goal.place_all-kept-requires

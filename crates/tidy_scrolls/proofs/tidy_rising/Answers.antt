@@ -1,6 +1,6 @@
 -- `tidy_scrolls::tidy_rising` lays every entry where each is kept and has room, and else goes the longer way. Assumes nothing.
 use Prim.Native.Nat.{◌≤◌, min}
-use mathlib.Core.Path.{◌≡◌, refl, sym, ap, ◌∙◌}
+use mathlib.Core.Path.{◌≡◌, sym, ap, ◌∙◌}
 use mathlib.Core.List.{List, map}
 use native.Mathlib.Omega.{arith}
 use lib.ListN.{length}
@@ -18,7 +18,6 @@ use Rattle.tidy_by_rows.proofs.ByMarks.{marked_over_front, rising_never_falls}
 use Rattle.tidy_scrolls.specs.inside.Ways.{no_scroll_held}
 use Rattle.tidy_scrolls.proofs.AllKept.{every-kept}
 use Rattle.tidy_scrolls.proofs.Outcomes.{even-columns, ordered-laid}
-use borrow.Author.Rules.{rules}
 use Rattle.tidy_scrolls.proofs.tidy_rising.Goals as goal
 
 pub returns-then-all_apart : goal.returns-then-all_apart

@@ -3,7 +3,6 @@ use Rattle.tidy_by_rows.proofs.ByMarks.{allowed_and_rising}
 use Rattle.tidy_scrolls.proofs.Outcomes.{list-refused}
 use native.Mathlib.Omega.{arith}
 use mathlib.Core.Path.{sym, ◌∙◌}
-use borrow.Author.Rules.{rules}
 use Rattle.tidy_scrolls.proofs.tidy_scroll_segments.Goals as goal
 
 pub returns-then-number-ne-TAKEN : goal.returns-then-number-ne-TAKEN

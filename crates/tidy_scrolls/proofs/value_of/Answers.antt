@@ -2,9 +2,6 @@ use native.Mathlib.Omega.{arith}
 use Rattle.tidy_scrolls.proofs.value_of.Goals as goal
 -- `tidy_scrolls::value_of` meets its contract. Assumes nothing.
 use Rattle.picks.proofs.Rules.{flags}
-use borrow.Author.Rules.{rules}
-use Rattle.tidy_scrolls.proofs.value_of.Statement.{statement}
-use Rattle.tidy_scrolls.proofs.value_of.Tie as tie
 
 pub overflow_sub-result : goal.overflow_sub-result
 overflow_sub-result c =

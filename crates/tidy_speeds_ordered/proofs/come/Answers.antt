@@ -1,6 +1,5 @@
 -- `tidy_speeds_ordered::come` meets its contract. Assumes nothing.
 use mathlib.Core.Path.{sym, ◌∙◌}
-use borrow.Author.Rules.{rules}
 use Rattle.tidy_speeds_ordered.proofs.come.Goals as goal
 
 pub returns-then-near : goal.returns-then-near

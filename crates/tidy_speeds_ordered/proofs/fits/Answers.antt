@@ -9,7 +9,6 @@ use Rattle.tidy_speeds_entries.specs.Speed.{speed_entries}
 use Rattle.tidy_speeds_entries.proofs.SpeedColumns.{many-speeds}
 use Rattle.tidy_speeds_ordered.specs.OrderedSpeeds.{kept_speeds}
 use Rattle.tidy_speeds_ordered.proofs.KeptInOnePass.{few-kept}
-use borrow.Author.Rules.{rules}
 use Rattle.tidy_speeds_ordered.proofs.fits.Goals as goal
 
 pub returns-then-n-room : goal.returns-then-n-room

@@ -1,6 +1,5 @@
 -- `tidy_speeds_ordered::none_held` meets its contract. Assumes nothing.
 use lib.Ieee.{of_bits}
-use borrow.Author.Rules.{rules}
 use Rattle.tidy_speeds_ordered.proofs.none_held.Goals as goal
 
 pub returns : goal.returns

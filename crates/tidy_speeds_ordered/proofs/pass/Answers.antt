@@ -6,7 +6,6 @@ use Rattle.rows.specs.RowKey.{row_key_at}
 use Rattle.tidy_kept.proofs.PassTurns.{passed_later, passed_away, passed-by, passed_over, passed-alone}
 use Rattle.tidy_speeds_entries.specs.Speed.{SpeedValue, speed_value_of, near_speed}
 use Rattle.tidy_speeds_ordered.specs.inside.Waiting.{speed_waiting}
-use borrow.Author.Rules.{rules}
 use Rattle.tidy_speeds_ordered.proofs.pass.Goals as goal
 
 pub returns-then-held-row : goal.returns-then-held-row

@@ -6,7 +6,6 @@ use borrow.Author.Tests.{not-true, not-false, leb-true, leb-false}
 use Rattle.tidy_speeds_entries.specs.Speed.{speed_entries}
 use Rattle.tidy_speeds_ordered.specs.OrderedSpeeds.{kept_speeds}
 use Rattle.tidy_speeds_ordered.proofs.KeptInOnePass.{ordered-refused, ordered-laid}
-use borrow.Author.Rules.{rules}
 use Rattle.tidy_speeds_ordered.proofs.tidy_ordered_untested.Goals as goal
 
 pub fits-requires : goal.fits-requires

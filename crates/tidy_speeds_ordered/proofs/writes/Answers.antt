@@ -1,6 +1,5 @@
 -- `tidy_speeds_ordered::writes` meets its contract. Assumes nothing.
 use Rattle.picks.proofs.Rules.{flags}
-use borrow.Author.Rules.{rules}
 use Rattle.tidy_speeds_ordered.proofs.writes.Goals as goal
 
 pub returns-then-held : goal.returns-then-held

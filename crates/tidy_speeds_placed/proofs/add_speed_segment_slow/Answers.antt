@@ -1,6 +1,5 @@
 -- `tidy_speeds_placed::add_speed_segment_slow` writes the first entry, or makes the change. Assumes nothing.
 use native.Mathlib.Omega.{arith}
-use borrow.Author.Rules.{rules}
 use Rattle.tidy_speeds_placed.proofs.add_speed_segment_slow.Goals as goal
 
 pub place_first-requires : goal.place_first-requires

@@ -8,7 +8,6 @@ use Rattle.tidy_speeds_entries.specs.Speed.{speed_value_of, near_speed, no_speed
 use Rattle.tidy_speeds_entries.proofs.SpeedColumns.{many-values}
 use Rattle.tidy_kept.proofs.Searched.{place-within}
 use Rattle.tidy_kept.proofs.PlacedInColumns.{change-by}
-use borrow.Author.Rules.{rules}
 use Rattle.tidy_speeds_placed.proofs.change_at.Goals as goal
 
 pub slice_bounds-place_after-end : goal.slice_bounds-place_after-end

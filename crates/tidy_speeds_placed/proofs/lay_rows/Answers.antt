@@ -1,9 +1,9 @@
 -- `tidy_speeds_placed::lay_rows` lays the kept entries, each on its row. Assumes nothing.
-use Prim.Native.Nat.{ℕ, ◌≤◌}
-use mathlib.Core.Path.{◌≡◌, sym, ap, ◌∙◌}
+use Prim.Native.Nat.{ℕ}
+use mathlib.Core.Path.{sym, ap, ◌∙◌}
 use mathlib.Core.List.{List, map}
 use native.Mathlib.Omega.{arith}
-use lib.ListN.{length, take}
+use lib.ListN.{take}
 use lib.Seq.{length-take-le}
 use lib.Ieee.{Float}
 use Rattle.order.specs.Order.{laid}
@@ -13,7 +13,6 @@ use Rattle.columns.proofs.EachOverFront.{each_over_front, copied_over_front}
 use Rattle.tidy_speeds_entries.specs.Speed.{SpeedEntry, speed_on_row}
 use Rattle.tidy_speeds_entries.specs.LaidSpeeds.{ratio_of, delay_of, unit_of}
 use Rattle.tidy_speeds_entries.proofs.FieldsOfSpeeds.{front-speeds, front-fields}
-use borrow.Author.Rules.{rules}
 use Rattle.tidy_speeds_placed.proofs.lay_rows.Goals as goal
 
 pub slice_bounds-lay_each_on_row-end : goal.slice_bounds-lay_each_on_row-end

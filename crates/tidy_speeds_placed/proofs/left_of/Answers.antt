@@ -1,6 +1,5 @@
 -- `tidy_speeds_placed::left_of` meets its contract. Assumes nothing.
 use native.Mathlib.Omega.{arith}
-use borrow.Author.Rules.{rules}
 use Rattle.tidy_speeds_placed.proofs.left_of.Goals as goal
 
 pub returns-then-change : goal.returns-then-change

@@ -1,7 +1,5 @@
 -- `tidy_speeds_placed::near_at` meets its contract. Assumes nothing.
-use mathlib.Core.Path.{◌∙◌}
 use Rattle.picks.proofs.Rules.{flags}
-use borrow.Author.Rules.{rules}
 use Rattle.tidy_speeds_placed.proofs.near_at.Goals as goal
 
 pub returns-then-place-n : goal.returns-then-place-n

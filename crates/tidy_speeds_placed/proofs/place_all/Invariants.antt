@@ -1,18 +1,10 @@
 -- `tidy_speeds_placed::place_all` places entry after entry. Assumes nothing.
-use Prim.Native.Nat.{ℕ, ◌-◌, ◌≤◌}
-use mathlib.Core.Path.{◌≡◌, sym, ◌∙◌}
-use native.Mathlib.Omega.{arith}
-use lib.ListN.{length, get_or}
-use lib.Ieee.{nan}
+use mathlib.Core.Path.{◌≡◌}
+use lib.ListN.{length}
 use Rattle.rows.specs.RowKey.{row_key_at}
-use Rattle.tidy_speeds_entries.specs.Speed.{speed_value_of, near_speed, no_speed, speed_values, speed_entries}
-use Rattle.tidy_speeds_entries.proofs.SpeedColumns.{many-values, many-speeds, speed-here, speed-entry}
-use Rattle.tidy_kept.proofs.PlacedInColumns.{PlacingAll, placing_none, beats-stand, placing_falls, placing_more, placing_ends}
-use borrow.Author.Rules.{rules}
+use Rattle.tidy_speeds_entries.specs.Speed.{near_speed, speed_values, speed_entries}
+use Rattle.tidy_kept.proofs.PlacedInColumns.{PlacingAll}
 use Rattle.tidy_speeds_placed.proofs.place_all.Given as goal
 
 abbrev pub invariant-loop-i : goal.invariant-loop-i
-invariant-loop-i l = (l.i ≤ l.n) × (length l.kept_beats ≡ 1024) × (length l.kept_ratios ≡ 1024) × (length l.kept_delays ≡ 1024) × (length l.kept_units ≡ 1024) × PlacingAll row_key_at near_speed (speed_entries l.beats l.ratios l.delays l.units) l.kept_beats (speed_values l.kept_ratios l.kept_delays l.kept_units) l.kept.count l.kept.falls l.i
-
-abbrev pub decreases-loop-i : goal.decreases-loop-i
-decreases-loop-i l = l.n - l.i
+invariant-loop-i l = (length l.kept_beats ≡ 1024) × (length l.kept_ratios ≡ 1024) × (length l.kept_delays ≡ 1024) × (length l.kept_units ≡ 1024) × PlacingAll row_key_at near_speed (speed_entries l.beats l.ratios l.delays l.units) l.kept_beats (speed_values l.kept_ratios l.kept_delays l.kept_units) l.kept.count l.kept.falls l.i

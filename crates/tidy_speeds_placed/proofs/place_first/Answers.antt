@@ -1,12 +1,10 @@
 -- `tidy_speeds_placed::place_first` writes the first entry. Assumes nothing.
 use native.Mathlib.Omega.{arith}
-use mathlib.Core.Path.{refl}
 use lib.Ieee.{nan}
 use Rattle.rows.specs.RowKey.{row_key_at}
 use Rattle.tidy_speeds_entries.specs.Speed.{speed_value_of, near_speed, no_speed, speed_values}
 use Rattle.tidy_speeds_entries.proofs.SpeedColumns.{many-values, set_value}
 use Rattle.tidy_kept.proofs.PlacedInColumns.{placed_first}
-use borrow.Author.Rules.{rules}
 use Rattle.tidy_speeds_placed.proofs.place_first.Goals as goal
 
 pub returns : goal.returns

@@ -6,7 +6,6 @@ use Rattle.rows.specs.RowKey.{row_key_at}
 use Rattle.tidy_speeds_entries.specs.Speed.{speed_value_of, near_speed, no_speed, speed_values}
 use Rattle.tidy_speeds_entries.proofs.SpeedColumns.{many-values, splice_values}
 use Rattle.tidy_kept.proofs.PlacedInColumns.{high_fits, placed-later}
-use borrow.Author.Rules.{rules}
 use Rattle.tidy_speeds_placed.proofs.place_later.Goals as goal
 
 pub change_at-change-requires : goal.change_at-change-requires

@@ -1,7 +1,6 @@
 -- `tidy_speeds_placed::speed_at` reads the three columns. Assumes nothing.
 use mathlib.Core.Path.{sym}
 use Rattle.tidy_speeds_entries.proofs.SpeedColumns.{value-at}
-use borrow.Author.Rules.{rules}
 use Rattle.tidy_speeds_placed.proofs.speed_at.Goals as goal
 
 pub returns : goal.returns

@@ -1,6 +1,5 @@
 -- `tidy_speeds_placed::speed_of` meets its contract. Assumes nothing.
 use native.Mathlib.Omega.{arith}
-use borrow.Author.Rules.{rules}
 use Rattle.tidy_speeds_placed.proofs.speed_of.Goals as goal
 
 pub overflow_sub-change : goal.overflow_sub-change

@@ -1,12 +1,8 @@
 -- `tidy_speeds_placed::tidy_in` refuses a list that falls, or for want of room, or lays. Assumes nothing.
-use Prim.Native.Nat.{◌≤◌}
 use native.Mathlib.Omega.{arith}
-use mathlib.Core.Path.{◌≡◌, ◌∙◌}
-use lib.ListN.{length}
-use Rattle.tidy_speeds_entries.specs.Speed.{speed_entries, speed_values}
-use Rattle.tidy_speeds_entries.proofs.SpeedColumns.{many-values, many-speeds}
+use Rattle.tidy_speeds_entries.specs.Speed.{speed_entries}
+use Rattle.tidy_speeds_entries.proofs.SpeedColumns.{many-speeds}
 use Rattle.tidy_speeds_placed.proofs.Outcomes.{falls-refused, placed-refused, placed-laid}
-use borrow.Author.Rules.{rules}
 use Rattle.tidy_speeds_placed.proofs.tidy_in.Goals as goal
 
 pub place_all-kept-requires : goal.place_all-kept-requires

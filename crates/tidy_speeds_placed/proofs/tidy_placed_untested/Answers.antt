@@ -4,7 +4,6 @@ use mathlib.Core.Path.{refl}
 use Rattle.tidy_speeds_entries.specs.Speed.{speed_entries}
 use Rattle.tidy_speeds_entries.proofs.SpeedColumns.{many-speeds}
 use Rattle.tidy_speeds_placed.proofs.Outcomes.{too_long}
-use borrow.Author.Rules.{rules}
 use Rattle.tidy_speeds_placed.proofs.tidy_placed_untested.Goals as goal
 
 pub returns-then-n-gt-MOST_ENTRIES : goal.returns-then-n-gt-MOST_ENTRIES

@@ -5,7 +5,6 @@ use lib.ListN.{length-set}
 use Rattle.picks.proofs.Rules.{flags}
 use Rattle.tidy_kept.specs.Changing.{spliced_in}
 use Rattle.tidy_kept.proofs.PartReplaced.{spliced-opened, spliced-over, spliced-shut}
-use borrow.Author.Rules.{rules}
 use Rattle.tidy_splice.proofs.splice_units.Goals as goal
 
 pub returns-then-low-high-2 : goal.returns-then-low-high-2
