@@ -1,6 +1,6 @@
 -- Lookups: whether a row is warped, fake or judgable. Rows are compared by their keys, which have the order of the rows. Definitions only.
 use Rattle.std.specs.Prelude.{◌≡◌, ℕ, ◌-◌, Bool, true, false, not, List, [], ◌∷◌, map, length, ℤ, ◌==◌, nat_le, slice_index_or, Float}
-use Rattle.std.specs.Float.{nan, binary32, binary64}
+use Rattle.std.specs.Float.{Format, nan, binary32, binary64}
 use Rattle.std.specs.Float.Ieee.{lt, le, add}
 use Rattle.ieee.specs.Constants.{plus_zero}
 use Rattle.picks.specs.Pick.{pick}
