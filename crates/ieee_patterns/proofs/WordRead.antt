@@ -3,7 +3,7 @@ use Prim.Native.Nat.{ℕ, zero, suc, ◌+◌, ◌-◌, ◌*◌, ◌%◌, ◌≤�
 use mathlib.Core.Path.{◌≡◌, refl, sym, ap, ◌∙◌}
 use mathlib.Core.List.{List}
 use native.Mathlib.Omega.{arith}
-use lib.ListN.{length, get_or, get_or-eq_default}
+use lib.ListN.{length, get_or-eq_default}
 use Rattle.ieee_patterns.specs.Hex.{hex_value, digit_at, digits_from, word_at}
 
 pub none_past_end : (left : ℕ) (text : List ℕ) (at : ℕ) → length text ≤ at → digits_from left text at 0 ≡ 0

@@ -93,11 +93,9 @@ pub fn hex_word(text: &[u8], at: usize) -> u64
         return 0;
     }
     let mut number: u64 = 0;
-    let mut i = 0;
-    while i < 16 {
+    for i in 0..16 {
         let digit = hex_value(byte_at(text, at + i)) % 16;
         number = (number % 0x1000_0000_0000_0000) * 16 + digit as u64;
-        i += 1;
     }
     number
 }

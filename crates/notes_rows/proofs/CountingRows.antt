@@ -35,9 +35,11 @@ module _ {note_data : List ℕ} {place : ℕ} where
       unfolding rows_from_here
       ended none = record { rows = rw is (rw none at so_far.counted); end = omega (arith, rw none at so_far.reach) }
 
-      pub at-end : length note_data ≤ i → MeasureCounted note_data place (record { rows = rows + one; end = i })
+      pub at-end : length note_data ≤ i → MeasureCounted note_data place (record { rows = rows + one; end = length note_data })
       unfolding first_part
-      at-end h = ended (rw (drop_of_length-le note_data h))
+      at-end h =
+          let here = ended (rw (drop_of_length-le note_data h)) in
+          record { rows = here.rows; end = omega (arith, here.end, so_far.within) }
 
     module _ (more : i < length note_data) where
       next : drop i note_data ≡ get_or note_data i 0 ∷ drop (i + 1) note_data

@@ -1,10 +1,12 @@
 -- The beats of a measure's rows, row by row. Assumes nothing.
 use Prim.Native.Nat.{ℕ, suc, ◌+◌, ◌-◌, ◌^◌, ◌<◌, ◌≤◌}
-use mathlib.Core.List.{List, [], ◌∷◌, map}
+use mathlib.Core.List.{List, [], ◌∷◌, ◌++◌, map, append_assoc}
 use mathlib.Core.Path.{◌≡◌, ap}
 use native.Mathlib.Numerals.{add-one}
 use native.Mathlib.Omega.{arith}
 use lib.IntN.{pos}
+use lib.ListN.{length, take, set}
+use lib.Seq.{take-suc-set}
 use lib.Dec.{T, le→leb}
 use lib.Ieee.{Float, binary32, in_float}
 use Rattle.notes_rows.specs.RowBeats.{beat_of_row, rows_from, measure_beats, most_note_bytes}
@@ -34,3 +36,10 @@ module _ (measure rows : ℕ) where
   none_left row past =
       let none : rows - row ≡ 0 = omega arith in
       rw none
+
+  -- one row more is written over the front
+  pub row_written : (items all : List Float) (row : ℕ) → row < rows → row < length items → take row items ++ beats_left measure rows row ≡ all
+      → take (row + 1) (set items row (beat_of_row measure rows row)) ++ beats_left measure rows (row + 1) ≡ all
+  row_written items all row more there so_far =
+      rw (add-one row, take-suc-set items row (beat_of_row measure rows row) there, append_assoc (take row items) (beat_of_row measure rows row ∷ []) (beats_left measure rows (suc row)))
+      (rw (row_after_row row more, add-one row) at so_far)

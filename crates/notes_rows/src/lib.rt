@@ -59,8 +59,7 @@ fn count_measure_rows(note_data: &[u8], place: usize) -> Measure
 {
     let mut rows: usize = 0;
     let mut begun = false;
-    let mut i = place;
-    while i < note_data.len() {
+    for i in place..note_data.len() {
         let byte = note_data[i];
         if byte == COMMA {
             return Measure {
@@ -68,7 +67,6 @@ fn count_measure_rows(note_data: &[u8], place: usize) -> Measure
                 end: i,
             };
         }
-        i += 1;
         if byte == LINE_FEED {
             rows += one_if(begun);
             begun = false;
@@ -81,7 +79,7 @@ fn count_measure_rows(note_data: &[u8], place: usize) -> Measure
     }
     Measure {
         rows: rows + one_if(begun),
-        end: i,
+        end: note_data.len(),
     }
 }
 
@@ -108,10 +106,8 @@ fn write_measure(measure: usize, rows: usize, beats: &mut [f32])
 {
     let start = (measure as f32) * 4.0;
     let step = 4.0 / (rows as f32);
-    let mut row = 0;
-    while row < rows {
-        beats[row] = ieee_mul_add::mul_add_f32(row as f32, step, start);
-        row += 1;
+    for (row, beat) in beats[..rows].iter_mut().enumerate() {
+        *beat = ieee_mul_add::mul_add_f32(row as f32, step, start);
     }
 }
 
@@ -147,6 +143,6 @@ pub fn compute_row_to_beat(note_data: &[u8], beats: &mut [f32]) -> Outcome
     write_measures(note_data, beats);
     Outcome {
         number: limits::TAKEN,
-        count: count,
+        count,
     }
 }

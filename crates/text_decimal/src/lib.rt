@@ -68,14 +68,12 @@ fn in_parts(m: u64, i: u32) -> Parts
     let mut low = m;
     let mut middle: u64 = 0;
     let mut high: u64 = 0;
-    let mut done: u32 = 0;
-    while done < i {
+    for _ in 0..i {
         let lower = low * 2;
         let upper = middle * 2 + lower / PART;
         high = high * 2 + upper / PART;
         middle = upper % PART;
         low = lower % PART;
-        done += 1;
     }
     Parts { low, middle, high }
 }

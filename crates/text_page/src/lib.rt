@@ -19,10 +19,8 @@ pub fn put_bytes(page: &mut [u8], at: usize, bytes: &[u8]) -> usize
     ensures { Wrote bytes.now at result page.old page.new }
 {
     let mut place = at;
-    let mut i = 0;
-    while i < bytes.len() {
-        place = put_byte(page, place, bytes[i]);
-        i += 1;
+    for &byte in bytes {
+        place = put_byte(page, place, byte);
     }
     place
 }

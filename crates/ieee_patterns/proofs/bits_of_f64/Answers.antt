@@ -3,7 +3,6 @@ use mathlib.Core.Path.{sym, ap, subst}
 use lib.Dec.{T}
 use lib.Ieee.{to_bits, binary64}
 use lib.Ieee.Compare.{differs_from_itself}
-use borrow.Author.Rules.{rules}
 use Rattle.ieee_patterns.proofs.Nan.{number_is}
 use Rattle.ieee_patterns.proofs.bits_of_f64.Goals as goal
 

@@ -1,7 +1,6 @@
 -- `ieee_patterns::byte_at` reads a text, and 0 past its end. Assumes nothing.
 use mathlib.Core.Path.{sym}
 use lib.ListN.{get_or-eq_default}
-use borrow.Author.Rules.{rules}
 use Rattle.ieee_patterns.proofs.byte_at.Goals as goal
 
 pub returns-else-at-text : goal.returns-else-at-text

@@ -1,6 +1,5 @@
 -- `ieee_patterns::f32_of_bits` meets its contract. Assumes nothing.
-use lib.Ieee.{binary32, of_bits, of_fields, div}
-use borrow.Author.Rules.{rules}
+use lib.Ieee.{binary32, of_bits, div}
 use Rattle.ieee_patterns.proofs.Nan.{nan_pattern, number-pattern}
 use Rattle.ieee_patterns.proofs.f32_of_bits.Goals as goal
 

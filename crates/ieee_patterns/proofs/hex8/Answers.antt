@@ -1,5 +1,4 @@
 -- `ieee_patterns::hex8` meets its contract, digit by digit. Assumes nothing.
-use borrow.Author.Rules.{rules}
 use Rattle.ieee_patterns.specs.Hex.{hex_text}
 use Rattle.ieee_patterns.proofs.hex8.Goals as goal
 

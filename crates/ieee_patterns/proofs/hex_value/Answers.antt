@@ -1,5 +1,4 @@
 -- `ieee_patterns::hex_value` meets its contract, test by test. Assumes nothing.
-use borrow.Author.Rules.{rules}
 use Rattle.picks.proofs.Rules.{picks}
 use Rattle.ieee_patterns.specs.Hex.{hex_value}
 use Rattle.ieee_patterns.proofs.hex_value.Goals as goal

@@ -1,5 +1,4 @@
 -- `notes_rows::compute_row_to_beat` tests the data's length and the room, and then writes. Assumes nothing.
-use borrow.Author.Rules.{rules}
 use Rattle.notes_rows.proofs.RowsOutcome.{too_long, too_little_room, all_laid}
 use Rattle.notes_rows.proofs.compute_row_to_beat.Goals as goal
 

@@ -1,11 +1,7 @@
 -- `notes_rows::count_rows` adds up the rows of every measure. Assumes nothing.
-use Prim.Native.Nat.{◌+◌, ◌-◌, ◌≤◌}
-use mathlib.Core.Path.{◌≡◌, ap}
+use mathlib.Core.Path.{ap}
 use native.Mathlib.Omega.{arith}
-use lib.ListN.{length}
-use borrow.Author.Rules.{rules}
-use Rattle.notes_rows.specs.Measures.{measures, all_rows}
-use Rattle.notes_rows.specs.inside.Counting.{measures_from}
+use Rattle.notes_rows.specs.Measures.{all_rows}
 use Rattle.notes_rows.proofs.FewRows.{all_rows_few}
 use Rattle.notes_rows.proofs.MeasureByMeasure.{rows_after_rows, ends-within, none-behind, all_at_first}
 use Rattle.notes_rows.proofs.count_rows.Goals as goal

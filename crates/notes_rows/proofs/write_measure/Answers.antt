@@ -1,33 +1,28 @@
 -- `notes_rows::write_measure` writes the beat of each row of a measure. Assumes nothing.
-use Prim.Native.Nat.{◌-◌}
+use mathlib.Core.Path.{◌≡◌, sym, ◌∙◌}
+use mathlib.Core.List.{append-nil}
 use native.Mathlib.Omega.{arith}
-use borrow.Author.Rules.{rules}
-use Rattle.order.proofs.LaidOverFront.{Laying, laying-none, laying-more, laying-all}
+use lib.ListN.{length, length-take}
+use lib.Seq.{take_all}
 use Rattle.notes_rows.specs.RowBeats.{beat_of_row, measure_beats}
-use Rattle.notes_rows.proofs.RowByRow.{beats_left, count_held, all_left, row_after_row, none_left}
+use Rattle.order.specs.Order.{laid}
+use Rattle.notes_rows.proofs.RowByRow.{all_left, row_written, none_left}
 use Rattle.notes_rows.proofs.write_measure.Goals as goal
 
-pub int_to_float-start : goal.int_to_float-start
-int_to_float-start c = count_held _ (omega arith)
-
-pub int_to_float-step : goal.int_to_float-step
-int_to_float-step c = count_held _ (omega arith)
-
 pub loop-row-init : goal.loop-row-init
-loop-row-init c = rw (← all_left _ _) (laying-none _ _)
-
-pub int_to_float-row : goal.int_to_float-row
-int_to_float-row c = count_held _ (omega arith)
-
-pub bounds-beats-row : goal.bounds-beats-row
-bounds-beats-row c = omega (arith, c.loop-row.invariant.size)
+loop-row-init c = sym (all_left c.args.measure c.args.rows)
 
 pub loop-row-preserved : goal.loop-row-preserved
 unfolding beat_of_row
-loop-row-preserved c = laying-more _ _ _ _ _ c.loop-row.invariant _ _ (rw c.mul_add_f32.ensures (row_after_row _ _ _ c.loop-row-test.true)) (omega (arith, c.loop-row.invariant.size))
-
-pub shape_of-beats : goal.shape_of-beats
-shape_of-beats c = c.loop-row.invariant.size
+loop-row-preserved c =
+    let room = length-take c.args.rows c.args.beats.now in
+    rw c.mul_add_f32.ensures (row_written c.args.measure c.args.rows c.loop-row.beat-items _ c.loop-row.row (omega (arith, room)) (omega arith) c.loop-row.invariant)
 
 pub returns : goal.returns
-returns c = laying-all _ _ _ _ _ c.loop-row.invariant (none_left _ _ _ c.loop-row-test.false)
+unfolding laid
+returns c =
+    let row = c.loop-row.row in
+    let items = c.loop-row.beat-items in
+    let size : length items ≡ c.args.rows = omega (arith, length-take c.args.rows c.args.beats.now) in
+    let all : items ≡ measure_beats c.args.measure c.args.rows = sym (append-nil items) ∙ rw (take_all row items (omega arith), none_left c.args.measure c.args.rows row (omega arith)) at c.loop-row.invariant in
+    rw (← all, size)

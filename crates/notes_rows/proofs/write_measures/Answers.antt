@@ -1,11 +1,10 @@
 -- `notes_rows::write_measures` writes the beats of each measure behind those before. Assumes nothing.
-use Prim.Native.Nat.{◌+◌, ◌-◌}
 use native.Mathlib.Omega.{arith}
-use lib.ListN.{length, drop, length-take, length-drop}
+use lib.ListN.{drop, length-take, length-drop}
 use borrow.Author.Rules.{rules}
 use Rattle.notes_rows.proofs.FewRows.{first_rows_few}
 use Rattle.notes_rows.proofs.MeasureByMeasure.{ends-within}
-use Rattle.notes_rows.proofs.WritingMeasures.{Writing, nothing_written, same-room, measure_fits, measure_written, all-written}
+use Rattle.notes_rows.proofs.WritingMeasures.{nothing_written, same-room, measure_fits, measure_written, all-written}
 use Rattle.notes_rows.proofs.write_measures.Goals as goal
 
 pub loop-place-init : goal.loop-place-init

@@ -1,7 +1,6 @@
 -- `text_decimal::digits` meets its contract, with a leading digit and without. Assumes nothing.
 use mathlib.Core.Path.{sym, refl}
 use borrow.Author.Tests.{eq-eqb, ne_eqb}
-use borrow.Author.Rules.{rules}
 use Rattle.text_decimal.proofs.digits.Goals as goal
 
 pub returns-then-pattern-eq0 : goal.returns-then-pattern-eq0

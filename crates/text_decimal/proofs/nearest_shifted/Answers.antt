@@ -1,6 +1,5 @@
 -- `text_decimal::nearest_shifted` meets its contract: by a sum, and 0 where less than a half is left. Assumes nothing.
 use native.Mathlib.Omega.{arith}
-use borrow.Author.Rules.{rules}
 use Rattle.text_decimal.proofs.ClosestBySum.{unit_of_lem, closest_by_unit, closest_small}
 use Rattle.text_decimal.proofs.nearest_shifted.Goals as goal
 

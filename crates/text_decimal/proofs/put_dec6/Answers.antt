@@ -9,7 +9,6 @@ use Rattle.ieee.specs.inside.PatternParts.{field_of}
 use Rattle.ieee.proofs.PatternValue.{digits_lt}
 use Rattle.text_page.proofs.Joined.{wrote_as, wrote-join}
 use Rattle.text_decimal.proofs.TextOfPattern.{finite-text, infinite-text, nan-text}
-use borrow.Author.Rules.{rules}
 use Rattle.text_decimal.proofs.put_dec6.Goals as goal
 
 -- below the pattern of an infinity the field is not all ones

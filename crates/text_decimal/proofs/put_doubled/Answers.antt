@@ -2,7 +2,6 @@
 use lib.Pow.{shl_exact}
 use mathlib.Core.Path.{ap}
 use native.Mathlib.Omega.{arith}
-use borrow.Author.Rules.{rules}
 use Rattle.text_page.proofs.Joined.{wrote_as}
 use Rattle.text_decimal.specs.Dec6.{whole_text}
 use Rattle.text_decimal.proofs.put_doubled.Goals as goal

@@ -1,5 +1,4 @@
 -- `text_decimal::put_eighteen` meets its contract, six digits at a time. Assumes nothing.
-use borrow.Author.Rules.{rules}
 use Rattle.text_decimal.proofs.SixDigits.{eighteen_digits}
 use Rattle.text_page.proofs.Joined.{wrote-join, wrote_as}
 use Rattle.text_decimal.proofs.put_eighteen.Goals as goal

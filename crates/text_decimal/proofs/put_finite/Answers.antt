@@ -1,7 +1,6 @@
 -- `text_decimal::put_finite` meets its contract: millionths, and a whole number. Assumes nothing.
 use mathlib.Core.Path.{ap, sym, ◌∙◌}
 use native.Mathlib.Omega.{arith}
-use borrow.Author.Rules.{rules}
 use Rattle.text_decimal.proofs.SixDigits.{whole-text}
 use Rattle.text_decimal.proofs.TextOfPattern.{below-units, whole-units}
 use Rattle.text_page.proofs.Joined.{wrote_as, wrote-join}

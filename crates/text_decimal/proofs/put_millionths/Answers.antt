@@ -1,5 +1,4 @@
 -- `text_decimal::put_millionths` meets its contract, piece by piece. Assumes nothing.
-use borrow.Author.Rules.{rules}
 use Rattle.text_decimal.specs.Dec6.{millionths_text}
 use Rattle.text_page.proofs.Joined.{wrote-join}
 use Rattle.text_decimal.proofs.put_millionths.Goals as goal

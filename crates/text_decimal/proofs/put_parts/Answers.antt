@@ -1,7 +1,6 @@
 -- `text_decimal::put_parts` meets its contract, by the parts that are not 0. Assumes nothing.
 use mathlib.Core.Path.{ap}
 use native.Mathlib.Omega.{arith}
-use borrow.Author.Rules.{rules}
 use Rattle.text_decimal.proofs.WholeByParts.{three-parts, two-parts, one-part}
 use Rattle.text_page.proofs.Joined.{wrote-join, wrote_as}
 use Rattle.text_decimal.specs.Dec6.{whole_text}

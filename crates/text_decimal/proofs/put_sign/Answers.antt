@@ -1,7 +1,6 @@
 -- `text_decimal::put_sign` meets its contract, with a sign and without. Assumes nothing.
 use native.Mathlib.Omega.{arith}
 use borrow.Author.Tests.{le-leb, lt-leb}
-use borrow.Author.Rules.{rules}
 use Rattle.text_page.proofs.Joined.{wrote_none}
 use Rattle.text_decimal.proofs.put_sign.Goals as goal
 

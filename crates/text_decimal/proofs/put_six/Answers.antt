@@ -1,5 +1,4 @@
 -- `text_decimal::put_six` meets its contract, digit by digit. Assumes nothing.
-use borrow.Author.Rules.{rules}
 use Rattle.text_decimal.proofs.SixDigits.{six-digits}
 use Rattle.text_page.proofs.Joined.{wrote-join, wrote_as}
 use Rattle.text_decimal.proofs.put_six.Goals as goal

@@ -3,7 +3,6 @@ use mathlib.Core.Path.{sym}
 use native.Mathlib.Omega.{arith}
 use Rattle.text_page.proofs.Joined.{wrote_as}
 use Rattle.text_decimal.proofs.DigitParts.{enough}
-use borrow.Author.Rules.{rules}
 use Rattle.text_decimal.proofs.put_whole.Goals as goal
 
 pub returns : goal.returns

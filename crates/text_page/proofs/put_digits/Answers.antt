@@ -3,7 +3,6 @@ use mathlib.Core.Path.{◌∙◌}
 use native.Mathlib.Omega.{arith}
 use Rattle.text_page.proofs.Joined.{wrote_as}
 use Rattle.text_page.proofs.DecimalDigits.{fewest_digits, twenty_hold}
-use borrow.Author.Rules.{rules}
 use Rattle.text_page.proofs.put_digits.Goals as goal
 
 pub returns : goal.returns
