@@ -106,10 +106,8 @@ pub extern "C" fn marrighentu_each_lrint_f64(from: &[f64], to: &mut [i32])
     ensures { to.new ≡ laid_each (λ (x : Float). hold (rint x)) from.now to.old }
 {
     let n = columns::room_of(from.len(), to.len());
-    let mut i = 0;
-    while i < n {
+    for i in 0..n {
         to[i] = ieee::lrint_f64(from[i]);
-        i += 1;
     }
 }
 
@@ -119,10 +117,8 @@ pub extern "C" fn marrighentu_each_lrint_f32(from: &[f32], to: &mut [i32])
     ensures { to.new ≡ laid_each (λ (x : Float). hold (rint x)) from.now to.old }
 {
     let n = columns::room_of(from.len(), to.len());
-    let mut i = 0;
-    while i < n {
+    for i in 0..n {
         to[i] = ieee::lrint_f32(from[i]);
-        i += 1;
     }
 }
 
@@ -140,10 +136,8 @@ pub extern "C" fn marrighentu_each_note_row_to_beat(rows: &[i32], beats: &mut [f
     ensures { beats.new ≡ laid_each (beat_of binary64) rows.now beats.old }
 {
     let n = columns::room_of(rows.len(), beats.len());
-    let mut i = 0;
-    while i < n {
+    for i in 0..n {
         beats[i] = rows::note_row_to_beat(rows[i]);
-        i += 1;
     }
 }
 
@@ -153,10 +147,8 @@ pub extern "C" fn marrighentu_each_note_row_to_beat_f32(rows: &[i32], beats: &mu
     ensures { beats.new ≡ laid_each (beat_of binary32) rows.now beats.old }
 {
     let n = columns::room_of(rows.len(), beats.len());
-    let mut i = 0;
-    while i < n {
+    for i in 0..n {
         beats[i] = rows::note_row_to_beat_f32(rows[i]);
-        i += 1;
     }
 }
 
@@ -166,10 +158,8 @@ pub extern "C" fn marrighentu_each_beat_to_note_row(beats: &[f64], rows: &mut [i
     ensures { rows.new ≡ laid_each (row binary64) beats.now rows.old }
 {
     let n = columns::room_of(beats.len(), rows.len());
-    let mut i = 0;
-    while i < n {
+    for i in 0..n {
         rows[i] = rows::beat_to_note_row(beats[i]);
-        i += 1;
     }
 }
 
@@ -179,10 +169,8 @@ pub extern "C" fn marrighentu_each_beat_to_note_row_f32(beats: &[f32], rows: &mu
     ensures { rows.new ≡ laid_each (row binary32) beats.now rows.old }
 {
     let n = columns::room_of(beats.len(), rows.len());
-    let mut i = 0;
-    while i < n {
+    for i in 0..n {
         rows[i] = rows::beat_to_note_row_f32(beats[i]);
-        i += 1;
     }
 }
 
@@ -192,10 +180,8 @@ pub extern "C" fn marrighentu_each_quantize_beat(beats: &[f64], quantised: &mut 
     ensures { quantised.new ≡ laid_each quantized beats.now quantised.old }
 {
     let n = columns::room_of(beats.len(), quantised.len());
-    let mut i = 0;
-    while i < n {
+    for i in 0..n {
         quantised[i] = rows::quantize_beat(beats[i]);
-        i += 1;
     }
 }
 
@@ -205,9 +191,7 @@ pub extern "C" fn marrighentu_each_quantize_beat_f32(beats: &[f32], quantised: &
     ensures { quantised.new ≡ laid_each quantized32 beats.now quantised.old }
 {
     let n = columns::room_of(beats.len(), quantised.len());
-    let mut i = 0;
-    while i < n {
+    for i in 0..n {
         quantised[i] = rows::quantize_beat_f32(beats[i]);
-        i += 1;
     }
 }

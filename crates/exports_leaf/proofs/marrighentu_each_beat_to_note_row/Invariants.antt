@@ -1,14 +1,8 @@
 -- `exports_leaf::marrighentu_each_beat_to_note_row` meets its contract. Assumes nothing.
-use Prim.Native.Nat.{◌-◌}
-use native.Mathlib.Omega.{arith}
-use borrow.Author.Rules.{rules}
-use lib.Ieee.{nan, binary64}
+use lib.Ieee.{binary64}
 use Rattle.rows.specs.Rows.{row}
-use Rattle.columns.proofs.LaidEach.{LayingEach, begun, turned, ended}
+use Rattle.columns.proofs.LaidEach.{LayingEach}
 use Rattle.exports_leaf.proofs.marrighentu_each_beat_to_note_row.Given as goal
 
 abbrev pub invariant-loop-i : goal.invariant-loop-i
 invariant-loop-i l = LayingEach (row binary64) l.beats l.initial.rows l.n l.rows l.i
-
-abbrev pub decreases-loop-i : goal.decreases-loop-i
-decreases-loop-i l = l.n - l.i

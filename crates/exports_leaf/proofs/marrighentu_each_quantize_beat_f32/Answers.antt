@@ -1,14 +1,9 @@
 -- `exports_leaf::marrighentu_each_quantize_beat_f32` meets its contract. Assumes nothing.
-use Prim.Native.Nat.{◌-◌}
 use native.Mathlib.Omega.{arith}
 use borrow.Author.Rules.{rules}
 use lib.Ieee.{nan}
-use Rattle.rows.specs.Rows.{quantized32}
-use Rattle.columns.proofs.LaidEach.{LayingEach, begun, turned, ended}
+use Rattle.columns.proofs.LaidEach.{turned, ended}
 use Rattle.exports_leaf.proofs.marrighentu_each_quantize_beat_f32.Goals as goal
-
-pub loop-i-init : goal.loop-i-init
-loop-i-init c = begun c.room_of-n.ensures
 
 pub loop-i-preserved : goal.loop-i-preserved
 loop-i-preserved c = turned c.loop-i.invariant nan (omega arith) (search rules)
