@@ -1,13 +1,9 @@
 -- `mend_scrolls::walk` meets its contract, place by place in the order of rows. Assumes nothing.
-use mathlib.Core.Path.{◌≡◌, refl, sym, ◌∙◌}
-use Prim.Native.Nat.{◌-◌}
+use mathlib.Core.Path.{refl, ◌∙◌}
 use native.Mathlib.Omega.{arith}
-use lib.ListN.{length}
 use lib.Ieee.{nan}
 use Rattle.tidy_kept.specs.Near.{near_to}
-use Rattle.tidy_rows_sort.specs.RowOrder.{places_by_row}
-use Rattle.mend_fates.proofs.BeatsWalked.{Walking, kept-long, work-sorted, walking_begins, as_many, walking_turns, walking_ends}
-use borrow.Author.Rules.{rules}
+use Rattle.mend_fates.proofs.BeatsWalked.{kept-long, work-sorted, walking_begins, as_many, walking_turns, walking_ends}
 use Rattle.mend_scrolls.proofs.walk.Goals as goal
 use Rattle.mend_scrolls.proofs.walk.Goals.{At-loop-i, Start}
 

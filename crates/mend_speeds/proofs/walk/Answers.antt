@@ -1,14 +1,11 @@
 -- `mend_speeds::walk` meets its contract, place by place in the order of rows. Assumes nothing.
 use mathlib.Core.Path.{◌≡◌, refl, sym, ◌∙◌}
 use mathlib.Core.List.{List}
-use Prim.Native.Nat.{◌-◌}
 use native.Mathlib.Omega.{arith}
 use lib.ListN.{length}
 use Rattle.tidy_speeds_entries.specs.Speed.{SpeedValue, near_speed, no_speed, speed_values}
-use Rattle.tidy_rows_sort.specs.RowOrder.{places_by_row}
-use Rattle.mend_fates.proofs.BeatsWalked.{Walking, kept-long, work-sorted, walking_begins, as_many, walking_turns, walking_ends}
+use Rattle.mend_fates.proofs.BeatsWalked.{kept-long, work-sorted, walking_begins, as_many, walking_turns, walking_ends}
 use Rattle.mend_speeds.proofs.SpeedAtPlace.{values-long}
-use borrow.Author.Rules.{rules}
 use Rattle.mend_speeds.proofs.walk.Goals as goal
 use Rattle.mend_speeds.proofs.walk.Goals.{At-loop-i, Start}
 
