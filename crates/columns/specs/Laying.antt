@@ -1,5 +1,5 @@
 -- A result in lent columns: what a call with a number and a count leaves of its rooms. Definitions only.
-use Rattle.std.specs.Prelude.{ℕ, min, Bool, List, [], map, ◌≡◌, leb, eqb, length, Float}
+use Rattle.std.specs.Prelude.{ℕ, min, List, [], map, ◌≡◌, leb, eqb, length, Float}
 use Rattle.limits.specs.Table.{no_room}
 use Rattle.picks.specs.Pick.{pick}
 use Rattle.order.specs.Order.{laid}

@@ -1,6 +1,6 @@
 -- Beats off the grid: a list that loses none counts its column, a list that does not counts what passes neither test, and no list that is taken counts round.
 -- Assumes nothing.
-use Rattle.std.proofs.Common.{◌≡◌, ℕ, ◌+◌, ◌<◌, ◌≤◌, Bool, true, false, List, [], ◌∷◌, map, length, take, sym, refl, ap, ◌∙◌, le_trans, lt_of_le_of_lt, mod-eq_of_lt, arith, lit<, take_all, ne_eqb}
+use Rattle.std.proofs.Common.{◌≡◌, ℕ, ◌+◌, ◌≤◌, Bool, true, false, List, [], ◌∷◌, map, length, take, sym, refl, ap, ◌∙◌, le_trans, lt_of_le_of_lt, mod-eq_of_lt, arith, lit<, take_all, ne_eqb}
 use lib.ListN.{length-map}
 use lib.Ieee.{Float}
 use Rattle.picks.specs.Pick.{pick}

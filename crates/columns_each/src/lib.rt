@@ -47,7 +47,11 @@ fn quantize_each(from: &[f64], to: &mut [f64])
 pub fn move_narrowed(from: &[f32], to: &mut [f64])
     ensures { to.new ≡ laid_each (λ (beat : Float). quantized32 beat) from.now to.old }
 {
-    columns::lay_each(from, to, |beat| std::num::f32_to_f64_with_nan(rows::quantize_beat_f32(beat)));
+    columns::lay_each(
+        from,
+        to,
+        |beat| std::num::f32_to_f64_with_nan(rows::quantize_beat_f32(beat)),
+    );
 }
 
 // By way of a column as long as the first.

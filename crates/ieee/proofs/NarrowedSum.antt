@@ -1,16 +1,16 @@
 -- The sum of two f32, taken at f64 and narrowed, is their f32 sum: to round twice is to round once there. Either the f64 sum loses nothing, or the
 -- smaller of the two is so small that both roundings give the larger. Assumes nothing.
-use mathlib.Core.Path.{◌≡◌, refl, sym, ap, ap₂, ◌∙◌, subst}
+use mathlib.Core.Path.{◌≡◌, refl, sym, ap, ◌∙◌, subst}
 use mathlib.Core.Logic.{inl, inr}
 use mathlib.Core.Bool.{Bool, true, false, ◌&&◌, beq, cond}
 use Prim.Native.Nat.{ℕ, ◌+◌, ◌-◌, ◌*◌, ◌^◌, ◌≤◌, ◌<◌}
-use native.Mathlib.Nat.{le_trans, le_of_eq, le_of_lt, lt_of_le_of_lt, lt_of_lt_of_le, le_of_mul-le-mul_right, lt_of_mul-lt-mul_right, mul-le-mul_right, mul-le-mul_left, mul-lt-mul_of_pos_right, mul_assoc, mul_comm, mul_right_comm, add-mul, one-mul}
+use native.Mathlib.Nat.{le_trans, le_of_eq, le_of_lt, lt_of_le_of_lt, lt_of_lt_of_le, le_of_mul-le-mul_right, lt_of_mul-lt-mul_right, mul-le-mul_right, mul-le-mul_left, mul-lt-mul_of_pos_right, mul_assoc, mul_right_comm, add-mul, one-mul}
 use native.Mathlib.Omega.{arith}
 use lib.IntN.{ℤ}
 use lib.Dec.{T, ltb}
 use lib.Pow.{pow-add, pow_pos, pow_mono, pow-lt}
 use lib.Ieee.{Float, nan, inf, fin, binary32, binary64, up, down, fits, round, sum, add}
-use lib.Ieee.Fits.{down_pos, round-fits}
+use lib.Ieee.Fits.{round-fits}
 use lib.Ieee.Exact.{HasValue, round_exact}
 use lib.Ieee.Scale.{grid, overflow, finite}
 use Rattle.ieee.specs.Nearest.{gap}

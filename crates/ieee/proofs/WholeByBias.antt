@@ -1,11 +1,11 @@
 -- What is left of an x within an i32 and 1.5 * 2 ^ 52, added in f64, without 1.5 * 2 ^ 52: the whole number nearest to x. Assumes nothing.
-use mathlib.Core.Path.{◌≡◌, refl, sym, ap, ◌∙◌}
+use mathlib.Core.Path.{◌≡◌, refl, ap, ◌∙◌}
 use mathlib.Core.Logic.{inl, inr}
 use mathlib.Core.Bool.{true, false}
-use Prim.Native.Nat.{ℕ, suc, ◌+◌, ◌-◌, ◌*◌, ◌^◌, ◌<◌}
+use Prim.Native.Nat.{ℕ, suc, ◌+◌, ◌-◌, ◌*◌, ◌^◌}
 use native.Mathlib.Nat.{zero-lt-suc}
 use native.Mathlib.Omega.{arith}
-use lib.IntN.{ℤ, pos, sub_ℕ, ◌-ℤ◌}
+use lib.IntN.{sub_ℕ}
 use lib.Ieee.{Float, binary64, round, add, sub, of_int}
 use lib.Ieee.Exact.{HasValue}
 use borrow.Author.Tests.{lt-ltb, le-ltb}
@@ -13,7 +13,7 @@ use Rattle.ieee.specs.Rounding.{rint}
 use Rattle.ieee.specs.inside.FloatEnds.{InI32}
 use Rattle.ieee.proofs.Closest.{lt_or_ge}
 use Rattle.ieee.proofs.SumByValue.{minus-values, minus-less}
-use Rattle.ieee.proofs.RintBySum.{bias_float, bias_pattern, Summed, summed}
+use Rattle.ieee.proofs.RintBySum.{bias_float, bias_pattern, summed}
 
 bias-value : HasValue bias_float false (3 * 2 ^ 51) 1
 bias-value = (refl, refl)

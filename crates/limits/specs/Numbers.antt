@@ -1,6 +1,5 @@
 -- Which numbers are taken, by kind. Definitions only.
-use Rattle.std.specs.Prelude.{ℕ, ◌+◌, ◌≤◌, Bool, true, false, List, [], ◌∷◌, leb, eqb, ℤ, pos, negsuc, nat_abs, Float}
-use Rattle.std.specs.Int.Signed.{le_z, lt_z}
+use Rattle.std.specs.Prelude.{ℕ, ◌+◌, Bool, true, false, List, [], ◌∷◌, leb, ℤ, pos, negsuc, nat_abs, Float}
 use Rattle.std.specs.Float.{inf, fin}
 use Rattle.std.specs.Float.Ieee.{le, lt, eq, neg}
 use Rattle.ieee.specs.Constants.{plus_zero}

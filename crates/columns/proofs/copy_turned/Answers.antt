@@ -1,13 +1,11 @@
 -- `columns::copy_turned` writes each number, the last first, as far as both columns go. Assumes nothing.
 use mathlib.Core.Path.{refl}
-use mathlib.Core.List.{reverse}
-use Prim.Native.Nat.{◌-◌, ◌<◌}
+use Prim.Native.Nat.{◌<◌}
 use native.Mathlib.Omega.{arith}
-use lib.Ieee.{Float, nan}
+use lib.Ieee.{nan}
 use lib.ListN.{length}
-use Rattle.columns.proofs.LaidEach.{LayingEach, ended}
+use Rattle.columns.proofs.LaidEach.{ended}
 use Rattle.columns.proofs.EachTurned.{begun-turned, inside-turned, next-turned}
-use borrow.Author.Rules.{rules}
 use Rattle.columns.proofs.copy_turned.Goals as goal
 use Rattle.columns.proofs.copy_turned.Goals.{In-loop-i}
 

@@ -1,11 +1,11 @@
 -- `columns_each::count_front` writes over each of the first entries, and counts those that differ. Assumes nothing.
-use Rattle.std.proofs.Common.{◌-◌, take, sym, ap, ◌∙◌, arith, length-take-le, rules}
+use Rattle.std.proofs.Common.{sym, ap, ◌∙◌, arith, length-take-le}
 use lib.Ieee.{nan}
 use Rattle.rows.specs.Rows.{on_grid32}
 use Rattle.limits.specs.Numbers.{miss}
-use Rattle.limits.proofs.HowManyFail.{CountedRound, round-start, round-turn, round-end}
+use Rattle.limits.proofs.HowManyFail.{round-start, round-turn, round-end}
 use Rattle.columns.proofs.LaidEach.{ended}
-use Rattle.columns_each.proofs.InTwoLoops.{Rewriting, rewriting_none, rewriting_here, rewriting_more, move}
+use Rattle.columns_each.proofs.InTwoLoops.{rewriting_none, rewriting_here, rewriting_more, move}
 use Rattle.columns_each.proofs.count_front.Goals as goal
 
 pub loop-i-preserved : goal.loop-i-preserved

@@ -1,5 +1,5 @@
 -- `columns_each::quantize_beats` narrows each beat, and then quantises and counts. Assumes nothing.
-use Rattle.std.proofs.Common.{List, take, ap, ◌∙◌, arith, rules}
+use Rattle.std.proofs.Common.{List, take, ap, ◌∙◌, arith}
 use lib.Ieee.{Float}
 use Rattle.rows.specs.Rows.{on_grid32}
 use Rattle.limits.specs.Numbers.{misses}

@@ -1,5 +1,5 @@
 -- `columns_each::quantize_by` narrows, and then moves to rows. Assumes nothing.
-use Rattle.std.proofs.Common.{List, ap, ◌∙◌, rules}
+use Rattle.std.proofs.Common.{List, ap, ◌∙◌}
 use lib.Ieee.{Float}
 use Rattle.columns.specs.Each.{laid_each}
 use Rattle.columns_each.proofs.InTwoLoops.{move, moved-narrowed}

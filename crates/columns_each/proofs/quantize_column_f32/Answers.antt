@@ -1,5 +1,5 @@
 -- `columns_each::quantize_column_f32` narrows each beat, and then quantises each. Assumes nothing.
-use Rattle.std.proofs.Common.{List, take, ap, ◌∙◌, arith, rules}
+use Rattle.std.proofs.Common.{List, take, ap, ◌∙◌, arith}
 use lib.Ieee.{Float}
 use Rattle.columns.specs.Each.{laid_each}
 use Rattle.columns_each.proofs.InTwoLoops.{move, narrowed_then_moved}

@@ -1,8 +1,8 @@
 -- `columns_each::quantize_front` writes over each of the first entries. Assumes nothing.
-use Rattle.std.proofs.Common.{◌-◌, arith, rules}
+use Rattle.std.proofs.Common.{arith}
 use lib.Ieee.{nan}
 use Rattle.columns.proofs.LaidEach.{ended}
-use Rattle.columns_each.proofs.InTwoLoops.{Rewriting, rewriting_none, rewriting_more, move}
+use Rattle.columns_each.proofs.InTwoLoops.{rewriting_none, rewriting_more, move}
 use Rattle.columns_each.proofs.quantize_front.Goals as goal
 
 pub loop-i-preserved : goal.loop-i-preserved

@@ -1,5 +1,5 @@
 -- `columns_each::quantized_f32` narrows, and then quantises. Assumes nothing.
-use Rattle.std.proofs.Common.{ap, ◌∙◌, rules}
+use Rattle.std.proofs.Common.{ap, ◌∙◌}
 use Rattle.rows.specs.Rows.{quantized32}
 use Rattle.columns_each.proofs.quantized_f32.Goals as goal
 

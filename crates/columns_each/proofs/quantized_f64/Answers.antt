@@ -1,5 +1,5 @@
 -- `columns_each::quantized_f64` widens an f32 that is no NaN. Assumes nothing.
-use Rattle.std.proofs.Common.{not, ◌&&◌, T, sym, subst, rules}
+use Rattle.std.proofs.Common.{not, ◌&&◌, T, sym, subst}
 use lib.Ieee.{Float, binary64, fits, is_nan}
 use lib.Ieee.Fits.{and_i, fits_widens}
 use Rattle.rows.specs.Rows.{quantized}

@@ -1,7 +1,6 @@
 -- `columns_order::never_fall` counts the neighbours that fail. Assumes nothing.
-use Rattle.std.proofs.Common.{◌≡◌, ◌-◌, ◌<◌, ◌≤◌, length, get_or, arith}
+use Rattle.std.proofs.Common.{◌≡◌, ◌-◌, get_or, arith}
 use Rattle.std.specs.Float.{nan}
-use Rattle.std.specs.Float.Ieee.{lt}
 use Rattle.ieee.proofs.ColumnNumbers.{numbers_long, number_at}
 use Rattle.limits.specs.Numbers.{miss}
 use Rattle.limits.specs.Neighbours.{neighbours, not_falling}

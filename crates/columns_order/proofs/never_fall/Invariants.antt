@@ -1,6 +1,5 @@
 -- `columns_order::never_fall` counts the neighbours that fail. Assumes nothing.
 use Rattle.std.proofs.Common.{◌-◌}
-use Rattle.std.specs.Float.Ieee.{lt}
 use Rattle.limits.specs.Neighbours.{not_falling}
 use Rattle.limits.proofs.EachTwo.{CountedTwo}
 use Rattle.columns_order.proofs.never_fall.Given as goal

@@ -1,5 +1,5 @@
 -- `columns_order::rise` counts the neighbours that fail. Assumes nothing.
-use Rattle.std.proofs.Common.{◌≡◌, ◌-◌, ◌<◌, ◌≤◌, length, get_or, arith}
+use Rattle.std.proofs.Common.{◌≡◌, ◌-◌, get_or, arith}
 use Rattle.std.specs.Float.{nan}
 use Rattle.std.specs.Float.Ieee.{lt}
 use Rattle.ieee.proofs.ColumnNumbers.{numbers_long, number_at}

@@ -1,5 +1,4 @@
 -- `exports_leaf::marrighentu_note_row_to_beat` meets its contract. Assumes nothing.
-use borrow.Author.Rules.{rules}
 use mir.ValLaws.{to_z-of_z}
 use Rattle.exports_leaf.proofs.marrighentu_note_row_to_beat.Goals as goal
 

@@ -5,7 +5,6 @@ use native.Mathlib.Omega.{arith}
 use lib.Dec.{T}
 use lib.Ieee.{binary64, fits, to_bits}
 use lib.Ieee.Bits.{to_bits-lt}
-use borrow.Author.Rules.{rules}
 use Rattle.ieee.specs.Nearest.{sign_of}
 use Rattle.ieee.specs.inside.Spacing.{with_sign}
 use Rattle.ieee.proofs.Signs.{sign-number, signed_bits, number_bits}

@@ -4,7 +4,6 @@ use Prim.Native.Nat.{◌%◌}
 use mathlib.Core.Bool.{false}
 use lib.Dec.{T}
 use lib.Ieee.{binary64, fits, to_bits}
-use borrow.Author.Rules.{rules}
 use Rattle.ieee.specs.inside.Spacing.{with_sign}
 use Rattle.ieee.proofs.Signs.{sign-number, size_bits, number_bits}
 use Rattle.ieee.proofs.size.Goals as goal

@@ -1,5 +1,5 @@
 -- `limits::all_plain` keeps the worst of a column, and that is none. Assumes nothing.
-use Rattle.std.proofs.Common.{◌≡◌, ◌+◌, ◌<◌, ◌≤◌, ◌∙◌, Float, length, drop, get_or, refl, ap}
+use Rattle.std.proofs.Common.{◌≡◌, ◌+◌, ◌<◌, ◌≤◌, length, drop, get_or, refl}
 use Rattle.std.specs.Float.{nan}
 use Rattle.ieee.proofs.ColumnNumbers.{numbers_long, number_at}
 use Rattle.limits.specs.Numbers.{every, miss}

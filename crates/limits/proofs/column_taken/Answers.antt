@@ -1,11 +1,9 @@
 -- `limits::column_taken`: a column that is plain is taken, and of another each number is tested in full. Assumes nothing.
-use mathlib.Core.Path.{◌≡◌, sym, ap, ◌∙◌}
-use mathlib.Core.Bool.{Bool, true}
+use mathlib.Core.Path.{sym, ap, ◌∙◌}
 use Rattle.limits.specs.declared.Range.{Range}
 use Rattle.limits.specs.Numbers.{every, all_in}
 use Rattle.limits.specs.Plain.{plain}
 use Rattle.limits.proofs.PlainTaken.{all_plain_taken}
-use borrow.Author.Rules.{rules}
 use Rattle.limits.proofs.column_taken.Goals as goal
 
 pub returns-then-all_plain : goal.returns-then-all_plain

@@ -2,7 +2,6 @@
 use lib.Ieee.{of_bits, div}
 use Rattle.picks.proofs.Rules.{flags}
 use Rattle.limits.specs.Numbers.{in_range}
-use borrow.Author.Rules.{rules}
 use Rattle.limits.proofs.in_range.Goals as goal
 
 pub returns-then-size-range-2 : goal.returns-then-size-range-2

@@ -1,7 +1,6 @@
 -- `limits::is_plain` is `plain`, test by test. Assumes nothing.
 use Rattle.picks.proofs.Rules.{flags}
 use Rattle.limits.specs.Plain.{plain}
-use borrow.Author.Rules.{rules}
 use Rattle.limits.proofs.is_plain.Goals as goal
 
 pub returns-then-lies_inside : goal.returns-then-lies_inside

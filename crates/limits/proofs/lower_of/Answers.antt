@@ -1,7 +1,6 @@
 -- `limits::lower_of` is the lower number, test by test. Assumes nothing.
 use Rattle.picks.proofs.Rules.{picks}
 use Rattle.limits.specs.Refusals.{lower}
-use borrow.Author.Rules.{rules}
 use Rattle.limits.proofs.lower_of.Goals as goal
 
 pub returns-then-one-eq-TAKEN : goal.returns-then-one-eq-TAKEN

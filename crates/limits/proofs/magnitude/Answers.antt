@@ -1,7 +1,6 @@
 -- `limits::magnitude` is the size of a float. Assumes nothing.
 use lib.Ieee.{of_bits}
 use Rattle.picks.proofs.Rules.{flags}
-use borrow.Author.Rules.{rules}
 use Rattle.limits.proofs.magnitude.Goals as goal
 
 pub returns-then-x : goal.returns-then-x

@@ -1,6 +1,5 @@
 -- `limits::no_room` answers 7 where a result does not fit. Assumes nothing.
 use Rattle.picks.proofs.Rules.{flags}
-use borrow.Author.Rules.{rules}
 use Rattle.limits.proofs.no_room.Goals as goal
 
 pub returns-then-fits : goal.returns-then-fits

@@ -1,6 +1,5 @@
 -- `limits::one_no_unit` is 1 for a number that is no unit. Assumes nothing.
 use Rattle.picks.proofs.Rules.{picks}
-use borrow.Author.Rules.{rules}
 use Rattle.limits.proofs.one_no_unit.Goals as goal
 
 pub returns-then-unit-le1 : goal.returns-then-unit-le1

@@ -1,6 +1,5 @@
 -- `limits::one_not_plain` is 1 for a number that is not plain. Assumes nothing.
 use Rattle.picks.proofs.Rules.{flags}
-use borrow.Author.Rules.{rules}
 use Rattle.limits.proofs.one_not_plain.Goals as goal
 
 pub returns-then-is_plain : goal.returns-then-is_plain

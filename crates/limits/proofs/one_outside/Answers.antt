@@ -1,7 +1,5 @@
 -- `limits::one_outside` is 1 for a number that is not in the range. Assumes nothing.
-use mathlib.Core.Path.{sym}
 use Rattle.picks.proofs.Rules.{flags}
-use borrow.Author.Rules.{rules}
 use Rattle.limits.proofs.one_outside.Goals as goal
 
 pub returns-then-in_range : goal.returns-then-in_range

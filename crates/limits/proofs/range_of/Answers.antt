@@ -1,6 +1,5 @@
 -- `limits::range_of` is the table of ranges. Assumes nothing.
 use lib.Ieee.{of_bits}
-use borrow.Author.Rules.{rules}
 use Rattle.limits.proofs.range_of.Goals as goal
 
 pub returns-in-Beat : goal.returns-in-Beat

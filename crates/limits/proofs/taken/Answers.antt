@@ -2,7 +2,6 @@
 use mathlib.Core.Path.{ap, ◌∙◌}
 use Rattle.limits.specs.declared.Range.{Range}
 use Rattle.limits.specs.Numbers.{in_range}
-use borrow.Author.Rules.{rules}
 use Rattle.limits.proofs.taken.Goals as goal
 
 pub returns : goal.returns
