@@ -38,10 +38,8 @@ fn entries_passed(column: &[f32], base: usize, size: usize, at: f32) -> u32
     ensures { result ≡ how_many (λ (i : ℕ). le (slice_index_or column.now (base + i) nan) at) size }
 {
     let mut passed: u32 = 0;
-    let mut i = 0;
-    while i < size {
-        passed += counted(column[base + i] <= at);
-        i += 1;
+    for &entry in &column[base..base + size] {
+        passed += counted(entry <= at);
     }
     passed
 }
