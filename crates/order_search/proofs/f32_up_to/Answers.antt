@@ -1,5 +1,5 @@
 -- `order_search::f32_up_to` lowers the nearest f32 where that is above. Assumes nothing.
-use Rattle.std.proofs.Common.{◌≡◌, ◌+◌, ◌-◌, ◌<◌, ◌≤◌, true, false, T, sym, ap, ◌∙◌, arith, rules, le-leb}
+use Rattle.std.proofs.Common.{◌≡◌, ◌+◌, ◌-◌, ◌<◌, ◌≤◌, true, false, T, sym, ap, ◌∙◌, arith, le-leb}
 use borrow.Author.Tests.{lt-leb}
 use lib.Ieee.{Float, binary32, fits, lt, top, to_bits, of_bits}
 use Rattle.ieee.specs.Narrowing.{narrow}

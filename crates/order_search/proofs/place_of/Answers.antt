@@ -1,9 +1,8 @@
 -- `order_search::place_of` takes the quarters that pass, until sixteen or less are left to count. Assumes nothing.
-use Rattle.std.proofs.Common.{ℕ, ◌+◌, ◌*◌, ◌/◌, ◌≤◌, Bool, List, length, get_or, arith, rules}
-use lib.Ieee.{Float, nan, le}
+use Rattle.std.proofs.Common.{ℕ, ◌+◌, ◌*◌, ◌/◌, ◌≤◌, length, arith}
 use Rattle.order_search.specs.Search.{place_of}
 use Rattle.order_search.proofs.HowMany.{how_many_most}
-use Rattle.order_search.proofs.Quartered.{gained-most, Quartering, quartering_all, quartering_on, quartering_ends}
+use Rattle.order_search.proofs.Quartered.{gained-most, quartering_all, quartering_on, quartering_ends}
 use Rattle.order_search.proofs.place_of.Goals as goal
 use Rattle.order_search.proofs.place_of.Invariants.{passes}
 

@@ -1,9 +1,7 @@
 -- `order_search::place_of` takes the quarters that pass, until sixteen or less are left to count. Assumes nothing.
-use Rattle.std.proofs.Common.{ℕ, ◌+◌, ◌*◌, ◌/◌, ◌≤◌, Bool, List, length, get_or, arith, rules}
+use Rattle.std.proofs.Common.{ℕ, Bool, List, length, get_or}
 use lib.Ieee.{Float, nan, le}
-use Rattle.order_search.specs.Search.{place_of}
-use Rattle.order_search.proofs.HowMany.{how_many_most}
-use Rattle.order_search.proofs.Quartered.{gained-most, Quartering, quartering_all, quartering_on, quartering_ends}
+use Rattle.order_search.proofs.Quartered.{Quartering}
 use Rattle.order_search.proofs.place_of.Given as goal
 
 -- whether an entry is not above a number

@@ -1,5 +1,5 @@
 -- `order_search::quarters_passed` counts the three. Assumes nothing.
-use Rattle.std.proofs.Common.{◌≡◌, ℕ, ◌+◌, ◌-◌, ◌*◌, Bool, List, get_or, arith, rules}
+use Rattle.std.proofs.Common.{◌≡◌, ℕ, ◌+◌, ◌-◌, ◌*◌, Bool, List, get_or, arith}
 use lib.Ieee.{Float, nan, le}
 use Rattle.order_search.proofs.HowMany.{of_three}
 use Rattle.order_search.proofs.quarters_passed.Goals as goal
