@@ -1,15 +1,13 @@
 -- A beat that is taken is an allowed beat, and so is each beat of a list that passes the tests. Assumes nothing.
-use Prim.Native.Nat.{ℕ, ◌<◌}
 use mathlib.Core.Path.{◌≡◌}
 use mathlib.Core.Bool.{true}
 use mathlib.Core.List.{List, [], ◌∷◌}
 use lib.Dec.{T}
-use lib.ListN.{length, get_or}
-use lib.Ieee.{Float, nan}
+use lib.Ieee.{Float}
 use Rattle.rows.specs.Rows.{allowed_beat}
 use Rattle.limits.specs.declared.Kind.TheVariants.{Beat}
 use Rattle.limits.specs.Numbers.{in_range, range_of, all_in}
-use Rattle.limits.proofs.Every.{every_rest, every-at}
+use Rattle.limits.proofs.Every.{every_rest}
 use Rattle.order.specs.Entries.{entries}
 use Rattle.order.proofs.OrderedList.{Each}
 use Rattle.rows.proofs.Allowed.{taken-allowed}

@@ -2,7 +2,6 @@
 use mathlib.Core.Path.{ap, ◌∙◌}
 use Rattle.rows.specs.Marks.{beat_of_mark}
 use Rattle.rows.proofs.RowMarks.{mark-beat}
-use borrow.Author.Rules.{rules}
 use Rattle.tidy_rows.proofs.allowed_on_row.Goals as goal
 
 pub returns : goal.returns

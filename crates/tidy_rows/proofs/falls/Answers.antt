@@ -2,7 +2,6 @@
 use native.Mathlib.Omega.{arith}
 use borrow.Author.Tests.{lt-ltb, le-ltb}
 use Rattle.rows.specs.RowKey.{row_key_at}
-use borrow.Author.Rules.{rules}
 use Rattle.tidy_rows.proofs.falls.Goals as goal
 
 pub returns-then-row_pattern : goal.returns-then-row_pattern

@@ -1,43 +1,25 @@
 -- `tidy_rows::lay_each` lays every entry on its row. Assumes nothing.
-use Prim.Native.Nat.{◌-◌}
 use mathlib.Core.Path.{refl, ◌∙◌}
 use mathlib.Core.List.{map-id}
 use native.Mathlib.Omega.{arith}
 use lib.Ieee.{Float, nan}
-use lib.ListN.{length}
-use Rattle.columns.proofs.LaidEach.{LayingEach, begun, turned, ended}
+use Rattle.columns.proofs.LaidEach.{turned, ended}
 use Rattle.columns.proofs.EachOverFront.{each_over_front}
 use Rattle.rows.proofs.Allowed.{allowed_at}
 use Rattle.rows.proofs.EntriesOnRows.{each-beat, each-value}
 use Rattle.rows.specs.RowKey.{beat_on_row}
-use borrow.Author.Rules.{rules}
 use Rattle.tidy_rows.proofs.lay_each.Goals as goal
-
-pub loop-i-init : goal.loop-i-init
-loop-i-init c = (begun (omega arith), begun (omega arith))
 
 pub allowed_on_row-requires : goal.allowed_on_row-requires
 allowed_on_row-requires c =
     let start = c in
     allowed_at start.args.beats.now c.loop-i.i start.requires.beats_value.0 c.loop-i-test.true
 
-pub bounds-out_beats-i : goal.bounds-out_beats-i
-bounds-out_beats-i c = omega (arith, c.loop-i.invariant.0.long)
-
-pub bounds-out_values-i : goal.bounds-out_values-i
-bounds-out_values-i c = omega (arith, c.loop-i.invariant.1.long)
-
 pub loop-i-preserved : goal.loop-i-preserved
 loop-i-preserved c =
     let inv = c.loop-i.invariant in
     let more = c.loop-i-test.true in
     (turned inv.0 nan more c.allowed_on_row.ensures, turned inv.1 nan more refl)
-
-pub shape_of-out_beats : goal.shape_of-out_beats
-shape_of-out_beats c = c.loop-i.invariant.0.long
-
-pub shape_of-out_values : goal.shape_of-out_values
-shape_of-out_values c = c.loop-i.invariant.1.long
 
 pub returns : goal.returns
 returns c =

@@ -1,35 +1,25 @@
 -- `tidy_rows::lay_each_turned` lays every entry on its row, turned round. Assumes nothing.
 use Prim.Native.Nat.{ℕ, ◌-◌}
-use mathlib.Core.Path.{◌≡◌, refl, ap, subst, sym, ◌∙◌}
+use mathlib.Core.Path.{◌≡◌, ap, ◌∙◌}
 use mathlib.Core.List.{map-id, reverse}
 use native.Mathlib.Omega.{arith}
 use lib.Ieee.{Float, nan}
 use lib.ListN.{length, get_or, length-reverse}
 use Rattle.order.specs.Entries.{entries}
 use Rattle.order.proofs.TurnedRound.{turned-map}
-use Rattle.columns.proofs.LaidEach.{LayingEach, ended}
-use Rattle.columns.proofs.EachTurned.{begun-turned, next-turned}
+use Rattle.columns.proofs.LaidEach.{ended}
+use Rattle.columns.proofs.EachTurned.{next-turned}
 use Rattle.columns.proofs.EachOverFront.{each_over_front}
 use Rattle.rows.proofs.Allowed.{allowed_at}
 use Rattle.rows.proofs.EntriesOnRows.{each-beat, each-value}
 use Rattle.rows.specs.RowKey.{beat_on_row}
 use Rattle.tidy_rows.proofs.BothWays.{turned-beats, turned-values}
-use borrow.Author.Rules.{rules}
 use Rattle.tidy_rows.proofs.lay_each_turned.Goals as goal
-
-pub loop-i-init : goal.loop-i-init
-loop-i-init c = let given = c.args in (begun-turned given.beats.now (omega arith), begun-turned given.values.now (omega arith))
 
 pub allowed_on_row-requires : goal.allowed_on_row-requires
 allowed_on_row-requires c =
     let start = c in
     allowed_at start.args.beats.now (length start.args.beats.now - 1 - c.loop-i.i) start.requires.beats_value.0 (omega (arith, c.loop-i-test.true))
-
-pub bounds-out_beats-i : goal.bounds-out_beats-i
-bounds-out_beats-i c = omega (arith, c.loop-i.invariant.0.long)
-
-pub bounds-out_values-i : goal.bounds-out_values-i
-bounds-out_values-i c = omega (arith, c.loop-i.invariant.1.long)
 
 pub loop-i-preserved : goal.loop-i-preserved
 loop-i-preserved c =
@@ -40,12 +30,6 @@ loop-i-preserved c =
     let here : get_or given.values.now (length given.beats.now - 1 - at.loop-i.i) nan ≡ get_or given.values.now (length given.values.now - 1 - at.loop-i.i) nan =
     ap (λ (n : ℕ). get_or given.values.now (n - 1 - at.loop-i.i) nan) same in
     (next-turned given.beats.now at.loop-i.invariant.0 nan more c.allowed_on_row.ensures, next-turned given.values.now at.loop-i.invariant.1 nan more here)
-
-pub shape_of-out_beats : goal.shape_of-out_beats
-shape_of-out_beats c = c.loop-i.invariant.0.long
-
-pub shape_of-out_values : goal.shape_of-out_values
-shape_of-out_values c = c.loop-i.invariant.1.long
 
 pub returns : goal.returns
 returns c =

@@ -1,34 +1,21 @@
 -- `tidy_rows::lay_lasts` lays the last entry of each row. Assumes nothing.
-use Prim.Native.Nat.{◌+◌, ◌-◌, ◌≤◌, ◌<◌}
-use mathlib.Core.Path.{ap, sym, ◌∙◌}
+use Prim.Native.Nat.{◌+◌, ◌-◌, ◌<◌}
+use mathlib.Core.Path.{◌≡◌, ap, sym, ◌∙◌}
 use native.Mathlib.Omega.{arith}
 use lib.Ieee.{Float, nan}
-use lib.ListN.{length, get_or, length-set}
-use Rattle.order.specs.Entries.{entries}
+use lib.ListN.{length, get_or}
 use Rattle.order.proofs.Columns.{length-entries, entries-get_or}
-use Rattle.order.proofs.LastEntries.{repeat_few}
-use Rattle.columns.proofs.LastsLaid.{LastsLaying, lasts-none, lasts-room, lasts-turn, lasts-all}
+use Rattle.columns.proofs.LastsLaid.{lasts-room, lasts-turn, lasts-all}
 use Rattle.rows.proofs.Allowed.{allowed_at}
-use Rattle.rows.specs.RowKey.{row_key_at, row_key_of, on_its_row}
-use borrow.Author.Rules.{rules}
+use Rattle.rows.specs.RowKey.{row_key_of, on_its_row}
 use Rattle.tidy_rows.proofs.lay_lasts.Goals as goal
-use Rattle.tidy_rows.proofs.lay_lasts.Goals.{After-repeats, At-loop-i}
+use Rattle.tidy_rows.proofs.lay_lasts.Goals.{At-loop-i}
 
 room : (c : At-loop-i) → (c.loop-i.count < length c.loop-i.out_beats) × (c.loop-i.count < length c.loop-i.out_values)
 room c =
     let start = c in
     let same = start.requires.beats_nonzero.1 in
-    lasts-room row_key_of on_its_row c.loop-i.invariant.1 start.requires.values_len_bound (omega (arith, length-entries start.args.beats.now start.args.values.now same))
-
-single : (c : After-repeats) → c.repeats.result ≤ 1
-single c =
-    let at = c in
-    let beats = at.args.beats.now in
-    let i = at.loop-i.i in
-    repeat_few (row_key_at (get_or beats i nan)) (row_key_at (get_or beats (i + 1) nan)) c.repeats.ensures
-
-pub loop-i-init : goal.loop-i-init
-loop-i-init c = (c.requires.beats_nonzero.0, lasts-none row_key_of on_its_row)
+    lasts-room row_key_of on_its_row c.loop-i.invariant start.requires.values_len_bound (omega (arith, length-entries start.args.beats.now start.args.values.now same))
 
 pub allowed_on_row-requires : goal.allowed_on_row-requires
 allowed_on_row-requires c =
@@ -48,13 +35,7 @@ repeats-requires c =
     let start = at in
     let beats = start.args.beats.now in
     let i = at.loop-i.i in
-    (allowed_at beats i start.requires.beats_value (omega arith), allowed_at beats (i + 1) start.requires.beats_value c.loop-i-test.true)
-
-pub overflow_sub-count : goal.overflow_sub-count
-overflow_sub-count c = omega (arith, single c)
-
-pub overflow_add-count : goal.overflow_add-count
-overflow_add-count c = record { fits = omega (arith, c.loop-i.invariant.1.few) }
+    (allowed_at beats i start.requires.beats_value (omega arith), allowed_at beats (i + 1) start.requires.beats_value (omega arith))
 
 pub loop-i-preserved : goal.loop-i-preserved
 loop-i-preserved c =
@@ -63,30 +44,22 @@ loop-i-preserved c =
     let beats = start.args.beats.now in
     let values = start.args.values.now in
     let same = start.requires.beats_nonzero.1 in
-    let i = at.loop-i.i in (
-      omega arith,
-      lasts-turn row_key_of on_its_row at.loop-i.invariant.1 start.requires.values_len_bound (nan, nan) c.allowed_on_row.result (get_or values i nan)
-          (ap (λ (beat : Float). (beat, get_or values i nan)) c.allowed_on_row.ensures ∙ ap on_its_row (sym (entries-get_or beats values i nan nan same)))
-          (omega (arith, length-entries beats values same)) c.repeats.result (rw (entries-get_or beats values i nan nan same, entries-get_or beats values (i + 1) nan nan same) c.repeats.ensures),
-    )
+    let i = at.loop-i.i in
+    (lasts-turn row_key_of on_its_row at.loop-i.invariant start.requires.values_len_bound (nan, nan) c.allowed_on_row.result (get_or values i nan)
+    (ap (λ (beat : Float). (beat, get_or values i nan)) c.allowed_on_row.ensures ∙ ap on_its_row (sym (entries-get_or beats values i nan nan same)))
+    (omega (arith, length-entries beats values same)) c.repeats.result (rw (entries-get_or beats values i nan nan same, entries-get_or beats values (i + 1) nan nan same) c.repeats.ensures))
 
 pub allowed_on_row-requires-2 : goal.allowed_on_row-requires-2
 allowed_on_row-requires-2 c =
     let at = c in
     let start = at in
-    allowed_at start.args.beats.now at.loop-i.i start.requires.beats_value (omega arith)
+    allowed_at start.args.beats.now (length start.args.beats.now - 1) start.requires.beats_value (omega arith)
 
 pub bounds-out_beats-count-2 : goal.bounds-out_beats-count-2
 bounds-out_beats-count-2 c = (room (goal.at.bounds-out_beats-count-2 c).At-loop-i).0
 
 pub bounds-out_values-count-2 : goal.bounds-out_values-count-2
 bounds-out_values-count-2 c = (room (goal.at.bounds-out_values-count-2 c).At-loop-i).1
-
-pub shape_of-out_beats : goal.shape_of-out_beats
-shape_of-out_beats c = simp length-set c.loop-i.invariant.1.firsts.size
-
-pub shape_of-out_values : goal.shape_of-out_values
-shape_of-out_values c = simp length-set c.loop-i.invariant.1.seconds.size
 
 pub returns : goal.returns
 returns c =
@@ -95,9 +68,11 @@ returns c =
     let beats = start.args.beats.now in
     let values = start.args.values.now in
     let same = start.requires.beats_nonzero.1 in
-    let i = at.loop-i.i in
+    let i = length beats - 1 in
+    let behind : at.loop-i.i ≡ i = omega arith in
+    let before = rw behind at at.loop-i.invariant in
     let laid =
-    lasts-all row_key_of on_its_row at.loop-i.invariant.1 start.requires.values_len_bound (nan, nan) c.allowed_on_row-2.result (get_or values i nan)
+    lasts-all row_key_of on_its_row before start.requires.values_len_bound (nan, nan) c.allowed_on_row-2.result (get_or values i nan)
     (ap (λ (beat : Float). (beat, get_or values i nan)) c.allowed_on_row-2.ensures ∙ ap on_its_row (sym (entries-get_or beats values i nan nan same)))
     (omega (arith, length-entries beats values same)) (omega (arith, length-entries beats values same)) in
     record { first_is = laid.0; second_is = laid.1 }

@@ -2,7 +2,6 @@
 use native.Mathlib.Omega.{arith}
 use borrow.Author.Tests.{eq-eqb, ne_eqb}
 use Rattle.rows.specs.RowKey.{row_key_at}
-use borrow.Author.Rules.{rules}
 use Rattle.tidy_rows.proofs.repeats.Goals as goal
 
 pub returns-then-row_pattern : goal.returns-then-row_pattern

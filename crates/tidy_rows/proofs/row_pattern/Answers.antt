@@ -3,7 +3,6 @@ use lib.Ieee.{of_bits}
 use Rattle.ieee.proofs.RintBySum.{sum_number}
 use Rattle.rows.proofs.RowBySum.{product, product-within}
 use Rattle.tidy_rows.proofs.RowPattern.{pattern-counts}
-use borrow.Author.Rules.{rules}
 use Rattle.tidy_rows.proofs.row_pattern.Goals as goal
 
 pub float_to_bits-result : goal.float_to_bits-result

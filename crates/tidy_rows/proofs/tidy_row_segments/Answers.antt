@@ -7,7 +7,6 @@ use Rattle.columns.proofs.Rooms.{refused_by_tests}
 use Rattle.limits.proofs.Sizes.{taken-sizes}
 use Rattle.columns.proofs.ListLaid.{numbered}
 use Rattle.tidy_rows.specs.RowTidying.{tidy_rows, rows_number}
-use borrow.Author.Rules.{rules}
 use Rattle.tidy_rows.proofs.tidy_row_segments.Goals as goal
 
 pub returns-then-number-ne-TAKEN : goal.returns-then-number-ne-TAKEN

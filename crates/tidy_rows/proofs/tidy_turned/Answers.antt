@@ -13,7 +13,6 @@ use Rattle.rows.specs.RowKey.{row_key_of, on_its_row}
 use Rattle.limits.proofs.ListTaken.{list-taken}
 use Rattle.tidy_rows.proofs.BothWays.{lasts-length, turned_way, turned_plain_way}
 use Rattle.columns.proofs.ListLaid.{no_room, all_laid}
-use borrow.Author.Rules.{rules}
 use Rattle.tidy_rows.proofs.tidy_turned.Goals as goal
 use Rattle.tidy_rows.proofs.tidy_turned.Goals.{Start}
 
