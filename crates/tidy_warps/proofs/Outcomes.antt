@@ -26,7 +26,7 @@ use Rattle.tidy_warps.specs.Marks.{Warp, length_of, warp_mark}
 use Rattle.tidy_warps.specs.WarpTidying.{tidy_warps, marked_warps_number, WarpsTidied, tidy_marks}
 use Rattle.tidy_warps.specs.inside.PlaceNumbers.{place_number, number_place}
 use Rattle.tidy_warps.proofs.MarkedTaken.{list-passed, marks-beside}
-use Rattle.tidy_warps.proofs.PlacesCarried.{numbers-long, numbers-taken, column-read, beats-read}
+use Rattle.tidy_warps.proofs.PlacesCarried.{numbers-taken, column-read, beats-read}
 use Rattle.tidy_warps.proofs.WithoutMarks.{beats-carried, lengths-carried, marks-carried}
 
 -- ---- a room that is lent in part: what is laid over the part lies over the whole

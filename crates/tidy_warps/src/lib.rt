@@ -54,10 +54,8 @@ fn place_of(number: f64) -> u32
 fn number_places(to: &mut [f64])
     ensures { to.new ≡ map place_number (places (length to.old)) }
 {
-    let mut i = 0;
-    while i < to.len() {
-        to[i] = number_of(i);
-        i += 1;
+    for (place, number) in to.iter_mut().enumerate() {
+        *number = number_of(place);
     }
 }
 
@@ -65,10 +63,8 @@ fn to_places(numbers: &[f64], to: &mut [u32])
     ensures { to.new ≡ laid_each number_place numbers.now to.old }
 {
     let n = columns::room_of(numbers.len(), to.len());
-    let mut i = 0;
-    while i < n {
+    for i in 0..n {
         to[i] = place_of(numbers[i]);
-        i += 1;
     }
 }
 

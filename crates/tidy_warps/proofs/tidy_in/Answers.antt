@@ -8,7 +8,6 @@ use lib.Seq.{length-take-le}
 use Rattle.order.specs.Entries.{places}
 use Rattle.tidy_warps.specs.inside.PlaceNumbers.{place_number}
 use Rattle.tidy_warps.proofs.Outcomes.{in_tidied, in_kept, all_read}
-use borrow.Author.Rules.{rules}
 use Rattle.tidy_warps.proofs.tidy_in.Goals as goal
 use Rattle.tidy_warps.proofs.tidy_in.Goals.{After-room_of-room, After-tidy_row_segments-outcome, After-to_places, Start}
 

@@ -7,7 +7,6 @@ use Rattle.limits.specs.Refusals.{lower}
 use Rattle.tidy_warps.specs.WarpTidying.{marked_warps_number}
 use Rattle.tidy_warps.proofs.MarkedTaken.{list-passed}
 use Rattle.tidy_warps.proofs.Outcomes.{refused_by_tests}
-use borrow.Author.Rules.{rules}
 use Rattle.tidy_warps.proofs.tidy_warp_segments.Goals as goal
 use Rattle.tidy_warps.proofs.tidy_warp_segments.Goals.{After-lower_of-number, Else-number-ne-TAKEN, Start}
 
