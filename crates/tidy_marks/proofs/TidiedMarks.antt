@@ -1,11 +1,10 @@
 -- Marks tidied as numbers, and read back, are the marks of the tidied list: tidying commutes with what is done to each value, so nothing is said of floats but of 0 and 1. Assumes nothing.
 use Prim.Native.Nat.{ℕ, zero, suc, ◌≤◌, ◌<◌, min}
 use mathlib.Core.Path.{◌≡◌, refl, sym, ap, ◌∙◌}
-use mathlib.Core.Bool.{true, false}
+use mathlib.Core.Bool.{true}
 use mathlib.Core.List.{List, [], ◌∷◌, map, map-map}
 use native.Mathlib.Omega.{arith}
 use borrow.Author.Tests.{leb-true}
-use lib.IntN.{pos}
 use lib.ListN.{length, take, length-map}
 use lib.Seq.{take_at}
 use lib.Ieee.{Float, of_int, lt, le, eq}

@@ -47,10 +47,8 @@ fn to_numbers(marks: &[u8], to: &mut [f64])
     ensures { to.new ≡ laid_each mark_number marks.now to.old }
 {
     let n = columns::room_of(marks.len(), to.len());
-    let mut i = 0;
-    while i < n {
+    for i in 0..n {
         to[i] = number_of(marks[i]);
-        i += 1;
     }
 }
 
@@ -58,10 +56,8 @@ fn to_marks(numbers: &[f64], to: &mut [u8])
     ensures { to.new ≡ laid_each number_mark numbers.now to.old }
 {
     let n = columns::room_of(numbers.len(), to.len());
-    let mut i = 0;
-    while i < n {
+    for i in 0..n {
         to[i] = mark_of(numbers[i]);
-        i += 1;
     }
 }
 

@@ -2,7 +2,6 @@
 use mathlib.Core.Path.{sym, ◌∙◌}
 use Rattle.rows.specs.Rows.{quantized}
 use Rattle.columns.proofs.LaidEach.{laid-all}
-use borrow.Author.Rules.{rules}
 use Rattle.tidy_marks.proofs.assemble_in.Goals as goal
 
 pub returns : goal.returns

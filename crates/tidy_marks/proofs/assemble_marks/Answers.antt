@@ -3,7 +3,6 @@ use mathlib.Core.Path.{sym}
 use native.Mathlib.Omega.{arith}
 use lib.Seq.{length-take-le}
 use Rattle.tidy_marks.proofs.TooLong.{too_long}
-use borrow.Author.Rules.{rules}
 use Rattle.tidy_marks.proofs.assemble_marks.Goals as goal
 
 pub slice_bounds-assemble_in-end : goal.slice_bounds-assemble_in-end

@@ -2,7 +2,6 @@
 use mathlib.Core.Path.{sym, ◌∙◌}
 use borrow.Author.Tests.{not-true, not-false}
 use Rattle.tidy_marks.proofs.MarkedTaken.{refused_by_sizes, sizes-passed}
-use borrow.Author.Rules.{rules}
 use Rattle.tidy_marks.proofs.marked_number.Goals as goal
 
 pub returns-then-sizes-ne-TAKEN : goal.returns-then-sizes-ne-TAKEN

@@ -8,7 +8,6 @@ use Rattle.columns.proofs.LaidEach.{laid-all}
 use Rattle.tidy_marks.specs.inside.MarkNumbers.{mark_number}
 use Rattle.tidy_marks.proofs.MarkedTaken.{MarkedList, marked-list}
 use Rattle.tidy_marks.proofs.TidiedMarks.{room_for_numbers, marks-laid, marks_unfit}
-use borrow.Author.Rules.{rules}
 use Rattle.tidy_marks.proofs.tidy_in.Goals as goal
 use Rattle.tidy_marks.proofs.tidy_in.Goals.{After-tidy_row_segments-tidied, Start}
 

@@ -6,7 +6,6 @@ use lib.Seq.{length-take-le}
 use Rattle.tidy_marks.specs.MarkTidying.{marked_number}
 use Rattle.tidy_marks.proofs.MarkedTaken.{marked-list}
 use Rattle.tidy_marks.proofs.TidiedMarks.{marks-refused}
-use borrow.Author.Rules.{rules}
 use Rattle.tidy_marks.proofs.tidy_marks.Goals as goal
 use Rattle.tidy_marks.proofs.tidy_marks.Goals.{Else-number-ne-TAKEN, Start}
 

@@ -1,13 +1,8 @@
 -- `tidy_marks::to_numbers` writes each mark as a number, as far as both columns go. Assumes nothing.
-use Prim.Native.Nat.{◌-◌}
 use native.Mathlib.Omega.{arith}
-use Rattle.columns.proofs.LaidEach.{LayingEach, begun, turned, ended}
-use Rattle.tidy_marks.specs.inside.MarkNumbers.{mark_number}
+use Rattle.columns.proofs.LaidEach.{turned, ended}
 use borrow.Author.Rules.{rules}
 use Rattle.tidy_marks.proofs.to_numbers.Goals as goal
-
-pub loop-i-init : goal.loop-i-init
-loop-i-init c = begun c.room_of-n.ensures
 
 pub loop-i-preserved : goal.loop-i-preserved
 loop-i-preserved c = turned c.loop-i.invariant 0 (omega arith) (search rules)
