@@ -60,9 +60,9 @@ module _ (beats : List Float) (i : ℕ) where
   unfolding rows_rise is_below
   rise-fails h l = rw (two h, le-ltb (key_at beats i) (key_at beats (i + 1)) l)
 
-  pub rise-end : i ≤ length beats → length beats ≤ i + 1 → rows_rise (drop i beats) ≡ true
+  rise-end : length beats ≤ i + 1 → rows_rise (drop i beats) ≡ true
   unfolding rows_rise is_below
-  rise-end h k = go (drop i beats) (omega (arith, length-drop i beats))
+  rise-end k = go (drop i beats) (omega (arith, length-drop i beats))
     where
       go : (l : List Float) → length l ≤ 1 → rows_rise l ≡ true
       go [] e = refl
@@ -74,17 +74,14 @@ pub record Falls (beats : List Float) (i falls : ℕ) : Type 0 where
   pub few : falls ≤ i
   pub same : pick (eqb falls 0) (rows_rise (drop i beats)) false ≡ rows_rise beats
 
+pub few-fall : (before beat : Float) → count_not_above before beat ≤ 1
+few-fall before beat = go (ltb (key_of before) (key_of beat))
+  where
+    go : (t : Bool) → pick t 0 1 ≤ 1
+    go true = omega arith
+    go false = omega arith
+
 module _ (beats : List Float) where
-  pub falls-first : Falls beats 0 0
-  falls-first = record { few = omega arith; same = refl }
-
-  pub few-fall : (i : ℕ) → count_not_above (get_or beats i nan) (get_or beats (i + 1) nan) ≤ 1
-  few-fall i = go (ltb (key_at beats i) (key_at beats (i + 1)))
-    where
-      go : (t : Bool) → pick t 0 1 ≤ 1
-      go true = omega arith
-      go false = omega arith
-
   module _ (i falls : ℕ) (known : Falls beats i falls) where
     dropped : (t : Bool) → pick t false false ≡ false
     dropped true = refl
@@ -106,5 +103,5 @@ module _ (beats : List Float) where
     whole true = refl
     whole false = refl
 
-    pub falls-last : i ≤ length beats → length beats ≤ i + 1 → eqb falls 0 ≡ rows_rise beats
-    falls-last h k = sym (whole (eqb falls 0)) ∙ (rw (rise-end beats i h k) at known.same)
+    pub falls-last : length beats ≤ i + 1 → eqb falls 0 ≡ rows_rise beats
+    falls-last k = sym (whole (eqb falls 0)) ∙ (rw (rise-end beats i k) at known.same)

@@ -26,15 +26,9 @@ fn one_not_above(before: f32, beat: f32) -> usize
 fn rows_rise(beats: &[f32]) -> bool
     ensures { result ≡ rows_rise beats.now }
 {
-    if beats.len() == 0 {
-        return true;
-    }
-    let last = beats.len() - 1;
     let mut falls: usize = 0;
-    let mut i = 0;
-    while i < last {
-        falls += one_not_above(beats[i], beats[i + 1]);
-        i += 1;
+    for i in 1..beats.len() {
+        falls += one_not_above(beats[i - 1], beats[i]);
     }
     falls == 0
 }
@@ -141,10 +135,8 @@ pub fn rows_taken(rows: &[i32]) -> bool
     ensures { result ≡ every row_in rows.now }
 {
     let mut beyond: usize = 0;
-    let mut i = 0;
-    while i < rows.len() {
-        beyond += one_beyond(rows[i]);
-        i += 1;
+    for &row in rows {
+        beyond += one_beyond(row);
     }
     beyond == 0
 }

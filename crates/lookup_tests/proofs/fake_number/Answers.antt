@@ -1,5 +1,4 @@
 -- `lookup_tests::fake_number` is the lowest number of a question about fakes. Assumes nothing.
-use borrow.Author.Rules.{rules}
 use Rattle.lookup_tests.proofs.fake_number.Goals as goal
 
 pub returns : goal.returns

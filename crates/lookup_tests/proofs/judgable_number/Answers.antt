@@ -1,5 +1,4 @@
 -- `lookup_tests::judgable_number` is the lowest number of a question about both. Assumes nothing.
-use borrow.Author.Rules.{rules}
 use Rattle.lookup_tests.proofs.judgable_number.Goals as goal
 
 pub returns : goal.returns

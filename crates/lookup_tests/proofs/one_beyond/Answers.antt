@@ -2,7 +2,6 @@
 use mir.Syntax.{w32}
 use mir.ValLaws.{to_z-of_z}
 use Rattle.picks.proofs.Rules.{flags}
-use borrow.Author.Rules.{rules}
 use Rattle.lookup_tests.proofs.one_beyond.Goals as goal
 
 pub returns-then-row_taken : goal.returns-then-row_taken

@@ -1,6 +1,5 @@
 -- `lookup_tests::one_not_above` is 1 for a row that does not rise. Assumes nothing.
 use Rattle.picks.proofs.Rules.{flags}
-use borrow.Author.Rules.{rules}
 use Rattle.lookup_tests.proofs.one_not_above.Goals as goal
 
 pub returns-then-row_key_f32 : goal.returns-then-row_key_f32

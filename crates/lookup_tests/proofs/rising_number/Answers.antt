@@ -1,7 +1,6 @@
 -- `lookup_tests::rising_number` is the number of a list by itself. Assumes nothing.
 use Rattle.lookup_tests.specs.Refused.{rising_number}
 use Rattle.picks.proofs.Rules.{flags}
-use borrow.Author.Rules.{rules}
 use Rattle.lookup_tests.proofs.rising_number.Goals as goal
 
 pub returns-then-rows_rise : goal.returns-then-rows_rise

@@ -1,5 +1,4 @@
 -- `lookup_tests::warp_number` is the lowest number of a question about warps. Assumes nothing.
-use borrow.Author.Rules.{rules}
 use Rattle.lookup_tests.proofs.warp_number.Goals as goal
 
 pub returns : goal.returns
