@@ -2,10 +2,10 @@
 use Prim.Native.Nat.{ℕ, min}
 use mathlib.Core.Path.{◌≡◌, ap, ◌∙◌}
 use mathlib.Core.Bool.{true, false}
-use mathlib.Core.List.{List, []}
+use mathlib.Core.List.{List}
 use lib.ListN.{length}
 use lib.Ieee.{Float}
-use Rattle.order.specs.Order.{only, the_last, NeverFalls, Rises}
+use Rattle.order.specs.Order.{only, NeverFalls, Rises}
 use Rattle.rows.specs.RowKey.{row_key}
 use Rattle.order.proofs.OrderedList.{ordered_never_falls, only-ordered}
 use Rattle.order.proofs.TidiedList.{tidied-rises, only-tidied}
