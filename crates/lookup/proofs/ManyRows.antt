@@ -1,5 +1,5 @@
 -- Many rows: the outcome. Assumes nothing.
-use Rattle.std.proofs.Common.{◌≡◌, ℕ, ◌<◌, ◌≤◌, Bool, List, [], length, ℤ, refl, ◌∙◌, arith, ne_eqb, le-leb}
+use Rattle.std.proofs.Common.{◌≡◌, ℕ, ◌<◌, ◌≤◌, Bool, List, length, ℤ, refl, ◌∙◌, arith, ne_eqb, le-leb}
 use borrow.Author.Tests.{lt-leb}
 use Rattle.order.specs.Order.{laid}
 use Rattle.columns.specs.Laying.{room_number, refused_by, given}

@@ -895,8 +895,7 @@ fn judge_rows(
         fake_beats,
         fake_lengths,
     );
-    let mut i = 0;
-    while i < rows.len() {
+    for (i, &row) in rows.iter().enumerate() {
         cursor = judge(
             stop_beats,
             stop_values,
@@ -907,10 +906,9 @@ fn judge_rows(
             fake_beats,
             fake_lengths,
             cursor,
-            rows[i],
+            row,
         );
         out[i] = cursor.answer;
-        i += 1;
     }
 }
 

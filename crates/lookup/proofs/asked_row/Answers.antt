@@ -1,6 +1,6 @@
 -- `lookup::asked_row` is the row of an asked beat. Assumes nothing.
 use mir.ValLaws.{to_z-of_z}
-use Rattle.std.proofs.Common.{◌≡◌, ap, ◌∙◌, w32, rules}
+use Rattle.std.proofs.Common.{ap, ◌∙◌, w32}
 use Rattle.rows.specs.Rows.{row}
 use lib.Ieee.{binary32}
 use Rattle.lookup.proofs.asked_row.Goals as goal

@@ -1,7 +1,6 @@
 -- `lookup::count_at` counts the entries at or before a row, by halves. Assumes nothing.
 use Rattle.lookup.proofs.FoundEntries.{bounds_whole, bounds_met}
-use Rattle.lookup.specs.inside.Finding.{Between}
-use Rattle.std.proofs.Common.{◌-◌, ◌≤◌, length, arith}
+use Rattle.std.proofs.Common.{arith}
 use Rattle.lookup.proofs.count_at.Goals as goal
 
 pub loop-low-init : goal.loop-low-init

@@ -1,5 +1,5 @@
 -- `lookup::fake_after` tells whether a row is fake. Assumes nothing.
-use Rattle.std.proofs.Common.{sym, ◌∙◌, w32, rules}
+use Rattle.std.proofs.Common.{sym, ◌∙◌, w32}
 use mir.ValLaws.{to_z-of_z}
 use Rattle.lookup.proofs.HeldSpans.{in_fake_lem}
 use Rattle.lookup.proofs.fake_after.Goals as goal

@@ -2,7 +2,6 @@
 use Rattle.lookup.specs.inside.Finding.{fake_end}
 use lib.Ieee.{div, of_bits}
 use Rattle.picks.proofs.Rules.{flags}
-use Rattle.std.proofs.Common.{rules}
 use Rattle.lookup.proofs.fake_end.Goals as goal
 
 pub returns-then-n-eq0 : goal.returns-then-n-eq0

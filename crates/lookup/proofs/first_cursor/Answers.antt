@@ -1,5 +1,4 @@
 -- `lookup::first_cursor` stands before every entry. Assumes nothing.
-use Rattle.std.proofs.Common.{rules}
 use Rattle.lookup.proofs.first_cursor.Goals as goal
 
 pub warp_at-requires : goal.warp_at-requires

@@ -1,7 +1,7 @@
 -- `lookup::halve` halves the bounds of the search. Assumes nothing.
 use Rattle.lookup.proofs.FoundEntries.{go-up, go-down}
 use Rattle.lookup_tests.proofs.RowsRise.{rises}
-use Rattle.std.proofs.Common.{◌+◌, ◌-◌, ◌/◌, arith, rules}
+use Rattle.std.proofs.Common.{◌+◌, ◌-◌, ◌/◌, arith}
 use Rattle.lookup.proofs.halve.Goals as goal
 
 pub returns-then-row_key_f32-key : goal.returns-then-row_key_f32-key

@@ -1,5 +1,5 @@
 -- `lookup::is_fake_at_beat` answers what the definition gives, or the number that refuses. Assumes nothing.
-use Rattle.std.proofs.Common.{◌≡◌, w32, rules}
+use Rattle.std.proofs.Common.{w32}
 use mir.ValLaws.{to_z-of_z}
 use Rattle.lookup.proofs.is_fake_at_beat.Goals as goal
 

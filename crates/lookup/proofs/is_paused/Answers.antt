@@ -2,7 +2,6 @@
 use lib.Ieee.{of_bits}
 use Rattle.lookup.proofs.HeldPlaces.{pause_on_row}
 use Rattle.picks.proofs.Rules.{flags}
-use Rattle.std.proofs.Common.{rules}
 use Rattle.lookup.proofs.is_paused.Goals as goal
 
 pub returns-then-place-key : goal.returns-then-place-key

@@ -1,6 +1,5 @@
 -- `lookup::is_unpaused` finds none of either list. Assumes nothing.
 use Rattle.picks.proofs.Rules.{flags}
-use Rattle.std.proofs.Common.{rules}
 use Rattle.lookup.proofs.is_unpaused.Goals as goal
 
 pub returns-then-is_paused : goal.returns-then-is_paused

@@ -4,7 +4,7 @@ use Rattle.lookup.proofs.ManyRows.{refused_by_tests, refused_for_room, all-judge
 use Rattle.lookup_tests.specs.LookupLists.{LookupLists, lookup_lists}
 use Rattle.lookup.specs.Lookups.{judgable_number, is_judgable}
 use Rattle.limits.specs.Numbers.{every, row_in}
-use Rattle.std.proofs.Common.{◌≡◌, sym, ◌∙◌, rules}
+use Rattle.std.proofs.Common.{sym, ◌∙◌}
 use Rattle.lookup.proofs.judgable_rows.Goals as goal
 use Rattle.lookup.proofs.judgable_rows.Goals.{Start}
 

@@ -1,5 +1,5 @@
 -- `lookup::judge` moves a cursor on to a row and answers. Assumes nothing.
-use Rattle.std.proofs.Common.{Bool, sym, ap, ◌∙◌, w32, rules}
+use Rattle.std.proofs.Common.{Bool, sym, ap, ◌∙◌, w32}
 use mir.ValLaws.{to_z-of_z}
 use Rattle.lookup_tests.specs.LookupLists.{LookupLists, lookup_lists, but_fakes}
 use Rattle.lookup.specs.Lookups.{byte}

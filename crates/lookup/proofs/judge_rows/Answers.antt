@@ -1,10 +1,9 @@
 -- `lookup::judge_rows` answers each row over the front of the room. Assumes nothing.
-use Rattle.std.proofs.Common.{◌-◌, length, get_or, ℤ, pos, ap, ◌∙◌, arith, w32, rules}
+use Rattle.std.proofs.Common.{get_or, ℤ, pos, ap, ◌∙◌, arith, w32, rules}
 use mir.ValLaws.{to_z-of_z}
-use Rattle.columns.proofs.LaidEach.{LayingEach, begun, turned, ended}
+use Rattle.columns.proofs.LaidEach.{begun, turned, ended}
 use Rattle.lookup_tests.specs.LookupLists.{lookup_lists}
 use Rattle.lookup.specs.Lookups.{byte, is_judgable}
-use Rattle.lookup.specs.inside.Finding.{AllStand}
 use Rattle.lookup.proofs.judge_rows.Goals as goal
 
 pub first_cursor-cursor-requires : goal.first_cursor-cursor-requires
@@ -13,20 +12,8 @@ first_cursor-cursor-requires c = c.requires.fact
 pub loop-i-init : goal.loop-i-init
 loop-i-init c = (begun (omega (arith, c.requires.rows_in_bounds)), c.first_cursor-cursor.ensures)
 
-pub offset_bounds-rows-i : goal.offset_bounds-rows-i
-offset_bounds-rows-i c = record { fits = omega (arith, c.loop-i-test.true, c.well_formed.1.1.1.1.1.1.1.1.0) }
-
 pub judge-cursor-requires : goal.judge-cursor-requires
 judge-cursor-requires c = (c.requires.fact, c.loop-i.invariant.1)
-
-pub bounds-out-i : goal.bounds-out-i
-bounds-out-i c = omega (arith, c.loop-i.invariant.0.long, c.requires.rows_in_bounds, c.loop-i-test.true)
-
-pub overflow_add-i : goal.overflow_add-i
-overflow_add-i c = record { fits = omega (arith, c.loop-i-test.true, c.requires.rows_in_bounds, c.well_formed.1.1.1.1.1.1.1.1.1.0) }
-
-pub loop-i-smaller : goal.loop-i-smaller
-loop-i-smaller c = omega (arith, c.loop-i-test.true)
 
 pub loop-i-preserved : goal.loop-i-preserved
 loop-i-preserved c =
@@ -34,11 +21,8 @@ loop-i-preserved c =
     let inv = c.loop-i.invariant in
     let asked = get_or start.args.rows.now c.loop-i.i (pos 0) in
     let lists = lookup_lists start.args.stop_beats.now start.args.stop_values.now start.args.delay_beats.now start.args.delay_values.now start.args.warp_beats.now start.args.warp_lengths.now start.args.fake_beats.now start.args.fake_lengths.now in
-    let same = ap (λ (asked : ℤ). byte (is_judgable lists asked)) (to_z-of_z w32 asked (record { sfits = c.judge-arg-1.given })) in
+    let same = ap (λ (asked : ℤ). byte (is_judgable lists asked)) (to_z-of_z w32 asked (record { sfits = search rules })) in
     (turned inv.0 (pos 0) c.loop-i-test.true (c.judge-cursor.ensures.1 ∙ same), c.judge-cursor.ensures.0)
-
-pub shape_of-out : goal.shape_of-out
-shape_of-out c = c.loop-i.invariant.0.long
 
 pub returns : goal.returns
 returns c = ended c.loop-i.invariant.0 c.loop-i-test.false

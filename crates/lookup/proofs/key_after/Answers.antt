@@ -1,6 +1,5 @@
 -- `lookup::key_after` is the row of the entry after them. Assumes nothing.
 use Rattle.picks.proofs.Rules.{flags}
-use Rattle.std.proofs.Common.{rules}
 use Rattle.lookup.proofs.key_after.Goals as goal
 
 pub returns-then-n-beats : goal.returns-then-n-beats

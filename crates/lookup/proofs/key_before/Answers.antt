@@ -1,6 +1,5 @@
 -- `lookup::key_before` is the row of the last of the first entries. Assumes nothing.
 use Rattle.picks.proofs.Rules.{flags}
-use Rattle.std.proofs.Common.{rules}
 use Rattle.lookup.proofs.key_before.Goals as goal
 
 pub returns-then-n-eq0 : goal.returns-then-n-eq0

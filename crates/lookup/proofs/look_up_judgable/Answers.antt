@@ -2,7 +2,7 @@
 use Rattle.lookup.proofs.UsableLists.{judgable_usable}
 use Rattle.lookup_tests.specs.LookupLists.{LookupLists, lookup_lists}
 use Rattle.lookup.specs.Lookups.{looked}
-use Rattle.std.proofs.Common.{sym, ◌∙◌, w32, rules, ne_eqb}
+use Rattle.std.proofs.Common.{sym, ◌∙◌, w32, ne_eqb}
 use mir.ValLaws.{to_z-of_z}
 use Rattle.lookup.proofs.look_up_judgable.Goals as goal
 use Rattle.lookup.proofs.look_up_judgable.Goals.{Start}

@@ -1,5 +1,4 @@
 -- `lookup::place_of` finds the place of a row. Assumes nothing.
-use Rattle.std.proofs.Common.{rules}
 use Rattle.lookup.proofs.place_of.Goals as goal
 
 pub returns : goal.returns

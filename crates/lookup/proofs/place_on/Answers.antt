@@ -1,6 +1,5 @@
 -- `lookup::place_on` goes on to the place of a row. Assumes nothing.
-use Rattle.std.proofs.Common.{◌-◌, ◌≤◌, length, arith, rules}
-use Rattle.lookup.specs.inside.Finding.{Stands}
+use Rattle.std.proofs.Common.{arith}
 use Rattle.lookup_tests.proofs.RowsRise.{rises}
 use Rattle.lookup.proofs.HeldPlaces.{stands-next, same_place, last-place}
 use Rattle.lookup.proofs.place_on.Goals as goal

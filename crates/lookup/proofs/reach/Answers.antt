@@ -1,7 +1,6 @@
 -- `lookup::reach` goes from the place of one row to that of another. Assumes nothing.
 use Rattle.lookup_tests.proofs.RowsRise.{rises}
 use Rattle.lookup.proofs.HeldPlaces.{same_place}
-use Rattle.std.proofs.Common.{rules}
 use Rattle.lookup.proofs.reach.Goals as goal
 
 pub returns : goal.returns

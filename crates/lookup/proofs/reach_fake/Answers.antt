@@ -1,5 +1,5 @@
 -- `lookup::reach_fake` goes from the place of one row in fakes to that of another. Assumes nothing.
-use Rattle.std.proofs.Common.{sym, rules}
+use Rattle.std.proofs.Common.{sym}
 use Rattle.lookup.proofs.reach_fake.Goals as goal
 
 pub returns-then-place-count : goal.returns-then-place-count

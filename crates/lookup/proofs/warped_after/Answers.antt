@@ -1,5 +1,5 @@
 -- `lookup::warped_after` tells whether a row is warped. Assumes nothing.
-use Rattle.std.proofs.Common.{sym, ◌∙◌, w32, rules}
+use Rattle.std.proofs.Common.{sym, ◌∙◌, w32}
 use mir.ValLaws.{to_z-of_z}
 use Rattle.lookup_tests.specs.LookupLists.{WarpLists, warp_lists}
 use Rattle.lookup.proofs.HeldSpans.{warped-inside, warped-outside}
