@@ -1,5 +1,5 @@
 -- Small lists of warps: the number of warped rows of each, computed by one pass; and a list that falls, where the pass says less. Assumes nothing.
-use Rattle.std.proofs.Common.{◌≡◌, ℕ, zero, suc, ◌+◌, Bool, true, false, List, [], ◌∷◌, ℤ, pos, negsuc, ◌+ℤ◌, sym, refl, ◌∙◌}
+use Rattle.std.proofs.Common.{◌≡◌, ℕ, zero, suc, Bool, true, false, List, [], ◌∷◌, ℤ, pos, negsuc, ◌+ℤ◌, sym, refl, ◌∙◌}
 use lib.Ieee.{Float, fin, mul, of_int, lt}
 use Rattle.ieee.specs.Rounding.{rint, hold}
 use Rattle.picks.specs.Pick.{pick}

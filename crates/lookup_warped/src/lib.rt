@@ -72,17 +72,15 @@ pub fn warped_rows(beats: &[f32], lengths: &[f32]) -> u64
 {
     let mut rows: u64 = 0;
     let mut far: u64 = 0;
-    let mut i = 0;
-    while i < beats.len() {
+    for (i, &beat) in beats.iter().enumerate() {
         if i >= lengths.len() {
             return rows;
         }
-        let start = start_key(beats[i]);
+        let start = start_key(beat);
         let end = start + length_rows(lengths[i]);
         let first = first_new(far, start);
         rows += new_rows(first, end);
         far = furthest_end(far, first, end);
-        i += 1;
     }
     rows
 }

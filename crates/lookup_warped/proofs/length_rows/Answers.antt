@@ -3,7 +3,6 @@ use lib.Ieee.{of_bits, binary64}
 use Rattle.rows.specs.Rows.{row}
 use Rattle.lookup_warped.specs.WarpedRows.{length_rows}
 use Rattle.lookup_warped.proofs.HowFar.{size-key}
-use Rattle.std.proofs.Common.{rules}
 use Rattle.lookup_warped.proofs.length_rows.Goals as goal
 
 pub returns-then-length : goal.returns-then-length

@@ -1,5 +1,5 @@
 -- `lookup_warped::start_key` meets its contract. Assumes nothing.
-use Rattle.std.proofs.Common.{ap, ◌∙◌, rules}
+use Rattle.std.proofs.Common.{ap, ◌∙◌}
 use Rattle.rows.specs.RowKey.{row_key_at}
 use Rattle.lookup_warped.proofs.start_key.Goals as goal
 
