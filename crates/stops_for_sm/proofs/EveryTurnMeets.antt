@@ -1,6 +1,6 @@
 -- Where a head is left, the least beat is that of a head, which is met: so every turn lessens what is left. Assumes nothing.
-use Rattle.std.proofs.Common.{◌≡◌, ℕ, zero, suc, ◌+◌, ◌-◌, ◌/◌, ◌<◌, ◌≤◌, Bool, true, false, not, ltb, ◌⊎◌, List, [], ◌++◌, length, get_or, sym, refl, ap, ◌∙◌, inl, inr, ⊎_elim, arith, ltb-true, lt-ltb}
-use lib.Ieee.{Float, nan, inf, lt, eq}
+use Rattle.std.proofs.Common.{◌≡◌, ℕ, zero, suc, ◌+◌, ◌-◌, ◌/◌, ◌<◌, ◌≤◌, Bool, true, false, not, ltb, ◌⊎◌, List, [], ◌++◌, length, get_or, sym, refl, ap, ◌∙◌, inl, inr, ⊎_elim, arith, ltb-true}
+use lib.Ieee.{Float, nan, inf, lt}
 use Rattle.picks.specs.Pick.{pick}
 use Rattle.stops_for_sm.specs.Merging.{Sources, Heads, lesser, least_beat, meets, moved_on, beat_here, stop_met, delay_met, warp_met, turn, is_over, turns_left, sum_written, merged_within, merged_stops}
 use Rattle.stops_for_sm.specs.Plain.{AllFinite, Plain}

@@ -1,12 +1,10 @@
 -- Each way in which filling the work list ends is its one outcome. Assumes nothing.
-use Rattle.std.proofs.Common.{◌≡◌, ℕ, ◌/◌, ◌≤◌, Bool, true, false, eqb, leb, List, [], length, sym, refl, ap, ◌∙◌, arith, eq-eqb, ne_eqb}
+use Rattle.std.proofs.Common.{◌≡◌, ℕ, ◌/◌, true, false, eqb, leb, List, [], length, sym, refl, ap, ◌∙◌, arith, eq-eqb, ne_eqb}
 use lib.Ieee.{Float}
-use Rattle.picks.specs.Pick.{pick}
 use Rattle.order.specs.Order.{laid}
 use Rattle.columns.specs.Laying.{given}
 use Rattle.stops_for_sm.specs.Merging.{Sources, merged_stops, at_first}
 use Rattle.stops_for_sm.specs.Filling.{flat, is_own, lacks_tempo, sources_number, result_number, fill_number, filling, StopsFilled}
-use Rattle.stops_for_sm.specs.declared.Filled.{Filled}
 use Rattle.stops_for_sm.proofs.TurnByTurn.{flat-length}
 
 none_filled : (s : Sources) (n : ℕ) → eqb n 0 ≡ false → filling n s ≡ []

@@ -1,10 +1,9 @@
 -- Lists that are taken are short, and their beats are finite. Assumes nothing.
-use Rattle.std.proofs.Common.{◌≡◌, ℕ, zero, suc, ◌+◌, ◌*◌, ◌/◌, ◌%◌, ◌<◌, ◌≤◌, Bool, true, false, ltb, List, [], ◌∷◌, length, get_or, sym, refl, ap, ◌∙◌, le_of_suc-le-suc, arith, ltb-false, eq-eqb, eqb-true}
+use Rattle.std.proofs.Common.{◌≡◌, ℕ, zero, suc, ◌*◌, ◌%◌, ◌<◌, ◌≤◌, Bool, true, false, ltb, List, [], ◌∷◌, length, get_or, refl, le_of_suc-le-suc, arith, ltb-false, eq-eqb, eqb-true}
 use lib.Ieee.{Float, nan, inf, fin, neg, level, lt, le, eq, up, down}
 use Rattle.picks.specs.Pick.{pick}
 use Rattle.limits.specs.declared.Kind.TheVariants.{Beat, Tempo, Pause, Value}
-use Rattle.limits.specs.declared.Range.{Range}
-use Rattle.limits.specs.Numbers.{range_of, up_to, in_range, size_of, every, all_in}
+use Rattle.limits.specs.Numbers.{range_of, up_to, in_range, every, all_in}
 use Rattle.limits.specs.Refusals.{lower, list_number}
 use Rattle.limits.proofs.NoRefusal.{lower-none}
 use Rattle.limits.proofs.ListTaken.{Taken, list-taken}

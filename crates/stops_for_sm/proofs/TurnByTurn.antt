@@ -1,5 +1,5 @@
 -- The sums of all turns, laid turn by turn, and places that stay within their lists. Assumes nothing.
-use Rattle.std.proofs.Common.{◌≡◌, ℕ, zero, suc, ◌+◌, ◌-◌, ◌*◌, ◌%◌, ◌≤◌, Bool, true, false, List, [], ◌∷◌, ◌++◌, length, get_or, drop, set, refl, ap, ◌∙◌, subst, arith, length-append, length-drop}
+use Rattle.std.proofs.Common.{◌≡◌, ℕ, zero, suc, ◌+◌, ◌*◌, ◌%◌, ◌≤◌, Bool, true, false, List, [], ◌∷◌, ◌++◌, length, get_or, drop, set, refl, ap, ◌∙◌, subst, arith, length-append, length-drop}
 use lib.Ieee.{Float, nan, inf, le, ne}
 use Rattle.ieee.specs.Constants.{plus_zero}
 use Rattle.picks.specs.Pick.{pick}

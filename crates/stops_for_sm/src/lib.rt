@@ -125,9 +125,9 @@ fn tempo_up_to(tempo_beats: &[f32], place: usize, beat: f32) -> usize
     ensures { result ≡ forward tempo_beats.now place beat }
 {
     let mut at = place;
-    while at + 1 < tempo_beats.len() {
-        if tempo_beats[at + 1] <= beat {
-            at += 1;
+    for next in place + 1..tempo_beats.len() {
+        if tempo_beats[next] <= beat {
+            at = next;
             continue;
         }
         return at;
@@ -245,11 +245,9 @@ fn lay_rest(stops: &[f32], from: usize, work: &mut [f32], count: usize) -> usize
     ensures value { result ≡ count + length (flat (merged_stops (stops_alone stops.now) (at_stop from))) }
     ensures work_after { work.new ≡ laid (take count work.old ++ flat (merged_stops (stops_alone stops.now) (at_stop from))) work.old }
 {
-    let mut stop = from;
     let mut at = count;
-    while stop < stops.len() {
+    for stop in (from..stops.len()).step_by(2) {
         at = lay_sum(work, at, stops[stop], 0.0 + stops[stop + 1]);
-        stop += 2;
     }
     at
 }
@@ -368,12 +366,10 @@ fn has_room(
 fn flat_beats_taken(list: &[f32]) -> bool
     ensures { result ≡ beats_in (range_of Kind.Beat) list.now }
 {
-    let mut i = 0;
-    while i < list.len() {
+    for i in (0..list.len()).step_by(2) {
         if !limits::taken(Kind::Beat, std::num::f32_to_f64_with_nan(list[i])) {
             return false;
         }
-        i += 2;
     }
     true
 }
@@ -381,12 +377,10 @@ fn flat_beats_taken(list: &[f32]) -> bool
 fn flat_values_taken(list: &[f32]) -> bool
     ensures { result ≡ values_in (range_of Kind.Pause) list.now }
 {
-    let mut i = 0;
-    while i + 1 < list.len() {
-        if !limits::taken(Kind::Pause, std::num::f32_to_f64_with_nan(list[i + 1])) {
+    for i in (1..list.len()).step_by(2) {
+        if !limits::taken(Kind::Pause, std::num::f32_to_f64_with_nan(list[i])) {
             return false;
         }
-        i += 2;
     }
     true
 }

@@ -1,11 +1,11 @@
 -- `stops_for_sm::convert_warps_and_delays_to_sm_stops` ends in its one outcome. Assumes nothing.
-use Rattle.std.proofs.Common.{◌≡◌, length, sym, ap, ◌∙◌, subst, arith, rules, leb-true}
+use Rattle.std.proofs.Common.{length, sym, ◌∙◌, subst, arith, leb-true}
 use borrow.Author.Tests.{not-true, not-false}
 use Rattle.stops_for_sm.specs.Merging.{Sources, sources, merged_stops, at_first}
-use Rattle.stops_for_sm.specs.Filling.{flat, StopsFilled}
+use Rattle.stops_for_sm.specs.Filling.{StopsFilled}
 use Rattle.stops_for_sm.specs.declared.Filled.{Filled}
 use Rattle.stops_for_sm.proofs.TurnByTurn.{flat-length}
-use Rattle.stops_for_sm.proofs.TakenSources.{SourcesTaken, sources-taken}
+use Rattle.stops_for_sm.proofs.TakenSources.{sources-taken}
 use Rattle.stops_for_sm.proofs.OneFilling.{refused_by_lists, callers_own, no-tempo, no_room, laid-whole}
 use Rattle.stops_for_sm.proofs.convert_warps_and_delays_to_sm_stops.Goals as goal
 

@@ -1,11 +1,8 @@
 -- `stops_for_sm::flat_beats_taken` goes two by two, up to one that is not taken. Assumes nothing.
-use Rattle.std.proofs.Common.{◌≡◌, ◌-◌, length, get_or, drop, sym, refl, ap, ◌∙◌, rules}
-use borrow.Author.Tests.{not-true, not-false}
-use lib.Ieee.{nan}
+use Rattle.std.proofs.Common.{◌≡◌, ◌-◌, length, drop}
 use Rattle.limits.specs.declared.Kind.TheVariants.{Beat}
-use Rattle.limits.specs.Numbers.{in_range, range_of}
+use Rattle.limits.specs.Numbers.{range_of}
 use Rattle.stops_for_sm.specs.Filling.{beats_in}
-use Rattle.stops_for_sm.proofs.TwoByTwo.{beat-parts, beats-none}
 use Rattle.stops_for_sm.proofs.flat_beats_taken.Given as goal
 
 abbrev pub invariant-loop-i : goal.invariant-loop-i

@@ -1,6 +1,6 @@
 -- `stops_for_sm::flat_number` is `flat_number`. Assumes nothing.
 use Rattle.picks.proofs.Rules.{flags}
-use Rattle.std.proofs.Common.{◌≡◌, true, length, sym, ◌∙◌, rules, le-ltb}
+use Rattle.std.proofs.Common.{◌≡◌, true, length, sym, ◌∙◌, le-ltb}
 use borrow.Author.Tests.{not-true, not-false}
 use Rattle.stops_for_sm.specs.Filling.{flat_number, is_even}
 use Rattle.stops_for_sm.proofs.SmallNumbers.{small-beats, small-values}

@@ -1,9 +1,8 @@
 -- `stops_for_sm::has_room` lays the sums elsewhere, where it must, and counts them. Assumes nothing.
 use Rattle.ieee.specs.Constants.{plus_zero}
 use Rattle.stops_for_sm.proofs.TurnByTurn.{at_most_left, flat-length}
-use Rattle.stops_for_sm.specs.Filling.{flat}
 use Rattle.stops_for_sm.specs.Merging.{Sources, sources, merged_stops, at_first}
-use Rattle.std.proofs.Common.{◌≡◌, ℕ, ◌/◌, leb, length, replicate, sym, ap, arith, rules, le-leb}
+use Rattle.std.proofs.Common.{◌≡◌, ℕ, ◌/◌, leb, length, sym, ap, arith, le-leb}
 use lib.ListN.{length-replicate}
 use Rattle.stops_for_sm.proofs.has_room.Goals as goal
 

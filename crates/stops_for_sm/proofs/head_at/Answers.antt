@@ -2,7 +2,6 @@
 use Rattle.picks.proofs.Rules.{flags}
 use Rattle.stops_for_sm.specs.inside.InHand.{head_at}
 use lib.Ieee.{div, of_bits}
-use Rattle.std.proofs.Common.{rules}
 use Rattle.stops_for_sm.proofs.head_at.Goals as goal
 
 pub returns-then-place-beats : goal.returns-then-place-beats

@@ -1,6 +1,5 @@
 -- `stops_for_sm::is_own` asks lengths. Assumes nothing.
-use Rattle.picks.proofs.Rules.{picks, flags}
-use Rattle.std.proofs.Common.{rules}
+use Rattle.picks.proofs.Rules.{flags}
 use Rattle.stops_for_sm.proofs.is_own.Goals as goal
 
 pub returns-then-delays-eq0 : goal.returns-then-delays-eq0

@@ -1,6 +1,5 @@
 -- `stops_for_sm::lacks_tempo` asks lengths. Assumes nothing.
-use Rattle.picks.proofs.Rules.{picks, flags}
-use Rattle.std.proofs.Common.{rules}
+use Rattle.picks.proofs.Rules.{flags}
 use Rattle.stops_for_sm.proofs.lacks_tempo.Goals as goal
 
 pub returns-then-tempos-eq0 : goal.returns-then-tempos-eq0

@@ -1,15 +1,9 @@
 -- `stops_for_sm::lay_rest` lays the stops that are left. Assumes nothing.
-use Rattle.std.proofs.Common.{◌≡◌, ◌+◌, ◌-◌, ◌%◌, ◌<◌, ◌≤◌, ◌++◌, length, get_or, take, refl, ap, ◌∙◌, arith, length-append, length-take-le, rules}
-use lib.Ieee.{nan, binary32, add, of_bits}
-use Rattle.ieee.specs.Constants.{plus_zero}
-use Rattle.order.proofs.LaidOverFront.{Laying, laying-count, laying-all}
-use Rattle.stops_for_sm.specs.Merging.{Turned, turn, merged_stops}
+use Rattle.std.proofs.Common.{◌≡◌, ◌+◌, ◌-◌, ◌%◌, ◌≤◌, ◌++◌, length, take}
+use Rattle.order.proofs.LaidOverFront.{Laying}
+use Rattle.stops_for_sm.specs.Merging.{merged_stops}
 use Rattle.stops_for_sm.specs.Filling.{flat}
 use Rattle.stops_for_sm.specs.inside.InHand.{stops_alone, at_stop}
-use Rattle.stops_for_sm.specs.Plain.{Plain}
-use Rattle.stops_for_sm.proofs.EveryTurnMeets.{merged-end}
-use Rattle.stops_for_sm.proofs.TurnByTurn.{sum_room, laid-turn}
-use Rattle.stops_for_sm.proofs.StopsLeft.{alone-plain, alone-more, alone-over, alone-turn}
 use Rattle.stops_for_sm.proofs.lay_rest.Given as goal
 
 abbrev pub invariant-loop-stop : goal.invariant-loop-stop

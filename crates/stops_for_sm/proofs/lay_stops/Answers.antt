@@ -1,13 +1,13 @@
 -- `stops_for_sm::lay_stops` lays the sums. Assumes nothing.
 use Rattle.stops_for_sm.proofs.TurnByTurn.{Fit, first-fit, turned-fit, list_by_list, sum_room, laid-turn}
 use Rattle.stops_for_sm.proofs.EveryTurnMeets.{left-falls, over_by_least}
-use Rattle.stops_for_sm.proofs.HeadsInHand.{InHand, least_in_hand, none_left, over_in_hand, both-over, more_left}
+use Rattle.stops_for_sm.proofs.HeadsInHand.{least_in_hand, none_left, over_in_hand, both-over, more_left}
 use Rattle.stops_for_sm.proofs.StopsLeft.{stops-left, count-behind, laid-behind}
 use Rattle.stops_for_sm.specs.Filling.{flat}
-use Rattle.order.proofs.LaidOverFront.{Laying, laying-none, laid-length}
+use Rattle.order.proofs.LaidOverFront.{laying-none, laid-length}
 use Rattle.order.specs.Order.{laid}
 use Rattle.stops_for_sm.specs.inside.InHand.{stops_alone, at_stop}
-use Rattle.std.proofs.Common.{◌≡◌, ◌+◌, ◌<◌, true, false, not, ltb, List, ◌++◌, length, take, sym, ap, ◌∙◌, subst, arith, rules}
+use Rattle.std.proofs.Common.{◌≡◌, ◌+◌, ◌<◌, true, false, not, ltb, List, ◌++◌, length, take, sym, ap, ◌∙◌, subst, arith}
 use Rattle.stops_for_sm.specs.Merging.{Sources, Heads, Turned, sources, least_beat, beat_here, is_over, turn, turns_left, merged_stops, at_first}
 use Rattle.stops_for_sm.specs.Plain.{Plain}
 use borrow.Author.Tests.{not-false}

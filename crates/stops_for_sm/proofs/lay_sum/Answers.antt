@@ -1,5 +1,5 @@
 -- `stops_for_sm::lay_sum` lays a sum that is not zero. Assumes nothing.
-use Rattle.std.proofs.Common.{◌≡◌, ◌+◌, sym, refl, ap, ◌∙◌, arith, length-set, rules}
+use Rattle.std.proofs.Common.{arith, length-set}
 use lib.Ieee.{of_bits}
 use Rattle.stops_for_sm.proofs.lay_sum.Goals as goal
 

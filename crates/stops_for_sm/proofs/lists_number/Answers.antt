@@ -1,6 +1,5 @@
 -- `stops_for_sm::lists_number` is `sources_number`. Assumes nothing.
 use Rattle.stops_for_sm.specs.Filling.{sources_number}
-use Rattle.std.proofs.Common.{rules}
 use Rattle.stops_for_sm.proofs.lists_number.Goals as goal
 
 pub returns : goal.returns

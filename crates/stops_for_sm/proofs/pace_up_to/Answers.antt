@@ -1,5 +1,5 @@
 -- `stops_for_sm::pace_up_to` moves the tempo forward where the next is due. Assumes nothing.
-use Rattle.std.proofs.Common.{sym, ap, ◌∙◌, arith, rules}
+use Rattle.std.proofs.Common.{sym, ap, ◌∙◌, arith}
 use lib.Ieee.{Float, le, of_bits}
 use Rattle.stops_for_sm.proofs.TurnByTurn.{forward_le}
 use Rattle.stops_for_sm.proofs.HeadsInHand.{tempo-stays}

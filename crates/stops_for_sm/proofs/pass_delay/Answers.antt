@@ -1,5 +1,5 @@
 -- `stops_for_sm::pass_delay` passes what delays have on the beat. Assumes nothing.
-use Rattle.std.proofs.Common.{◌≡◌, ◌<◌, true, length, refl, arith, rules}
+use Rattle.std.proofs.Common.{◌≡◌, ◌<◌, true, length, arith}
 use Rattle.stops_for_sm.specs.Merging.{meets}
 use Rattle.stops_for_sm.proofs.EveryTurnMeets.{here}
 use Rattle.stops_for_sm.proofs.HeadsInHand.{met_as}

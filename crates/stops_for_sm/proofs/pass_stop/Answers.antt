@@ -1,5 +1,5 @@
 -- `stops_for_sm::pass_stop` passes what stops have on the beat. Assumes nothing.
-use Rattle.std.proofs.Common.{◌≡◌, ◌+◌, ◌<◌, true, length, refl, arith, rules}
+use Rattle.std.proofs.Common.{◌≡◌, ◌+◌, ◌<◌, true, length, arith}
 use lib.Ieee.{of_bits}
 use Rattle.stops_for_sm.specs.Merging.{meets}
 use Rattle.stops_for_sm.proofs.EveryTurnMeets.{here}

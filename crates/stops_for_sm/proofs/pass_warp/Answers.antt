@@ -1,5 +1,5 @@
 -- `stops_for_sm::pass_warp` passes what warps have on the beat. Assumes nothing.
-use Rattle.std.proofs.Common.{◌≡◌, ◌<◌, true, length, get_or, refl, ap, arith, rules}
+use Rattle.std.proofs.Common.{◌≡◌, ◌<◌, true, length, get_or, ap, arith}
 use lib.Ieee.{Float, nan, binary32, sub, mul}
 use Rattle.stops_for_sm.specs.Merging.{meets}
 use Rattle.stops_for_sm.proofs.EveryTurnMeets.{here}

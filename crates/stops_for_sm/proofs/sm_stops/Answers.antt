@@ -1,5 +1,5 @@
 -- `stops_for_sm::sm_stops` chooses the answer. Assumes nothing.
-use Rattle.std.proofs.Common.{◌*◌, sym, refl, arith, length-take-le, rules, le-leb}
+use Rattle.std.proofs.Common.{◌*◌, sym, refl, arith, length-take-le, le-leb}
 use borrow.Author.Tests.{lt-leb}
 use Rattle.stops_for_sm.specs.Filling.{chosen}
 use Rattle.stops_for_sm.proofs.sm_stops.Goals as goal

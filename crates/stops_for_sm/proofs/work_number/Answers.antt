@@ -1,6 +1,5 @@
 -- `stops_for_sm::work_number` asks for an even size. Assumes nothing.
-use Rattle.picks.proofs.Rules.{picks, flags}
-use Rattle.std.proofs.Common.{rules}
+use Rattle.picks.proofs.Rules.{flags}
 use Rattle.stops_for_sm.proofs.work_number.Goals as goal
 
 pub returns-then-is_even : goal.returns-then-is_even
