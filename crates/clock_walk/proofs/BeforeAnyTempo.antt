@@ -1,5 +1,5 @@
 -- Before any tempo is passed, a walk that began at row 0 stays at rows up to 0, where the first tempo is. Assumes nothing.
-use Rattle.std.proofs.Common.{◌≡◌, ℕ, ◌+◌, ◌<◌, ◌≤◌, Bool, true, false, ltb, List, length, get_or, ℤ, pos, refl, ap, ◌∙◌, subst, arith, lt-ltb}
+use Rattle.std.proofs.Common.{◌≡◌, ℕ, ◌<◌, Bool, true, false, ltb, List, length, get_or, ℤ, pos, refl, ap, ◌∙◌, subst, arith, lt-ltb}
 use lib.Signed.{lt_z}
 use lib.Ieee.{Float, nan, binary64}
 use Rattle.picks.specs.Pick.{pick}
@@ -8,7 +8,7 @@ use Rattle.chart.specs.Timing.{Timing}
 use Rattle.clock_walk.specs.Events.{sooner, offered, row_ahead, ahead}
 use Rattle.clock_walk.specs.Passing.{arrived, event_passed, after_warp_end, after_tempo, after_delay, after_stop, after_warp}
 use Rattle.clock_walk.specs.Course.{is_found, is_ahead, past_found, onward}
-use Rattle.clock_walk.specs.Walk.{is_due, walk_on}
+use Rattle.clock_walk.specs.Walk.{walk_on}
 use Rattle.chart.specs.declared.State.{State}
 use Rattle.clock_walk.specs.declared.Event.{Event}
 use Rattle.clock_walk.specs.declared.Event.TheVariants.{WarpEnd, Tempo, Delay, Stop, Warp}

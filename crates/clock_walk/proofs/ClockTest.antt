@@ -5,12 +5,11 @@ use lib.Ieee.{Float}
 use Rattle.picks.specs.Pick.{pick}
 use Rattle.chart.specs.Timing.{Timing}
 use Rattle.clock_walk.specs.Events.{row_ahead, ahead, goes_first, goes_before, due_of, due}
-use Rattle.clock_walk.specs.Course.{is_found, onward, past_found, pass_while}
+use Rattle.clock_walk.specs.Course.{is_found, onward, past_found}
 use Rattle.clock_walk.specs.Passing.{passing}
 use Rattle.clock_walk.specs.Walk.{is_passes, is_due, ended, walk_on}
 use Rattle.chart.specs.declared.State.{State}
 use Rattle.clock_walk.specs.declared.Next.{Next}
-use Rattle.clock_walk.specs.declared.Walked.{Walked}
 use Rattle.clock_walk.specs.declared.Ahead.{Ahead}
 use Rattle.clock_walk.specs.declared.Ahead.TheVariants.{Found, NotFound}
 use Rattle.clock_walk.specs.declared.Due.{Due}

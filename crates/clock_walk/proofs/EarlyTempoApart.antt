@@ -4,7 +4,7 @@ use lib.Ieee.{Float}
 use Rattle.chart.specs.Timing.{Timing}
 use Rattle.clock_walk.specs.Events.{ahead}
 use Rattle.clock_walk.specs.Passing.{in_force, time_to, time_at, brings, arrived, event_passed, after_warp_end, after_tempo, after_delay, after_stop, after_warp}
-use Rattle.clock_walk.specs.Course.{past_found, onward, events_left, Stopped, pass_within, pass_while}
+use Rattle.clock_walk.specs.Course.{past_found, onward, events_left, pass_within, pass_while}
 use Rattle.clock_walk.specs.Walk.{is_due, ended, walk_on}
 use Rattle.chart.specs.declared.State.{State}
 use Rattle.clock_walk.specs.declared.Event.{Event}

@@ -16,7 +16,6 @@ use Rattle.clock_walk.specs.declared.Event.{Event}
 use Rattle.clock_walk.specs.declared.Event.TheVariants.{WarpEnd, Tempo, Delay, Stop, Warp}
 use Rattle.clock_walk.specs.declared.Ahead.{Ahead}
 use Rattle.clock_walk.specs.declared.Ahead.TheVariants.{Found, NotFound}
-use Rattle.clock_walk.specs.declared.Due.{Due}
 use Rattle.clock_walk.specs.declared.Due.TheVariants.{Passes, Asked}
 use Rattle.rows.proofs.RowOrder.{lt_le, le_trans, lt_not, lt_not_self}
 use Rattle.clock_walk.proofs.ClockTest.{first_up_to}

@@ -1,5 +1,5 @@
 -- An allowed beat that is not before the beat of a row has that row or a later one. Assumes nothing.
-use Rattle.std.proofs.Common.{◌≡◌, ℕ, ◌+◌, ◌*◌, ◌^◌, ◌<◌, ◌≤◌, Bool, true, false, not, T, eqb, ltb, leb, List, length, get_or, ℤ, pos, negsuc, ◌+ℤ◌, nat_abs, sym, refl, ap, ◌∙◌, subst, zero-le, le_trans, le_of_eq, zero-lt-suc, le_of_mul-le-mul_right, arith, leb→le, pow_pos, w32, SFits, to_z, of_z, ltb-false, lt-ltb}
+use Rattle.std.proofs.Common.{◌≡◌, ℕ, ◌+◌, ◌*◌, ◌^◌, ◌<◌, ◌≤◌, Bool, true, false, not, T, eqb, ltb, List, length, get_or, ℤ, pos, negsuc, ◌+ℤ◌, nat_abs, sym, refl, ap, ◌∙◌, subst, zero-le, le_trans, le_of_eq, zero-lt-suc, le_of_mul-le-mul_right, arith, leb→le, pow_pos, w32, SFits, to_z, of_z, ltb-false, lt-ltb}
 use lib.Signed.{lt_z, le_z}
 use lib.Ieee.{Float, fin, inf, nan, binary64, up, down, low, is_nan, le, lt, eq}
 use lib.Ieee.Fits.{and_i, down_pos}

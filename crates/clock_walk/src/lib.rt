@@ -302,15 +302,13 @@ fn last_up_to(beat: f64, other: f64, tempo_beats: &[f32], tempo_values: &[f32]) 
     ensures { result ≡ last_up_to beat other tempo_beats.now tempo_values.now }
 {
     let mut tempo = other;
-    let mut i = 0;
-    while i < tempo_beats.len() {
+    for (i, &tempo_beat) in tempo_beats.iter().enumerate() {
         if i >= tempo_values.len() {
             return tempo;
         }
-        let at = std::num::f32_to_f64_with_nan(tempo_beats[i]);
+        let at = std::num::f32_to_f64_with_nan(tempo_beat);
         if at <= beat {
             tempo = std::num::f32_to_f64_with_nan(tempo_values[i]);
-            i += 1;
             continue;
         }
         return tempo;

@@ -1,5 +1,5 @@
 -- `clock_walk::earlier` meets its contract. Assumes nothing.
-use Rattle.std.proofs.Common.{true, false, rules}
+use Rattle.std.proofs.Common.{true, false}
 use Rattle.clock_walk.specs.Events.{sooner}
 use Rattle.clock_walk.specs.Heads.{sooner_head}
 use Rattle.rows.proofs.BackFromBits.{back, tested}

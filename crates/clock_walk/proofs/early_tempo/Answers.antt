@@ -1,6 +1,6 @@
 -- `clock_walk::early_tempo` meets its contract. Assumes nothing.
 use Rattle.rows.proofs.BackFromBits.{back}
-use Rattle.std.proofs.Common.{rules, eq-eqb, ne_eqb}
+use Rattle.std.proofs.Common.{eq-eqb, ne_eqb}
 use lib.Ieee.{of_bits}
 use Rattle.clock_walk.specs.Passing.{early_tempo}
 use Rattle.clock_walk.proofs.early_tempo.Goals as goal

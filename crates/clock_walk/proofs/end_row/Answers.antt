@@ -1,5 +1,5 @@
 -- `clock_walk::end_row` is `end_row`. Assumes nothing.
-use Rattle.std.proofs.Common.{◌∙◌, rules}
+use Rattle.std.proofs.Common.{◌∙◌}
 use Rattle.rows.proofs.BackFromBits.{back}
 use Rattle.clock_walk.specs.Quiet.{end_row}
 use Rattle.clock_walk.proofs.end_row.Goals as goal

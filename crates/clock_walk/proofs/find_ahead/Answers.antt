@@ -1,5 +1,5 @@
 -- `clock_walk::find_ahead` is `ahead_of`. Assumes nothing.
-use Rattle.std.proofs.Common.{◌≡◌, true, false, rules}
+use Rattle.std.proofs.Common.{◌≡◌, true, false}
 use lib.Signed.{lt_z}
 use Rattle.clock_walk.specs.Events.{farthest}
 use Rattle.clock_walk.specs.Heads.{ahead_of}

@@ -1,5 +1,5 @@
 -- `clock_walk::find_due` is `due_of` of what is ahead. Assumes nothing.
-use Rattle.std.proofs.Common.{◌≡◌, true, false, sym, ◌∙◌, rules}
+use Rattle.std.proofs.Common.{◌≡◌, true, false, sym, ◌∙◌}
 use Rattle.clock_walk.specs.Events.{goes_before}
 use Rattle.clock_walk.specs.Heads.{least_head}
 use Rattle.rows.proofs.BackFromBits.{back}

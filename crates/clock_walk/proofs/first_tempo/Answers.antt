@@ -1,5 +1,5 @@
 -- `clock_walk::first_tempo` meets its contract. Assumes nothing.
-use Rattle.std.proofs.Common.{◌∙◌, rules}
+use Rattle.std.proofs.Common.{◌∙◌}
 use lib.Ieee.{of_bits}
 use Rattle.ieee.specs.Constants.{sixty}
 use Rattle.clock_walk.proofs.LastUpTo.{first-none, first_some}

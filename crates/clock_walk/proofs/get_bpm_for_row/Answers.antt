@@ -1,6 +1,5 @@
 -- `clock_walk::get_bpm_for_row` meets its contract. Assumes nothing.
 use Rattle.rows.proofs.BackFromBits.{back}
-use Rattle.std.proofs.Common.{◌∙◌, rules}
 use Rattle.clock_walk.specs.Passing.{tempo_at}
 use Rattle.clock_walk.proofs.get_bpm_for_row.Goals as goal
 

@@ -1,5 +1,5 @@
 -- `clock_walk::goes_before` is `goes_before`. Assumes nothing.
-use Rattle.std.proofs.Common.{true, false, w32, SFits, rules}
+use Rattle.std.proofs.Common.{true, false, w32, SFits}
 use Rattle.clock_walk.specs.Events.{goes_before}
 use Rattle.rows.proofs.BackFromBits.{tested}
 use Rattle.clock_walk.proofs.goes_before.Goals as goal

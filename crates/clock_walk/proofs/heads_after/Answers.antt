@@ -1,6 +1,5 @@
 -- `clock_walk::heads_after` is `heads_after`, kind by kind. Assumes nothing.
 use Rattle.rows.proofs.BackFromBits.{back}
-use Rattle.std.proofs.Common.{rules}
 use Rattle.clock_walk.proofs.heads_after.Goals as goal
 
 pub returns-in-WarpEnd : goal.returns-in-WarpEnd

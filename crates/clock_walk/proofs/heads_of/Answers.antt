@@ -1,7 +1,6 @@
 -- `clock_walk::heads_of` is `heads_of`. Assumes nothing.
 use Rattle.clock_walk.specs.Heads.{heads_of}
 use Rattle.rows.proofs.BackFromBits.{back}
-use Rattle.std.proofs.Common.{rules}
 use Rattle.clock_walk.proofs.heads_of.Goals as goal
 
 pub returns : goal.returns

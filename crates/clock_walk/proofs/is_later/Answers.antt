@@ -1,5 +1,5 @@
 -- `clock_walk::is_later` is `is_later`, test by test. Assumes nothing.
-use Rattle.std.proofs.Common.{◌≡◌, ℕ, Bool, true, false, List, ℤ, pos, ◌+ℤ◌, ap, ◌∙◌, w32, to_z, of_z, rules}
+use Rattle.std.proofs.Common.{◌≡◌, ℕ, Bool, true, false, List, ℤ, pos, ◌+ℤ◌, ap, ◌∙◌, w32, to_z, of_z}
 use lib.Signed.{lt_z}
 use lib.Ieee.{Float, binary64}
 use Rattle.rows.specs.Rows.{beat_of}

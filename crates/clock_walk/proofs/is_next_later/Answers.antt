@@ -1,5 +1,5 @@
 -- `clock_walk::is_next_later` is `is_next_later`. Assumes nothing.
-use Rattle.std.proofs.Common.{rules, le-ltb, lt-ltb}
+use Rattle.std.proofs.Common.{le-ltb, lt-ltb}
 use Rattle.rows.proofs.BackFromBits.{back}
 use Rattle.clock_walk.specs.Quiet.{is_next_later}
 use Rattle.clock_walk.proofs.is_next_later.Goals as goal

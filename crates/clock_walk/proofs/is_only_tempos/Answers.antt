@@ -1,5 +1,5 @@
 -- `clock_walk::is_only_tempos` is `only_tempos`, test by test. Assumes nothing.
-use Rattle.std.proofs.Common.{true, false, ◌∙◌, w32, to_z, of_z, rules}
+use Rattle.std.proofs.Common.{true, false, ◌∙◌, w32, to_z, of_z}
 use Rattle.clock_walk.specs.Quiet.{only_tempos}
 use Rattle.rows.proofs.BackFromBits.{test-is}
 use Rattle.clock_walk.proofs.LaterBeats.{next_fits, not_below_lem, not_above_lem, beat-after}

@@ -1,5 +1,5 @@
 -- `clock_walk::is_tempo_ahead` says yes only where the tempo's row is before all others. Assumes nothing.
-use Rattle.std.proofs.Common.{◌≡◌, true, false, w32, SFits}
+use Rattle.std.proofs.Common.{◌≡◌, true, w32, SFits}
 use lib.Signed.{lt_z}
 use Rattle.rows.proofs.BackFromBits.{tested}
 use Rattle.clock_walk.specs.Events.{farthest}

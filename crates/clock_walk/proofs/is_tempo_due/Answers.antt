@@ -1,5 +1,5 @@
 -- `clock_walk::is_tempo_due` says yes only where a tempo is ahead and not behind the asked row. Assumes nothing.
-use Rattle.std.proofs.Common.{◌≡◌, true, false, rules}
+use Rattle.std.proofs.Common.{false}
 use Rattle.rows.proofs.BackFromBits.{tested}
 use Rattle.rows.proofs.RowOrder.{no}
 use Rattle.clock_walk.proofs.HeadsAhead.{tempo-due}

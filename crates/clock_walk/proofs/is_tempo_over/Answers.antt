@@ -1,5 +1,5 @@
 -- `clock_walk::is_tempo_over` says yes only where a tempo is ahead and has come. Assumes nothing.
-use Rattle.std.proofs.Common.{◌≡◌, Bool, true, false, not, refl, rules}
+use Rattle.std.proofs.Common.{◌≡◌, Bool, true, false, not, refl}
 use Rattle.rows.proofs.BackFromBits.{back}
 use Rattle.rows.proofs.RowOrder.{no}
 use Rattle.clock_walk.proofs.is_tempo_over.Goals as goal

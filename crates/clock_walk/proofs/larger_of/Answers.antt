@@ -1,6 +1,5 @@
 -- `clock_walk::larger_of` meets its contract. Assumes nothing.
 use Rattle.clock_walk.specs.Passing.{larger}
-use Rattle.std.proofs.Common.{rules}
 use Rattle.clock_walk.proofs.larger_of.Goals as goal
 
 pub returns-then-old-new : goal.returns-then-old-new

@@ -1,7 +1,7 @@
 -- `clock_walk::last_up_to` meets its contract. Assumes nothing.
-use Rattle.std.proofs.Common.{◌≡◌, ◌-◌, true, false, length, get_or, sym, refl, ap, ◌∙◌, arith, rules}
+use Rattle.std.proofs.Common.{◌≡◌, true, false, get_or, sym, refl, ap, ◌∙◌, arith}
 use lib.Ieee.{Float, le, nan}
-use Rattle.clock_walk.proofs.LastUpTo.{Finding, beats-over, values-over, later, found}
+use Rattle.clock_walk.proofs.LastUpTo.{beats-over, values-over, later, found}
 use Rattle.clock_walk.proofs.last_up_to.Goals as goal
 
 pub loop-i-init : goal.loop-i-init
@@ -13,10 +13,6 @@ returns-then-i-tempo_values c =
     let a = c.args in
     let l = c.loop-i in
     values-over a.beat a.other a.tempo_beats.now a.tempo_values.now l.tempo l.i l.invariant c.if-i-tempo_values.true
-
-pub loop-i-smaller : goal.loop-i-smaller
-loop-i-smaller c =
-    let h = c.loop-i-test.true in omega arith
 
 pub loop-i-preserved : goal.loop-i-preserved
 loop-i-preserved c =

@@ -1,7 +1,6 @@
 -- `clock_walk::least_head` is `least_head`. Assumes nothing.
 use Rattle.clock_walk.specs.Heads.{least_head}
 use Rattle.rows.proofs.BackFromBits.{back}
-use Rattle.std.proofs.Common.{rules}
 use Rattle.clock_walk.proofs.least_head.Goals as goal
 
 pub returns : goal.returns

@@ -1,5 +1,5 @@
 -- `clock_walk::not_before` is `not_before`. Assumes nothing.
-use Rattle.std.proofs.Common.{not, get_or, rules, le-ltb, lt-ltb}
+use Rattle.std.proofs.Common.{not, get_or, le-ltb, lt-ltb}
 use lib.Ieee.{nan, binary64, fits, is_nan, of_bits}
 use lib.Ieee.Fits.{and_i, fits_widens}
 use Rattle.clock_walk.specs.Quiet.{not_before}

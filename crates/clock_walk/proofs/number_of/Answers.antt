@@ -1,6 +1,5 @@
 -- `clock_walk::number_of` is `brings`, kind by kind. Assumes nothing.
 use lib.Ieee.{of_bits}
-use Rattle.std.proofs.Common.{rules}
 use Rattle.clock_walk.proofs.number_of.Goals as goal
 
 pub returns-in-WarpEnd : goal.returns-in-WarpEnd

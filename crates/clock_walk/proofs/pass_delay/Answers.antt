@@ -1,7 +1,6 @@
 -- `clock_walk::pass_delay` meets its contract. Assumes nothing.
 use Rattle.clock_walk.specs.Passing.{after_delay}
 use Rattle.rows.proofs.BackFromBits.{back}
-use Rattle.std.proofs.Common.{rules}
 use Rattle.clock_walk.proofs.pass_delay.Goals as goal
 
 pub returns : goal.returns

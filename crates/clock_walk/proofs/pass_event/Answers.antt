@@ -1,5 +1,5 @@
 -- `clock_walk::pass_event` passes an event of any kind. Assumes nothing.
-use Rattle.std.proofs.Common.{◌≡◌, ℤ, subst, rules}
+use Rattle.std.proofs.Common.{◌≡◌, ℤ, subst}
 use lib.Ieee.{Float}
 use Rattle.chart.specs.declared.State.{State}
 use Rattle.clock_walk.specs.declared.Next.{Next}

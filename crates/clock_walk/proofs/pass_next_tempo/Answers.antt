@@ -1,6 +1,6 @@
 -- `clock_walk::pass_next_tempo` is `tempo_passed`. Assumes nothing.
 use lib.Ieee.{of_bits}
-use Rattle.std.proofs.Common.{rules, le-ltb, lt-ltb}
+use Rattle.std.proofs.Common.{le-ltb, lt-ltb}
 use Rattle.clock_walk.specs.Passing.{event_passed}
 use Rattle.clock_walk.specs.Soon.{tempo_passed}
 use Rattle.rows.proofs.BackFromBits.{back}

@@ -1,7 +1,6 @@
 -- `clock_walk::pass_stop` meets its contract. Assumes nothing.
 use Rattle.clock_walk.specs.Passing.{after_stop}
 use Rattle.rows.proofs.BackFromBits.{back}
-use Rattle.std.proofs.Common.{rules}
 use Rattle.clock_walk.proofs.pass_stop.Goals as goal
 
 pub returns : goal.returns

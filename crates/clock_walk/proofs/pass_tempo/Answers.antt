@@ -1,7 +1,6 @@
 -- `clock_walk::pass_tempo` meets its contract. Assumes nothing.
 use Rattle.clock_walk.specs.Passing.{after_tempo}
 use Rattle.rows.proofs.BackFromBits.{back}
-use Rattle.std.proofs.Common.{rules}
 use Rattle.clock_walk.proofs.pass_tempo.Goals as goal
 
 pub returns : goal.returns

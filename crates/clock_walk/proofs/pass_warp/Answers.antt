@@ -1,7 +1,6 @@
 -- `clock_walk::pass_warp` meets its contract. Assumes nothing.
 use Rattle.clock_walk.specs.Passing.{after_warp}
 use Rattle.rows.proofs.BackFromBits.{back}
-use Rattle.std.proofs.Common.{rules}
 use Rattle.clock_walk.proofs.pass_warp.Goals as goal
 
 pub returns : goal.returns

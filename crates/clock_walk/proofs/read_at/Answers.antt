@@ -1,5 +1,5 @@
 -- `clock_walk::read_at` reads at a place, and a NaN past the end. Assumes nothing.
-use Rattle.std.proofs.Common.{sym, rules}
+use Rattle.std.proofs.Common.{sym}
 use lib.Ieee.{div, of_bits, nan}
 use lib.ListN.{get_or-eq_default}
 use Rattle.clock_walk.proofs.read_at.Goals as goal

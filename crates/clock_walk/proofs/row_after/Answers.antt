@@ -1,5 +1,5 @@
 -- `clock_walk::row_after` is `row_after`. Assumes nothing.
-use Rattle.std.proofs.Common.{◌∙◌, rules, le-ltb, lt-ltb}
+use Rattle.std.proofs.Common.{◌∙◌, le-ltb, lt-ltb}
 use Rattle.rows.proofs.BackFromBits.{back}
 use Rattle.clock_walk.specs.Soon.{row_after}
 use Rattle.clock_walk.proofs.row_after.Goals as goal

@@ -1,6 +1,5 @@
 -- `clock_walk::still_runs` is `still_runs`, kind by kind. Assumes nothing.
 use Rattle.clock_walk.specs.ByTime.{still_runs}
-use Rattle.std.proofs.Common.{rules}
 use Rattle.clock_walk.proofs.still_runs.Goals as goal
 
 pub returns-in-WarpEnd : goal.returns-in-WarpEnd

@@ -1,5 +1,5 @@
 -- `clock_walk::tempo_in_force` meets its contract. Assumes nothing.
-use Rattle.std.proofs.Common.{rules, eq-eqb, ne_eqb}
+use Rattle.std.proofs.Common.{eq-eqb, ne_eqb}
 use Rattle.clock_walk.specs.Passing.{in_force}
 use Rattle.clock_walk.proofs.tempo_in_force.Goals as goal
 

@@ -1,7 +1,6 @@
 -- `clock_walk::time_at` is `time_at`. Assumes nothing.
 use Rattle.clock_walk.specs.Passing.{time_at}
 use Rattle.rows.proofs.BackFromBits.{back}
-use Rattle.std.proofs.Common.{rules}
 use Rattle.clock_walk.proofs.time_at.Goals as goal
 
 pub returns : goal.returns

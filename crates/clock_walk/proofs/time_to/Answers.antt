@@ -2,7 +2,6 @@
 use lib.Ieee.{of_bits}
 use Rattle.rows.proofs.BackFromBits.{back}
 use Rattle.clock_walk.specs.Passing.{time_to}
-use Rattle.std.proofs.Common.{rules}
 use Rattle.clock_walk.proofs.time_to.Goals as goal
 
 pub returns-then-warping : goal.returns-then-warping

@@ -6,7 +6,7 @@ use Rattle.chart.specs.declared.State.{State}
 use Rattle.clock_walk.specs.Events.{ahead}
 use Rattle.clock_walk.specs.Passing.{passing}
 use Rattle.clock_walk.specs.Course.{is_found, past_found, onward, events_left}
-use Rattle.clock_walk.specs.Heads.{heads_of, ahead_of}
+use Rattle.clock_walk.specs.Heads.{ahead_of}
 use Rattle.clock_walk.specs.EndMark.{greater_row, end_mark}
 use Rattle.rows.proofs.BackFromBits.{back}
 use Rattle.clock_walk.proofs.EventByEvent.{left-falls, moves}

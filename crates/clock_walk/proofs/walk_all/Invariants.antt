@@ -1,17 +1,9 @@
 -- `clock_walk::walk_all` walks event by event, to where nothing is found. Assumes nothing.
-use Rattle.std.proofs.Common.{◌≡◌, ◌<◌, sym, ap, ◌∙◌, subst, w32, SFits, to_z, of_z, rules}
-use lib.Ieee.{Float}
-use Rattle.chart.specs.Timing.{Timing, timing}
-use Rattle.chart.specs.declared.State.{State}
-use Rattle.clock_walk.specs.Events.{ahead}
-use Rattle.clock_walk.specs.Passing.{passing}
-use Rattle.clock_walk.specs.Course.{is_found, past_found, onward, events_left}
-use Rattle.clock_walk.specs.Heads.{heads_of, ahead_of}
-use Rattle.clock_walk.specs.EndMark.{greater_row, end_mark}
-use Rattle.rows.proofs.BackFromBits.{back}
-use Rattle.clock_walk.proofs.EventByEvent.{left-falls, moves}
-use Rattle.clock_walk.proofs.HeadsAhead.{ahead_by_heads, passed-heads}
-use Rattle.clock_walk.proofs.WholeCourse.{mark_from, mark_on, mark-end}
+use Rattle.std.proofs.Common.{◌≡◌}
+use Rattle.chart.specs.Timing.{timing}
+use Rattle.clock_walk.specs.Course.{events_left}
+use Rattle.clock_walk.specs.Heads.{heads_of}
+use Rattle.clock_walk.proofs.WholeCourse.{mark_from}
 use Rattle.clock_walk.proofs.walk_all.Given as goal
 
 abbrev pub invariant-loop-next : goal.invariant-loop-next

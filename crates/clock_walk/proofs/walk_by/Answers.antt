@@ -1,5 +1,5 @@
 -- `clock_walk::walk_by` passes what is over by a time. Assumes nothing.
-use Rattle.std.proofs.Common.{◌≡◌, ◌+◌, ◌^◌, ◌<◌, true, false, sym, refl, ap, ◌∙◌, arith, w32, to_z, of_z, rules}
+use Rattle.std.proofs.Common.{◌≡◌, ◌+◌, ◌^◌, ◌<◌, true, sym, refl, ap, ◌∙◌, arith, w32, to_z, of_z}
 use lib.Ieee.{Float}
 use Rattle.ieee.specs.Constants.{plus_zero}
 use Rattle.chart.specs.Timing.{Timing, timing}

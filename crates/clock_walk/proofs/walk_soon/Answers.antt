@@ -1,5 +1,5 @@
 -- `clock_walk::walk_soon` is `soon_of`. Assumes nothing.
-use Rattle.std.proofs.Common.{true, false, rules}
+use Rattle.std.proofs.Common.{true, false}
 use Rattle.clock_walk.specs.Soon.{soon_of}
 use Rattle.rows.proofs.BackFromBits.{back, test-is}
 use Rattle.clock_walk.proofs.walk_soon.Goals as goal

@@ -1,5 +1,5 @@
 -- `clock_walk::walk_to` walks event by event. Assumes nothing.
-use Rattle.std.proofs.Common.{◌≡◌, ◌+◌, ◌^◌, ◌<◌, true, false, ℤ, sym, refl, ap, ◌∙◌, arith, w32, to_z, of_z, rules}
+use Rattle.std.proofs.Common.{◌≡◌, ◌+◌, ◌^◌, ◌<◌, false, ℤ, sym, refl, ap, ◌∙◌, arith, w32, to_z, of_z}
 use lib.Ieee.{Float}
 use Rattle.ieee.specs.Constants.{plus_zero}
 use Rattle.chart.specs.Timing.{Timing, timing}

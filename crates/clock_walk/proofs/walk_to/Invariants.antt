@@ -1,25 +1,11 @@
 -- `clock_walk::walk_to` walks event by event. Assumes nothing.
-use Rattle.std.proofs.Common.{◌≡◌, ◌+◌, ◌^◌, ◌<◌, true, false, ℤ, sym, refl, ap, ◌∙◌, arith, w32, to_z, of_z, rules}
-use lib.Ieee.{Float}
-use Rattle.ieee.specs.Constants.{plus_zero}
-use Rattle.chart.specs.Timing.{Timing, timing}
-use Rattle.clock_walk.specs.Events.{ahead, due_of, due}
-use Rattle.clock_walk.specs.Passing.{event_passed, passing}
-use Rattle.clock_walk.specs.inside.CanMove.{CanMove}
+use Rattle.std.proofs.Common.{◌≡◌}
+use Rattle.chart.specs.Timing.{timing}
 use Rattle.clock_walk.specs.Course.{events_left}
-use Rattle.clock_walk.specs.Walk.{is_passes, is_due, ended, walk_on, walk}
-use Rattle.clock_walk.specs.Heads.{heads_of, heads_after, ahead_of}
-use Rattle.chart.specs.declared.State.{State}
-use Rattle.clock_walk.specs.declared.Next.{Next}
-use Rattle.clock_walk.specs.declared.Heads.{Heads}
-use Rattle.clock_walk.specs.declared.Event.TheVariants.{Tempo}
-use Rattle.clock_walk.specs.declared.Due.{Due}
-use Rattle.clock_walk.specs.declared.Due.TheVariants.{Passes, Asked}
-use Rattle.rows.proofs.BackFromBits.{back}
-use Rattle.clock_walk.proofs.EventByEvent.{moves, count_fits}
-use Rattle.clock_walk.proofs.AllWalks.{Going, turn, pass-end}
-use Rattle.clock_walk.proofs.ClockTest.{says_due, due-found, due-passed}
-use Rattle.clock_walk.proofs.HeadsAhead.{ahead_by_heads, passed-heads}
+use Rattle.clock_walk.specs.Walk.{is_due}
+use Rattle.clock_walk.specs.Heads.{heads_of}
+use Rattle.clock_walk.proofs.AllWalks.{Going}
+use Rattle.clock_walk.proofs.ClockTest.{says_due}
 use Rattle.clock_walk.proofs.walk_to.Given as goal
 
 abbrev pub invariant-loop-tempo : goal.invariant-loop-tempo
