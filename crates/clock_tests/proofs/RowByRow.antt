@@ -1,5 +1,7 @@
 -- Whether rows rise, told row by row. Assumes nothing.
-use Rattle.std.proofs.Common.{◌≡◌, ℕ, ◌+◌, ◌<◌, ◌≤◌, true, false, List, [], ◌∷◌, length, get_or, drop, ℤ, pos, sym, refl, ap, ◌∙◌, add-one, arith, drop_of_length-le, drop-cons}
+use Rattle.std.proofs.Common.{◌≡◌, ℕ, ◌+◌, ◌-◌, ◌<◌, ◌≤◌, true, false, List, [], ◌∷◌, length, get_or, take, drop, ℤ, pos, sym, refl, ap, ◌∙◌, add-one, arith, drop_of_length-le, drop-cons, length-drop}
+use lib.Seq.{take_all}
+use Rattle.std.proofs.lemmas.Grind.{get_or_after_one}
 use lib.Signed.{lt_z}
 use lib.Ieee.{Float, fin, nan, binary64, eq}
 use Rattle.rows.specs.Rows.{row}
@@ -19,6 +21,18 @@ pub first-starts : (beats : List Float) → (length beats ≡ 0 → ⊥) → eq 
 unfolding starts_at_zero
 first-starts [] e = absurd (e refl)
 first-starts (b ∷ beats) e = refl
+
+-- the beats behind the first, as a slice of them all
+behind : (beats : List Float) → take (length beats - 1) (drop 1 beats) ≡ drop 1 beats
+behind beats = take_all (length beats - 1) (drop 1 beats) (omega (arith, length-drop 1 beats))
+
+pub length-behind : (beats : List Float) → length (take (length beats - 1) (drop 1 beats)) ≡ length beats - 1
+length-behind beats = ap length (behind beats) ∙ length-drop 1 beats
+
+pub get_or-behind : (beats : List Float) (place : ℕ) → get_or (take (length beats - 1) (drop 1 beats)) place nan ≡ get_or beats (place + 1) nan
+get_or-behind beats place =
+    let next : 1 + place ≡ place + 1 = omega arith in
+    ap (λ (l : List Float). get_or l place nan) (behind beats) ∙ get_or_after_one beats place nan ∙ ap (λ (k : ℕ). get_or beats k nan) next
 
 -- the loop at place i, above whose rows so far `last` is the highest
 pub record Rising (beats : List Float) (last : ℤ) (i : ℕ) : Type 0 where

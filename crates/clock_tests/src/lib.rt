@@ -28,12 +28,10 @@ fn rows_rise(beats: &[f32]) -> bool
         return true;
     }
     let mut last = row_of(beats[0]);
-    let mut i = 1;
-    while i < beats.len() {
-        let row = row_of(beats[i]);
+    for &beat in &beats[1..] {
+        let row = row_of(beat);
         if last < row {
             last = row;
-            i += 1;
             continue;
         }
         return false;

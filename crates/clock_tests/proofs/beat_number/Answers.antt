@@ -1,5 +1,5 @@
 -- `clock_tests::beat_number` is `beat_number`: a beat is taken exactly where it lies between both ends. Assumes nothing.
-use Rattle.std.proofs.Common.{◌≡◌, Bool, true, false, ◌&&◌, T, pos, sym, refl, subst}
+use Rattle.std.proofs.Common.{◌≡◌, Bool, true, false, ◌&&◌, T, pos, sym, refl}
 use lib.Ieee.{Float, fin, le, of_bits, neg}
 use Rattle.picks.specs.Pick.{pick}
 use Rattle.ieee.specs.Magnitude.{within_power}

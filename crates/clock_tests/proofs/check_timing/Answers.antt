@@ -1,6 +1,5 @@
 -- `clock_tests::check_timing` is `timing_number`. Assumes nothing.
 use Rattle.clock_tests.specs.TimingNumbers.{timing_number}
-use Rattle.std.proofs.Common.{rules}
 use Rattle.clock_tests.proofs.check_timing.Goals as goal
 
 pub returns : goal.returns

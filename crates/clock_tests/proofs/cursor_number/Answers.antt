@@ -1,5 +1,5 @@
 -- `clock_tests::cursor_number` is `cursor_number`. Assumes nothing.
-use Rattle.std.proofs.Common.{◌≡◌, true, false, ℤ, sym, ap, ◌∙◌, w32, to_z, of_z, rules}
+use Rattle.std.proofs.Common.{◌≡◌, true, false, ℤ, sym, ap, ◌∙◌, w32, to_z, of_z}
 use mir.ValLaws.{to_z-of_z}
 use borrow.Author.Tests.{not-true, not-false}
 use Rattle.clock_tests.specs.CursorNumbers.{rows_in, cursor_number}

@@ -2,7 +2,6 @@
 use Rattle.picks.proofs.Rules.{flags}
 use lib.Ieee.{of_bits}
 use Rattle.clock_tests.specs.CursorNumbers.{end_in}
-use Rattle.std.proofs.Common.{rules}
 use Rattle.clock_tests.proofs.end_in.Goals as goal
 
 pub returns-then-end : goal.returns-then-end

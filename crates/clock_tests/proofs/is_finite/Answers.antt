@@ -1,7 +1,6 @@
 -- `clock_tests::is_finite` is `finite`. Assumes nothing.
 use lib.Ieee.{binary64, of_bits}
 use Rattle.ieee.proofs.FiniteTest.{finite-test}
-use Rattle.std.proofs.Common.{rules}
 use Rattle.clock_tests.proofs.is_finite.Goals as goal
 
 pub returns : goal.returns

@@ -1,6 +1,5 @@
 -- `clock_tests::lists_number` is `timing_lists_number`. Assumes nothing.
 use Rattle.clock_tests.specs.TimingNumbers.{timing_lists_number}
-use Rattle.std.proofs.Common.{rules}
 use Rattle.clock_tests.proofs.lists_number.Goals as goal
 
 pub returns : goal.returns

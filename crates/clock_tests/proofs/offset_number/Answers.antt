@@ -1,7 +1,6 @@
 -- `clock_tests::offset_number` is `offset_number`. Assumes nothing.
 use Rattle.picks.proofs.Rules.{flags}
 use Rattle.clock_tests.specs.TimingNumbers.{offset_number}
-use Rattle.std.proofs.Common.{rules}
 use Rattle.clock_tests.proofs.offset_number.Goals as goal
 
 pub returns-then-taken : goal.returns-then-taken

@@ -1,6 +1,5 @@
 -- `clock_tests::offsets_number` is `offsets_number`. Assumes nothing.
 use Rattle.clock_tests.specs.TimingNumbers.{offsets_number}
-use Rattle.std.proofs.Common.{rules}
 use Rattle.clock_tests.proofs.offsets_number.Goals as goal
 
 pub returns : goal.returns

@@ -1,6 +1,6 @@
 -- `clock_tests::order_number` is `order_number`. Assumes nothing.
 use borrow.Author.Tests.{not-true, not-false}
-use Rattle.std.proofs.Common.{sym, ◌∙◌, rules}
+use Rattle.std.proofs.Common.{sym, ◌∙◌}
 use Rattle.clock_tests.specs.TimingNumbers.{order_number}
 use Rattle.clock_tests.proofs.order_number.Goals as goal
 

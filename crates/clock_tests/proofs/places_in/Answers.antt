@@ -1,7 +1,6 @@
 -- `clock_tests::places_in` is `places_in`. Assumes nothing.
 use Rattle.picks.proofs.Rules.{flags}
 use Rattle.clock_tests.specs.CursorNumbers.{places_in}
-use Rattle.std.proofs.Common.{rules}
 use Rattle.clock_tests.proofs.places_in.Goals as goal
 
 pub returns-then-state-delays : goal.returns-then-state-delays

@@ -1,5 +1,5 @@
 -- `clock_tests::row_of` is the row of the beat widened. Assumes nothing.
-use Rattle.std.proofs.Common.{ap, ◌∙◌, w32, rules}
+use Rattle.std.proofs.Common.{ap, ◌∙◌, w32}
 use mir.ValLaws.{to_z-of_z}
 use lib.Ieee.{binary64}
 use Rattle.rows.specs.Rows.{row}

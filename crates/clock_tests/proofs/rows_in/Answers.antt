@@ -1,5 +1,5 @@
 -- `clock_tests::rows_in` is `rows_in`. Assumes nothing.
-use Rattle.std.proofs.Common.{◌≡◌, true, false, ℤ, sym, ap, ◌∙◌, w32, rules}
+use Rattle.std.proofs.Common.{◌≡◌, true, false, ℤ, sym, ap, ◌∙◌, w32}
 use Rattle.clock_tests.specs.CursorNumbers.{fresh_mark, rows_in}
 use lib.Signed.{le_z}
 use mir.ValLaws.{to_z-of_z}

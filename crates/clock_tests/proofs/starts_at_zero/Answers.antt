@@ -1,7 +1,6 @@
 -- `clock_tests::starts_at_zero` is `starts_at_zero`. Assumes nothing.
 use lib.Ieee.{of_bits}
 use Rattle.clock_tests.proofs.RowByRow.{none-start, first-starts}
-use Rattle.std.proofs.Common.{rules}
 use Rattle.clock_tests.proofs.starts_at_zero.Goals as goal
 
 pub returns-then-beats-eq0 : goal.returns-then-beats-eq0

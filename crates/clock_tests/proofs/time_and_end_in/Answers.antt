@@ -1,6 +1,6 @@
 -- `clock_tests::time_and_end_in` is `time_and_end_in`. Assumes nothing.
 use Rattle.clock_tests.specs.CursorNumbers.{time_and_end_in}
-use Rattle.std.proofs.Common.{sym, ◌∙◌, rules}
+use Rattle.std.proofs.Common.{sym, ◌∙◌}
 use Rattle.clock_tests.proofs.time_and_end_in.Goals as goal
 
 pub returns-then-is_finite : goal.returns-then-is_finite
