@@ -1,5 +1,5 @@
 -- Laying the list of events, event by event: what holds where the loop begins, after each turn, and where it ends. Assumes nothing.
-use Rattle.std.proofs.Common.{◌≡◌, ℕ, zero, suc, ◌+◌, ◌^◌, ◌<◌, ◌≤◌, Bool, true, false, eqb, List, [], ◌∷◌, map, length, set, ℤ, sym, refl, ap, ◌∙◌, add-one, arith}
+use Rattle.std.proofs.Common.{◌≡◌, ℕ, zero, suc, ◌+◌, ◌^◌, ◌<◌, ◌≤◌, Bool, true, false, eqb, List, [], ◌∷◌, map, length, set, ℤ, refl, ap, ◌∙◌, arith}
 use lib.ListN.{length-map}
 use lib.Ieee.{Float}
 use Rattle.picks.specs.Pick.{pick}
@@ -81,13 +81,13 @@ module _ (most : ℕ) (t : Timing) (rows₀ : List ℤ) (kinds₀ : List ℕ) (n
     spot-fits h k l = record { tempos = omega (arith, g.few); stops = omega (arith, g.few); delays = omega (arith, g.few); warps = omega (arith, g.few) }
 
     -- there is room for the next one
-    pub row_room : i < most → most ≤ length rows₀ → i < length rows
+    row_room : i < most → most ≤ length rows₀ → i < length rows
     row_room h k = omega (arith, g.of_rows.size)
 
-    pub kind-room : i < most → most ≤ length kinds₀ → i < length kinds
+    kind-room : i < most → most ≤ length kinds₀ → i < length kinds
     kind-room h k = omega (arith, g.of_kinds.size)
 
-    pub number-room : i < most → most ≤ length numbers₀ → i < length numbers
+    number-room : i < most → most ≤ length numbers₀ → i < length numbers
     number-room h k = omega (arith, g.of_numbers.size)
 
     complete : listed_within g.left t p ≡ [] → (i ≡ length whole) × (event_room rows kinds numbers ≡ room_with whole (event_room rows₀ kinds₀ numbers₀))

@@ -1,5 +1,5 @@
 -- Running down the list, event by event: what holds where the loop begins, after each turn, and where it ends. Assumes nothing.
-use Rattle.std.proofs.Common.{◌≡◌, ℕ, zero, suc, ◌+◌, ◌<◌, ◌≤◌, Bool, true, false, eqb, List, [], ◌∷◌, length, get_or, take, drop, ℤ, pos, sym, refl, ap, ◌∙◌, add-one, arith, drop-cons, w32, SFits, to_z, of_z}
+use Rattle.std.proofs.Common.{◌≡◌, ℕ, zero, suc, ◌+◌, ◌<◌, ◌≤◌, Bool, true, false, eqb, List, ◌∷◌, length, get_or, take, drop, ℤ, pos, sym, refl, ap, ◌∙◌, add-one, arith, drop-cons, w32, SFits, to_z, of_z}
 use lib.Ieee.{Float, nan, binary64, add}
 use Rattle.picks.specs.Pick.{pick}
 use Rattle.rows.proofs.BackFromBits.{back}

@@ -1,5 +1,5 @@
 -- The tempo of 60 of a timing that has none: its first tempo, and the timing whose tempos are chosen. Assumes nothing.
-use Rattle.std.proofs.Common.{◌≡◌, ℕ, ◌+◌, ◌*◌, Bool, true, false, eqb, List, [], ◌∷◌, length, get_or, refl, ap, arith}
+use Rattle.std.proofs.Common.{◌≡◌, ◌+◌, ◌*◌, Bool, true, false, eqb, List, [], ◌∷◌, length, get_or, refl, arith}
 use lib.Ieee.{Float, nan}
 use Rattle.ieee.specs.Constants.{plus_zero, sixty}
 use Rattle.picks.specs.Pick.{pick}

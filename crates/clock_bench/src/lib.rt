@@ -212,8 +212,7 @@ fn lay_events(
         end: 0.0,
         warping: false,
     };
-    let mut i = 0;
-    while i < most {
+    for i in 0..most {
         let head = next_head(spot, tempo_beats, stop_beats, delay_beats, warp_beats);
         let row = head.row;
         let kind = head.kind;
@@ -233,9 +232,8 @@ fn lay_events(
         kinds[i] = kind;
         numbers[i] = number;
         spot = spot_past(spot, kind, number);
-        i += 1;
     }
-    i
+    most
 }
 
 // ---- running down
@@ -313,15 +311,13 @@ fn run_down(
     ensures { result ≡ run_down asked start (take laid (listed_in rows.now kinds.now numbers.now)) }
 {
     let mut at = start;
-    let mut i = 0;
-    while i < laid {
+    for i in 0..laid {
         let row = rows[i];
         let kind = kinds[i];
         if !comes_before(row, kind, asked) {
             return at;
         }
         at = runner_past(at, row, kind, numbers[i]);
-        i += 1;
     }
     at
 }

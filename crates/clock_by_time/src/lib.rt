@@ -439,14 +439,13 @@ fn answer_from(
         passed: 0,
         elapsed: 0.0,
     };
-    let mut i = 0;
-    while i < times.len() {
+    for (i, &time) in times.iter().enumerate() {
         let step = answer_on(
             reached,
             start,
             early,
             global,
-            times[i],
+            time,
             tempo_beats,
             tempo_values,
             stop_beats,
@@ -463,7 +462,6 @@ fn answer_from(
         delays[i] = info.is_in_delay as u8;
         counts[i] = info.count;
         reached = step.reached;
-        i += 1;
     }
 }
 

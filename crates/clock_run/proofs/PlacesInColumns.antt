@@ -1,8 +1,5 @@
 -- Places of columns that are lent whole, by the numbers alone. Assumes nothing.
-use Rattle.std.proofs.Common.{ℕ, ◌*◌, ◌^◌, ◌<◌, ◌≤◌, arith, w64, Fits}
-
-pub inside : (i n room : ℕ) → i < n → n ≤ room → i < room
-inside i n room a b = omega arith
+use Rattle.std.proofs.Common.{ℕ, ◌*◌, ◌^◌, ◌<◌, arith, w64, Fits}
 
 pub scaled4 : (i n : ℕ) → i < n → n * 4 < 2 ^ 63 → Fits w64 (i * 4)
 scaled4 i n a b = record { fits = omega arith }

@@ -238,9 +238,7 @@ fn ask_each(
         rest: 0,
         rate: 0.0,
     };
-    let mut i = 0;
-    while i < beats.len() {
-        let beat = beats[i];
+    for (i, &beat) in beats.iter().enumerate() {
         let row = rows::beat_to_note_row(beat);
         if is_beyond(mark.row, beat, row) {
             let state = mark.state;
@@ -253,7 +251,6 @@ fn ask_each(
                 asked: row,
             };
             outlook.known = false;
-            i += 1;
             continue;
         }
         if is_before(outlook.known, outlook.row, at.asked, beat, row) {
@@ -263,7 +260,6 @@ fn ask_each(
             times[i] = time;
             counts[i] = 1;
             at.asked = row;
-            i += 1;
             continue;
         }
         let near = soon(outlook, at, beat, row, tempo_beats, tempo_values);
@@ -279,7 +275,6 @@ fn ask_each(
                 asked: row,
             };
             outlook = on;
-            i += 1;
             continue;
         }
         let answer = at.ask(
@@ -312,7 +307,6 @@ fn ask_each(
             warp_beats,
             warp_lengths,
         );
-        i += 1;
     }
     at
 }

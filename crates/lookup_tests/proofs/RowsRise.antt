@@ -82,9 +82,6 @@ few-fall before beat = go (ltb (key_of before) (key_of beat))
     go false = omega arith
 
 module _ (beats : List Float) where
-  pub falls-first : Falls beats 0 0
-  falls-first = record { few = omega arith; same = refl }
-
   module _ (i falls : ℕ) (known : Falls beats i falls) where
     dropped : (t : Bool) → pick t false false ≡ false
     dropped true = refl

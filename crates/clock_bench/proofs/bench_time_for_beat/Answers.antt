@@ -1,5 +1,5 @@
 -- `clock_bench::bench_time_for_beat` tests, lays, and runs down what it laid. Assumes nothing.
-use Rattle.std.proofs.Common.{◌≡◌, sym, refl, ◌∙◌, arith, w32, to_z, of_z, rules}
+use Rattle.std.proofs.Common.{◌≡◌, sym, refl, ◌∙◌, arith, w32, to_z, of_z}
 use Rattle.rows.proofs.BackFromBits.{back}
 use lib.Ieee.{of_bits}
 use Rattle.chart.specs.Timing.{timing}

@@ -1,5 +1,5 @@
 -- `clock_bench::brings` meets its contract. Assumes nothing.
-use Rattle.std.proofs.Common.{rules, eq-eqb, ne_eqb}
+use Rattle.std.proofs.Common.{eq-eqb, ne_eqb}
 use Rattle.clock_bench.specs.EventList.{bringing}
 use Rattle.clock_bench.proofs.brings.Goals as goal
 

@@ -1,6 +1,6 @@
 -- `clock_bench::comes_before` meets its contract. Assumes nothing.
-use Rattle.std.proofs.Common.{true, false, rules, le-ltb, lt-ltb}
-use Rattle.rows.proofs.BackFromBits.{back, tested}
+use Rattle.std.proofs.Common.{true, false}
+use Rattle.rows.proofs.BackFromBits.{tested}
 use Rattle.clock_bench.specs.RunningDown.{comes_before}
 use Rattle.clock_bench.proofs.comes_before.Goals as goal
 

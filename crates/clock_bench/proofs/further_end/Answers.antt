@@ -1,6 +1,5 @@
 -- `clock_bench::further_end` meets its contract. Assumes nothing.
 use Rattle.clock_bench.specs.EventList.{further_end}
-use Rattle.std.proofs.Common.{rules}
 use Rattle.clock_bench.proofs.further_end.Goals as goal
 
 pub returns-then-old-own : goal.returns-then-old-own

@@ -2,7 +2,6 @@
 use lib.Ieee.{of_bits}
 use Rattle.chart.specs.Timing.{Timing, timing}
 use Rattle.clock_bench.proofs.WithATempo.{chosen}
-use Rattle.std.proofs.Common.{rules}
 use Rattle.clock_bench.proofs.lay_filled.Goals as goal
 
 pub returns : goal.returns

@@ -1,5 +1,5 @@
 -- `clock_bench::lay_out_events` tests, and lays what is taken. Assumes nothing.
-use Rattle.std.proofs.Common.{◌≡◌, sym, ◌∙◌, rules}
+use Rattle.std.proofs.Common.{◌≡◌, sym, ◌∙◌}
 use lib.Ieee.{of_bits}
 use Rattle.chart.specs.Timing.{timing}
 use Rattle.clock_bench.specs.EventRoom.{event_room}

@@ -1,5 +1,5 @@
 -- `clock_bench::lower_head` meets its contract. Assumes nothing.
-use Rattle.std.proofs.Common.{true, false, rules}
+use Rattle.std.proofs.Common.{true, false}
 use Rattle.rows.proofs.BackFromBits.{back, tested}
 use Rattle.clock_bench.specs.EventList.{lower_head}
 use Rattle.clock_bench.proofs.lower_head.Goals as goal

@@ -1,5 +1,5 @@
 -- `clock_bench::most_events` meets its contract. Assumes nothing.
-use Rattle.std.proofs.Common.{rules, eq-eqb, ne_eqb}
+use Rattle.std.proofs.Common.{eq-eqb, ne_eqb}
 use Rattle.clock_bench.proofs.most_events.Goals as goal
 
 pub returns-then-tempos-eq0 : goal.returns-then-tempos-eq0

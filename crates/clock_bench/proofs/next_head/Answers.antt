@@ -1,6 +1,5 @@
 -- `clock_bench::next_head` meets its contract. Assumes nothing.
 use Rattle.clock_bench.specs.EventList.{next_head}
-use Rattle.std.proofs.Common.{rules}
 use Rattle.clock_bench.proofs.next_head.Goals as goal
 
 pub returns : goal.returns

@@ -1,5 +1,5 @@
 -- `clock_bench::number_at` reads at a place, and a NaN past the end. Assumes nothing.
-use Rattle.std.proofs.Common.{sym, rules}
+use Rattle.std.proofs.Common.{sym}
 use lib.ListN.{get_or-eq_default}
 use lib.Ieee.{nan, div, of_bits}
 use Rattle.clock_bench.proofs.number_at.Goals as goal

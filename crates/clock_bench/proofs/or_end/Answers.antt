@@ -1,5 +1,5 @@
 -- `clock_bench::or_end` meets its contract. Assumes nothing.
-use Rattle.std.proofs.Common.{ap, ◌∙◌, rules}
+use Rattle.std.proofs.Common.{ap, ◌∙◌}
 use Rattle.rows.proofs.BackFromBits.{back}
 use Rattle.clock_bench.specs.EventList.{warp_ends, lower_head, or_end}
 use Rattle.clock_bench.proofs.or_end.Goals as goal

@@ -1,5 +1,5 @@
 -- `clock_bench::or_entry` meets its contract. Assumes nothing.
-use Rattle.std.proofs.Common.{ap, ◌∙◌, rules, le-ltb, lt-ltb}
+use Rattle.std.proofs.Common.{ap, ◌∙◌, le-ltb, lt-ltb}
 use lib.Ieee.{binary64}
 use Rattle.rows.specs.Rows.{row}
 use Rattle.rows.proofs.BackFromBits.{back}

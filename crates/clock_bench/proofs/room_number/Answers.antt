@@ -1,5 +1,5 @@
 -- `clock_bench::room_number` meets its contract. Assumes nothing.
-use Rattle.std.proofs.Common.{rules, le-leb}
+use Rattle.std.proofs.Common.{le-leb}
 use borrow.Author.Tests.{lt-leb}
 use Rattle.clock_bench.proofs.room_number.Goals as goal
 

@@ -1,23 +1,14 @@
 -- `clock_bench::run_down` runs down the list, event by event. Assumes nothing.
-use Rattle.std.proofs.Common.{◌-◌, true, false, get_or, pos, ap, ◌∙◌, arith, w32, to_z, of_z, rules}
+use Rattle.std.proofs.Common.{true, false, get_or, pos, ap, ◌∙◌, w32, to_z, of_z}
 use lib.Ieee.{nan}
 use borrow.Author.Tests.{not-true, not-false}
 use Rattle.clock_bench.specs.RunningDown.{runner_past}
 use Rattle.rows.proofs.BackFromBits.{back}
-use Rattle.clock_bench.proofs.RunsOn.{RunTo, found, setting_off, stopped, through, turned}
+use Rattle.clock_bench.proofs.RunsOn.{found, setting_off, stopped, through, turned}
 use Rattle.clock_bench.proofs.run_down.Goals as goal
 
 pub loop-i-init : goal.loop-i-init
 loop-i-init c = let s = c in let a = s.args in setting_off (to_z w32 (of_z w32 a.asked)) a.start a.laid a.rows.now a.kinds.now a.numbers.now s.requires.3
-
-pub offset_bounds-rows-i : goal.offset_bounds-rows-i
-offset_bounds-rows-i c = let s = c in record { fits = omega (arith, c.loop-i-test.true, s.requires.0, s.well_formed.1.1.1.0.1) }
-
-pub bounds-rows-i : goal.bounds-rows-i
-bounds-rows-i c = let s = c in omega (arith, c.loop-i-test.true, s.requires.0)
-
-pub bounds-kinds-i : goal.bounds-kinds-i
-bounds-kinds-i c = let s = c in omega (arith, c.loop-i-test.true, s.requires.1)
 
 pub returns-then-not-comes_before : goal.returns-then-not-comes_before
 returns-then-not-comes_before c =
@@ -25,21 +16,6 @@ returns-then-not-comes_before c =
     let a = s.args in
     let l = c.loop-i in
     rw (back a.asked s.ranges.asked) at (stopped (to_z w32 (of_z w32 a.asked)) a.start a.laid a.rows.now a.kinds.now a.numbers.now l.at l.i l.invariant (found _ (get_or a.rows.now l.i (pos 0)) (get_or a.kinds.now l.i 0) c.comes_before.result false (record { sfits = c.row-1.given }) c.comes_before.ensures (not-true _ c.if-not-comes_before.true-raw)) c.loop-i-test.true s.requires.0 s.requires.1 s.requires.2)
-
-pub offset_bounds-numbers-i : goal.offset_bounds-numbers-i
-offset_bounds-numbers-i c = let s = c in record { fits = omega (arith, c.loop-i-test.true, s.requires.2, s.well_formed.1.1.1.1.1.0.1) }
-
-pub bounds-numbers-i : goal.bounds-numbers-i
-bounds-numbers-i c = let s = c in omega (arith, c.loop-i-test.true, s.requires.2)
-
-pub runner_past-at-requires : goal.runner_past-at-requires
-runner_past-at-requires c = let s = c in omega (arith, c.loop-i-test.true, c.loop-i.invariant.passed, s.requires.0, s.well_formed.1.1.1.0.1)
-
-pub overflow_add-i : goal.overflow_add-i
-overflow_add-i c = let s = c in record { fits = omega (arith, c.loop-i-test.true, s.requires.0, s.well_formed.1.1.1.0.1) }
-
-pub loop-i-smaller : goal.loop-i-smaller
-loop-i-smaller c = omega (arith, c.loop-i-test.true)
 
 pub loop-i-preserved : goal.loop-i-preserved
 loop-i-preserved c =

@@ -1,5 +1,5 @@
 -- `clock_bench::runner_past` meets its contract. Assumes nothing.
-use Rattle.std.proofs.Common.{rules, eq-eqb, ne_eqb}
+use Rattle.std.proofs.Common.{eq-eqb, ne_eqb}
 use Rattle.rows.proofs.BackFromBits.{back}
 use Rattle.clock_bench.specs.RunningDown.{runner_past}
 use Rattle.clock_bench.proofs.runner_past.Goals as goal

@@ -1,5 +1,5 @@
 -- `clock_bench::spot_past` meets its contract. Assumes nothing.
-use Rattle.std.proofs.Common.{rules, eq-eqb, ne_eqb}
+use Rattle.std.proofs.Common.{eq-eqb, ne_eqb}
 use Rattle.clock_bench.specs.EventList.{spot_past}
 use Rattle.clock_bench.proofs.spot_past.Goals as goal
 

@@ -1,5 +1,5 @@
 -- `clock_bench::tempo_at_the_start` meets its contract. Assumes nothing.
-use Rattle.std.proofs.Common.{◌∙◌, rules}
+use Rattle.std.proofs.Common.{◌∙◌}
 use lib.Ieee.{of_bits}
 use Rattle.clock_bench.proofs.WithATempo.{first-none, first_some}
 use Rattle.clock_bench.proofs.tempo_at_the_start.Goals as goal

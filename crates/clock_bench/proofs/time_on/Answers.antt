@@ -1,8 +1,7 @@
 -- `clock_bench::time_on` meets its contract. Assumes nothing.
 use lib.Ieee.{of_bits}
-use Rattle.rows.proofs.BackFromBits.{back, tested}
+use Rattle.rows.proofs.BackFromBits.{back}
 use Rattle.clock_bench.specs.RunningDown.{seconds_to, time_on}
-use Rattle.std.proofs.Common.{rules}
 use Rattle.clock_bench.proofs.time_on.Goals as goal
 
 pub returns-then-warping : goal.returns-then-warping

@@ -4,7 +4,6 @@ use Rattle.chart.specs.Timing.{Timing, timing}
 use Rattle.clock.proofs.FilledTempos.{filled-by}
 use Rattle.clock_by_time.proofs.WalkedFresh.{answered-from}
 use Rattle.clock_by_time.proofs.InfoOutcome.{answered-alike}
-use borrow.Author.Rules.{rules}
 use Rattle.clock_by_time.proofs.answer_each.Goals as goal
 
 pub returns : goal.returns

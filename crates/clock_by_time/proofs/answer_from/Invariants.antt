@@ -1,19 +1,11 @@
 -- `clock_by_time::answer_from` answers time by time, over the fronts of the columns. Assumes nothing.
-use Prim.Native.Nat.{◌-◌}
-use mathlib.Core.Bool.{Bool, true, false}
-use mathlib.Core.Path.{◌≡◌, refl, ap, ◌∙◌}
-use native.Mathlib.Omega.{arith}
 use lib.ListN.{length}
-use lib.Ieee.{Float, nan}
-use mir.Val.{bool_byte}
-use Rattle.picks.specs.Pick.{pick}
-use Rattle.columns.proofs.LaidEach.{LayingEach, begun, turned, ended}
+use lib.Ieee.{Float}
+use Rattle.columns.proofs.LaidEach.{LayingEach}
 use Rattle.chart.specs.Timing.{Timing, timing}
 use Rattle.clock_by_time.specs.inside.OnTheWay.{info_from, OnTheWay}
 use Rattle.clock_by_time.specs.ManyTimes.{freeze_mark, delay_mark}
 use Rattle.clock_by_time.specs.declared.BeatInfo.{BeatInfo}
-use Rattle.clock_by_time.proofs.LaterTimes.{way_begins}
-use borrow.Author.Rules.{rules}
 use Rattle.clock_by_time.proofs.answer_from.Given as goal
 
 abbrev pub invariant-loop-i : goal.invariant-loop-i
@@ -25,6 +17,3 @@ invariant-loop-i l = let t : Timing = timing l.tempo_beats l.tempo_values l.stop
     × LayingEach (λ (time : Float). delay_mark (at time)) l.times l.initial.delays (length l.times) l.delays l.i
     × LayingEach (λ (time : Float). (at time).count) l.times l.initial.counts (length l.times) l.counts l.i
     × OnTheWay l.early t l.start l.reached
-
-abbrev pub decreases-loop-i : goal.decreases-loop-i
-decreases-loop-i l = length l.times - l.i

@@ -4,7 +4,6 @@ use Rattle.chart.specs.Timing.{Timing, timing}
 use Rattle.clock_walk.proofs.OverByATime.{passed_by_fits}
 use Rattle.clock_by_time.specs.inside.OnTheWay.{info_from}
 use Rattle.clock_by_time.proofs.LaterTimes.{way_goes_on}
-use borrow.Author.Rules.{rules}
 use Rattle.clock_by_time.proofs.answer_on.Goals as goal
 
 pub returns-then-number-ne-TAKEN : goal.returns-then-number-ne-TAKEN

@@ -1,5 +1,4 @@
 -- `clock_by_time::beat_in` is `beat_in`, pause by pause. Assumes nothing.
-use borrow.Author.Rules.{rules}
 use Rattle.clock_by_time.proofs.beat_in.Goals as goal
 
 pub returns-in-InDelay : goal.returns-in-InDelay

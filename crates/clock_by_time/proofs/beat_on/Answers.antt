@@ -2,7 +2,6 @@
 use lib.Ieee.{of_bits}
 use Rattle.rows.proofs.BackFromBits.{back}
 use Rattle.clock_by_time.specs.BeatAt.{beat_on}
-use borrow.Author.Rules.{rules}
 use Rattle.clock_by_time.proofs.beat_on.Goals as goal
 
 pub returns : goal.returns

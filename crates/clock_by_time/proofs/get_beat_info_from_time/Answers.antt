@@ -3,7 +3,6 @@ use mathlib.Core.Path.{◌≡◌}
 use borrow.Author.Tests.{eq-eqb, ne_eqb}
 use Rattle.chart.specs.Timing.{timing}
 use Rattle.clock_by_time.specs.BeatAt.{beat_info_number, beat_info}
-use borrow.Author.Rules.{rules}
 use Rattle.clock_by_time.proofs.get_beat_info_from_time.Goals as goal
 use Rattle.clock_by_time.proofs.get_beat_info_from_time.Goals.{After-lower_of-number}
 

@@ -1,7 +1,6 @@
 -- `clock_by_time::get_beat_info_from_time_checked` tests the time, and answers. Assumes nothing.
 use borrow.Author.Tests.{eq-eqb, ne_eqb}
 use Rattle.clock_by_time.specs.BeatAt.{beat_info_checked}
-use borrow.Author.Rules.{rules}
 use Rattle.clock_by_time.proofs.get_beat_info_from_time_checked.Goals as goal
 
 pub returns-then-number-ne-TAKEN : goal.returns-then-number-ne-TAKEN

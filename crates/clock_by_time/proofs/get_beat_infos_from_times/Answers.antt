@@ -3,7 +3,6 @@ use mathlib.Core.Path.{sym, ◌∙◌}
 use Rattle.chart.specs.Timing.{timing}
 use Rattle.clock_by_time.specs.ManyTimes.{info_columns}
 use Rattle.clock_by_time.proofs.InfoOutcome.{refused-run, run_without_room, room_for_all, taken-run}
-use borrow.Author.Rules.{rules}
 use Rattle.clock_by_time.proofs.get_beat_infos_from_times.Goals as goal
 
 pub returns-then-timing-ne-TAKEN : goal.returns-then-timing-ne-TAKEN

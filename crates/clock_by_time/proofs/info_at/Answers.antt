@@ -1,6 +1,5 @@
 -- `clock_by_time::info_at` is `info_at`. Assumes nothing.
 use Rattle.clock_by_time.specs.BeatAt.{info_at}
-use borrow.Author.Rules.{rules}
 use Rattle.clock_by_time.proofs.info_at.Goals as goal
 
 pub info_of-requires : goal.info_of-requires

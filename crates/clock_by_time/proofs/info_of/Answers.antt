@@ -1,5 +1,4 @@
 -- `clock_by_time::info_of` is `info_of`. Assumes nothing.
-use borrow.Author.Rules.{rules}
 use Rattle.clock_by_time.proofs.info_of.Goals as goal
 
 pub returns : goal.returns

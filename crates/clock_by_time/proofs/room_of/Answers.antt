@@ -1,6 +1,5 @@
 -- `clock_by_time::room_of` is `shortest_of`. Assumes nothing.
 use Rattle.clock_by_time.specs.ManyTimes.{shortest_of}
-use borrow.Author.Rules.{rules}
 use Rattle.clock_by_time.proofs.room_of.Goals as goal
 
 pub returns : goal.returns

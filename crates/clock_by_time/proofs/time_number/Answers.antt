@@ -1,7 +1,6 @@
 -- `clock_by_time::time_number` is `time_number`. Assumes nothing.
 use Rattle.picks.proofs.Rules.{flags}
 use Rattle.clock_by_time.specs.BeatAt.{time_number}
-use borrow.Author.Rules.{rules}
 use Rattle.clock_by_time.proofs.time_number.Goals as goal
 
 pub returns-then-taken : goal.returns-then-taken

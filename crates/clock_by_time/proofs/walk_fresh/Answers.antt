@@ -5,7 +5,6 @@ use Rattle.chart.specs.Timing.{Timing, timing}
 use Rattle.clock.proofs.FilledTempos.{filled-by}
 use Rattle.clock_by_time.specs.BeatAt.{fresh_by}
 use Rattle.clock_by_time.proofs.WalkedFresh.{walked-fresh, fresh-fits}
-use borrow.Author.Rules.{rules}
 use Rattle.clock_by_time.proofs.walk_fresh.Goals as goal
 
 pub returns : goal.returns

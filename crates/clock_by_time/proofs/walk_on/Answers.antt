@@ -1,7 +1,6 @@
 -- `clock_by_time::walk_on` comes to where a walk from the start comes. Assumes nothing.
 use Rattle.chart.specs.Timing.{Timing, timing}
 use Rattle.clock_by_time.proofs.LaterTimes.{walked_on, sum_fits}
-use borrow.Author.Rules.{rules}
 use Rattle.clock_by_time.proofs.walk_on.Goals as goal
 
 pub overflow_add-result : goal.overflow_add-result

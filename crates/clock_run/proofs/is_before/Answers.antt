@@ -1,5 +1,5 @@
 -- `clock_run::is_before` is `is_before`. Assumes nothing.
-use Rattle.std.proofs.Common.{true, false, rules, eq-eqb, ne_eqb}
+use Rattle.std.proofs.Common.{true, false, eq-eqb, ne_eqb}
 use Rattle.rows.proofs.BackFromBits.{back, tested}
 use Rattle.clock_run.specs.inside.Outlook.{is_before}
 use Rattle.clock_run.proofs.is_before.Goals as goal

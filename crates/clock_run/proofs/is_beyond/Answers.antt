@@ -1,5 +1,5 @@
 -- `clock_run::is_beyond` is `is_beyond`. Assumes nothing.
-use Rattle.std.proofs.Common.{true, false, rules}
+use Rattle.std.proofs.Common.{true, false}
 use Rattle.rows.proofs.BackFromBits.{tested}
 use Rattle.clock_run.specs.inside.Outlook.{is_beyond}
 use Rattle.clock_run.proofs.is_beyond.Goals as goal

@@ -1,5 +1,5 @@
 -- `clock_run::least_of` is `lesser_row`. Assumes nothing.
-use Rattle.std.proofs.Common.{true, false, rules}
+use Rattle.std.proofs.Common.{true, false}
 use Rattle.rows.proofs.BackFromBits.{back, tested}
 use Rattle.clock_run.specs.inside.Outlook.{lesser_row}
 use Rattle.clock_run.proofs.least_of.Goals as goal

@@ -1,6 +1,6 @@
 -- `clock_run::look_ahead` is `look_ahead`. Assumes nothing.
 use lib.Ieee.{of_bits}
-use Rattle.std.proofs.Common.{rules, eq-eqb, ne_eqb}
+use Rattle.std.proofs.Common.{eq-eqb, ne_eqb}
 use Rattle.rows.proofs.BackFromBits.{back}
 use Rattle.clock_run.specs.inside.Outlook.{look_ahead}
 use Rattle.clock_run.proofs.look_ahead.Goals as goal

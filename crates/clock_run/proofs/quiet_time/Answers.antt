@@ -2,7 +2,6 @@
 use lib.Ieee.{of_bits}
 use Rattle.rows.proofs.BackFromBits.{back}
 use Rattle.clock_run.specs.inside.Outlook.{quiet_time}
-use Rattle.std.proofs.Common.{rules}
 use Rattle.clock_run.proofs.quiet_time.Goals as goal
 
 pub returns-then-warping : goal.returns-then-warping

@@ -1,5 +1,5 @@
 -- `clock_run::rest_until` is `rest_until`. Assumes nothing.
-use Rattle.std.proofs.Common.{◌∙◌, rules}
+use Rattle.std.proofs.Common.{◌∙◌}
 use Rattle.rows.proofs.BackFromBits.{back}
 use Rattle.clock_run.specs.inside.Outlook.{rest_until}
 use Rattle.clock_run.proofs.rest_until.Goals as goal

@@ -1,6 +1,6 @@
 -- `clock_run::room_number` is `run_room_number`. Assumes nothing.
 use Rattle.clock_run.specs.Run.{run_room_number}
-use Rattle.std.proofs.Common.{rules, le-leb}
+use Rattle.std.proofs.Common.{le-leb}
 use borrow.Author.Tests.{lt-leb}
 use Rattle.clock_run.proofs.room_number.Goals as goal
 

@@ -1,5 +1,5 @@
 -- `clock_run::run` tests the timing: one that is taken is run as one that was tested, and of another the lowest number is told. Assumes nothing.
-use Rattle.std.proofs.Common.{◌≡◌, length, sym, ◌∙◌, rules}
+use Rattle.std.proofs.Common.{◌≡◌, length, sym, ◌∙◌}
 use Rattle.limits.proofs.NoRefusal.{lower-none}
 use Rattle.chart.specs.Timing.{timing}
 use Rattle.clock.specs.Question.{tempos_of, cursor_refusal}

@@ -1,5 +1,5 @@
 -- `clock_run::run_checked` tests the room and the cursor and asks every beat. Assumes nothing.
-use Rattle.std.proofs.Common.{◌≡◌, length, sym, ◌∙◌, rules}
+use Rattle.std.proofs.Common.{◌≡◌, length, sym, ◌∙◌}
 use Rattle.chart.specs.Timing.{timing}
 use Rattle.clock.specs.Question.{tempos_of, cursor_refusal}
 use Rattle.clock_run.specs.Run.{checked_run_number}

@@ -1,5 +1,5 @@
 -- `clock_run::run_marked` tests once, the mark too, and asks every beat with it. Assumes nothing.
-use Rattle.std.proofs.Common.{◌≡◌, T, length, sym, ◌∙◌, subst, rules}
+use Rattle.std.proofs.Common.{◌≡◌, T, length, sym, ◌∙◌, subst}
 use Rattle.chart.specs.Timing.{timing}
 use Rattle.clock_walk.proofs.NumbersFit.{NumbersFit}
 use Rattle.clock.specs.Question.{tempos_of, cursor_refusal}

@@ -1,5 +1,5 @@
 -- `clock_run::soon` is `soon_before`. Assumes nothing.
-use Rattle.std.proofs.Common.{◌≡◌, true, false, sym, ◌∙◌, rules, le-ltb, lt-ltb}
+use Rattle.std.proofs.Common.{◌≡◌, sym, ◌∙◌, le-ltb, lt-ltb}
 use Rattle.clock_walk.specs.Soon.{row_after}
 use Rattle.rows.proofs.BackFromBits.{back}
 use Rattle.clock_run.specs.inside.Outlook.{lesser_row, is_before, soon_before}
