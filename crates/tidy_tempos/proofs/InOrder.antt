@@ -1,6 +1,6 @@
 -- Whether each two beats pass a test, from one beat on: by that of it and the next; and beats that are numbers never fall where their keys do not. Assumes nothing.
-use Prim.Native.Nat.{ℕ, suc, ◌+◌, ◌≤◌, ◌<◌}
-use mathlib.Core.Path.{◌≡◌, refl, sym, ap, ◌∙◌}
+use Prim.Native.Nat.{ℕ, suc, ◌+◌, ◌-◌, ◌≤◌, ◌<◌}
+use mathlib.Core.Path.{◌≡◌, refl, ap, ◌∙◌}
 use mathlib.Core.Bool.{Bool, true, false, not}
 use mathlib.Core.Logic.{inl, inr}
 use mathlib.Core.List.{List, [], ◌∷◌, map}
@@ -9,7 +9,7 @@ use native.Mathlib.Omega.{arith}
 use lib.ListN.{length, drop, get_or, drop_of_length-le}
 use lib.Seq.{drop-cons}
 use lib.Dec.{T, ltb, leb}
-use lib.Ieee.{Float, nan, Format, is_nan, fits, lt}
+use lib.Ieee.{Float, nan, Format, is_nan, fits}
 use borrow.Author.Tests.{lt-ltb, le-ltb, lt-leb, le-leb}
 use Rattle.order.specs.Order.{never_falls, may_precede}
 use Rattle.order.specs.FloatKey.{float_key}
@@ -29,33 +29,35 @@ module _ (beats : List Float) (i : ℕ) where
   two h = one (omega arith) ∙ ap (◌∷◌ (get_or beats i nan)) (drop-cons beats (i + 1) nan h)
 
   module _ (test : Float → Float → Bool) where
-    pub two-pass : i + 1 < length beats → test (get_or beats i nan) (get_or beats (i + 1) nan) ≡ true → every_two test (drop i beats) ≡ every_two test (drop (i + 1) beats)
+    two-pass : i + 1 < length beats → test (get_or beats i nan) (get_or beats (i + 1) nan) ≡ true → every_two test (drop i beats) ≡ every_two test (drop (i + 1) beats)
     unfolding neighbours every
     two-pass h t = rw (two h, drop-cons beats (i + 1) nan h, t)
 
-    pub two_fail : i + 1 < length beats → test (get_or beats i nan) (get_or beats (i + 1) nan) ≡ false → every_two test (drop i beats) ≡ false
+    two_fail : i + 1 < length beats → test (get_or beats i nan) (get_or beats (i + 1) nan) ≡ false → every_two test (drop i beats) ≡ false
     unfolding neighbours every
     two_fail h t = rw (two h, t)
 
-    pub two-last : i < length beats → length beats ≤ i + 1 → every_two test (drop i beats) ≡ true
+    two-last : i < length beats → length beats ≤ i + 1 → every_two test (drop i beats) ≡ true
     unfolding neighbours every
     two-last h l = rw (one h, drop_of_length-le beats l)
 
-    pub two_none : length beats ≤ i → every_two test (drop i beats) ≡ true
+    two_none : length beats ≤ i → every_two test (drop i beats) ≡ true
     unfolding neighbours every
     two_none l = rw (drop_of_length-le beats l)
 
-  pub order-turn : i + 1 < length beats → lt (get_or beats (i + 1) nan) (get_or beats i nan) ≡ false → every_two not_falling (drop i beats) ≡ every_two not_falling (drop (i + 1) beats)
-  order-turn h t = two-pass not_falling h (ap not t)
+-- a place that a loop has come to, the place before it, and the end
+module _ (test : Float → Float → Bool) (beats : List Float) where
+  pub pass-on : (before i : ℕ) → i ≡ before + 1 → i < length beats → test (get_or beats before nan) (get_or beats i nan) ≡ true
+      → every_two test (drop before beats) ≡ every_two test (drop (i + 1 - 1) beats)
+  pass-on before i e h t =
+      let now : i + 1 - 1 ≡ before + 1 = omega arith in
+      rw now (two-pass beats before test (rw e at h) (rw e at t))
 
-  pub order-fall : i + 1 < length beats → lt (get_or beats (i + 1) nan) (get_or beats i nan) ≡ true → every_two not_falling (drop i beats) ≡ false
-  order-fall h t = two_fail not_falling h (ap not t)
+  pub fail-here : (before i : ℕ) → i ≡ before + 1 → i < length beats → test (get_or beats before nan) (get_or beats i nan) ≡ false → every_two test (drop before beats) ≡ false
+  fail-here before i e h t = two_fail beats before test (rw e at h) (rw e at t)
 
-  pub order-last : i < length beats → length beats ≤ i + 1 → every_two not_falling (drop i beats) ≡ true
-  order-last h l = two-last not_falling h l
-
-  pub order-end : length beats ≤ i → every_two not_falling (drop i beats) ≡ true
-  order-end l = two_none not_falling l
+  pub pass-end : (before : ℕ) → length beats ≤ before + 1 → every_two test (drop before beats) ≡ true
+  pass-end before h = elim (below? before (length beats)) [ inl more ↦ two-last beats before test more h | inr past ↦ two_none beats before test past ]
 
 -- ---- by keys, over the format
 pub record Number (f : Format) (x : Float) : Type 0 where

@@ -1,5 +1,5 @@
 -- Tempo tidying. Definitions only.
-use Rattle.std.specs.Prelude.{ℕ, false, List, [], ◌∷◌, map, Float}
+use Rattle.std.specs.Prelude.{ℕ, List, [], ◌∷◌, map, Float}
 use Rattle.std.specs.Float.{binary64}
 use Rattle.std.specs.Float.Ieee.{eq}
 use Rattle.ieee.specs.Constants.{plus_zero, sixty}
