@@ -15,7 +15,7 @@ use Rattle.columns.specs.Laying.{Laid}
 use Rattle.tidy_kept.specs.Near.{near_to}
 use Rattle.tidy_kept.specs.Passing.{Waiting, entry_passed, still_written}
 use Rattle.tidy_kept.proofs.PassTurns as turns
-use Rattle.tidy_kept.proofs.FieldsLaid.{LayingField, field-none, field_room, field-more, field-count, field-all}
+use Rattle.tidy_kept.proofs.FieldsLaid.{LayingField, field_room, field-more, field-count, field-all}
 
 module _ (beats values : List Float) (same : length beats ≡ length values) where
   abbrev pub at : ℕ → Float × Float
@@ -46,9 +46,6 @@ module _ (beats values : List Float) (same : length beats ≡ length values) whe
 pub record LayingRows (whole left : List (Float × Float)) (beats_old beats_new values_old values_new : List Float) (count : ℕ) : Type 0 where
   pub beats_so : LayingField on_its_row first whole left beats_old beats_new count
   pub values_so : LayingField on_its_row second whole left values_old values_new count
-
-pub rows_none : (whole left : List (Float × Float)) (beats_old values_old : List Float) → left ≡ whole → LayingRows whole left beats_old beats_old values_old values_old 0
-rows_none whole left beats_old values_old e = record { beats_so = field-none on_its_row first whole left beats_old e; values_so = field-none on_its_row second whole left values_old e }
 
 module _ (whole left : List (Float × Float)) (beats_old beats_new values_old values_new : List Float) (count : ℕ) (p : LayingRows whole left beats_old beats_new values_old values_new count) where
   pub rows_same : (other : List (Float × Float)) → left ≡ other → LayingRows whole other beats_old beats_new values_old values_new count

@@ -1,11 +1,8 @@
-use Rattle.std.proofs.Common.{◌≡◌, length, sym, refl, ◌∙◌, arith}
+use Rattle.std.proofs.Common.{◌≡◌, length, sym, ◌∙◌, arith}
 use Rattle.order.specs.Entries.{entries}
 use Rattle.process_sm_walk.specs.Chart.{stops_before, offset_of}
 use Rattle.process_sm_walk.proofs.Opening.{stop-on, stop-off, stop-end, stops-on, stops-off, stops_end}
 use Rattle.process_sm_walk.proofs.early_stops.Goals as goal
-
-pub loop-at-init : goal.loop-at-init
-loop-at-init c = (refl, omega arith)
 
 pub loop-at-preserved : goal.loop-at-preserved
 loop-at-preserved c = (sym (stop-on c.args.beats.now c.args.values.now c.requires c.loop-at.at c.loop-at.offset c.loop-at-test.true c.if-beat.true) ∙ c.loop-at.invariant.0, (let k = stops-on c.args.beats.now c.args.values.now c.requires c.loop-at.at c.loop-at-test.true c.if-beat.true in let i = c.loop-at.invariant.1 in omega arith))

@@ -1,9 +1,6 @@
-use Rattle.std.proofs.Common.{refl, ◌∙◌, arith}
+use Rattle.std.proofs.Common.{◌∙◌, arith}
 use Rattle.process_sm_walk.proofs.LaidOnRows.{room-left, laid_one, laid-all}
 use Rattle.process_sm_walk.proofs.lay_on_rows.Goals as goal
-
-pub loop-i-init : goal.loop-i-init
-loop-i-init c = record { counts = refl; laid_beats = refl; laid_values = refl; same_beats = refl; same_values = refl }
 
 pub bounds-out_beats-count : goal.bounds-out_beats-count
 bounds-out_beats-count c = let l = c.loop-i.invariant in let h = c.loop-i-test.true in omega (arith, room-left l c.requires.beats_len h, l.same_beats)

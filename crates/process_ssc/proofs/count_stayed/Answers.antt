@@ -6,7 +6,7 @@ use lib.ListN.{length, get_or}
 use lib.Ieee.{nan}
 use Rattle.order.specs.Entries.{entries}
 use Rattle.order.proofs.Columns.{length-entries, entries-get_or}
-use Rattle.columns.proofs.KeptLaid.{count_none, count_kept, count_left, count-all}
+use Rattle.columns.proofs.KeptLaid.{count_kept, count_left, count-all}
 use Rattle.process_ssc.specs.Ssc.{stays_ssc, quantized_entry}
 use Rattle.process_ssc.proofs.count_stayed.Goals as goal
 use Rattle.process_ssc.proofs.count_stayed.Goals.{After-stays, then-stays, else-stays}
@@ -17,9 +17,6 @@ inside c = omega (arith, length-entries c.args.beats.now c.args.values.now c.req
 
 test : (c : After-stays) → stays_ssc (get_or (entries c.args.beats.now c.args.values.now) c.loop-i.i (nan, nan)) ≡ c.stays.result
 test c = ap stays_ssc (entries-get_or c.args.beats.now c.args.values.now c.loop-i.i nan nan c.requires) ∙ sym c.stays.ensures
-
-pub loop-i-init : goal.loop-i-init
-loop-i-init c = count_none stays_ssc quantized_entry
 
 pub loop-i-preserved : goal.loop-i-preserved
 loop-i-preserved c =

@@ -6,7 +6,7 @@ use lib.ListN.{length, get_or}
 use lib.Ieee.{Float, nan}
 use Rattle.order.specs.Entries.{entries}
 use Rattle.order.proofs.Columns.{length-entries, entries-get_or}
-use Rattle.columns.proofs.KeptLaid.{lay_none, lay_room, lay_kept_lem, lay_left, lay_all_lem}
+use Rattle.columns.proofs.KeptLaid.{lay_room, lay_kept_lem, lay_left, lay_all_lem}
 use Rattle.process_ssc.specs.Ssc.{stays_ssc, quantized_entry}
 use Rattle.process_ssc.proofs.lay_some.Goals as goal
 use Rattle.process_ssc.proofs.lay_some.Goals.{After-stays, then-stays, else-stays}
@@ -45,12 +45,3 @@ returns c =
       out_beats_after = all.1;
       out_values_after = all.2;
     }
-
-pub loop-i-init : goal.loop-i-init
-loop-i-init c = lay_none stays_ssc quantized_entry
-
-pub shape_of-out_beats : goal.shape_of-out_beats
-shape_of-out_beats c = c.loop-i.invariant.firsts.size
-
-pub shape_of-out_values : goal.shape_of-out_values
-shape_of-out_values c = c.loop-i.invariant.seconds.size

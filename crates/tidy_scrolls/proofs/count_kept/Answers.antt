@@ -1,20 +1,11 @@
 -- `tidy_scrolls::count_kept` counts what the pass would write. Assumes nothing.
 use Rattle.tidy_scrolls.proofs.Turns.{turn-writes, turn-waits, ends_waiting, ends}
 use Rattle.tidy_scrolls.specs.inside.Ways.{scroll_waiting}
-use Rattle.tidy_kept.specs.Passing.{still_written}
-use Rattle.tidy_kept.specs.Near.{near_to}
-use Rattle.rows.specs.RowKey.{row_key_at}
-use Rattle.order.specs.Entries.{entries}
 use lib.ListN.{length}
 use native.Mathlib.Omega.{arith}
 use mathlib.Core.Path.{ap}
 use Rattle.tidy_scrolls.proofs.count_kept.Goals as goal
 use Rattle.tidy_scrolls.proofs.count_kept.Goals.{then-writes, else-writes}
-
-pub loop-i-init : goal.loop-i-init
-loop-i-init c =
-    let es = entries c.args.beats.now c.args.values.now in
-    (omega arith, omega (arith, ap (λ s. length (still_written row_key_at near_to s es)) c.none_held-held.ensures))
 
 pub loop-i-preserved : goal.loop-i-preserved
 loop-i-preserved c =

@@ -1,7 +1,7 @@
 -- `tidy_scrolls::lay_kept` lays what the pass writes. Assumes nothing.
 use mathlib.Core.Path.{refl}
 use mathlib.Core.List.{[]}
-use Rattle.tidy_scrolls.proofs.Turns.{turn-writes, turn-waits, ends_waiting, ends, rows_none, rows_same, rows-room, rows_more, rows-count, rows_all}
+use Rattle.tidy_scrolls.proofs.Turns.{turn-writes, turn-waits, ends_waiting, ends, rows_same, rows-room, rows_more, rows-count, rows_all}
 use Rattle.tidy_scrolls.specs.inside.Ways.{scroll_waiting, no_scroll_held}
 use Rattle.tidy_kept.specs.Passing.{still_written}
 use Rattle.tidy_kept.specs.Near.{near_to}
@@ -9,15 +9,9 @@ use Rattle.rows.specs.RowKey.{row_key_at}
 use Rattle.order.specs.Entries.{entries}
 use lib.ListN.{drop}
 use native.Mathlib.Omega.{arith}
-use mathlib.Core.Path.{ap}
 use Prim.Native.Nat.{◌+◌}
 use Rattle.tidy_scrolls.proofs.lay_kept.Goals as goal
 use Rattle.tidy_scrolls.proofs.lay_kept.Goals.{then-writes, else-writes}
-
-pub loop-i-init : goal.loop-i-init
-loop-i-init c =
-    let es = entries c.args.beats.now c.args.values.now in
-    (omega arith, rows_none (still_written row_key_at near_to no_scroll_held es) (still_written row_key_at near_to (scroll_waiting c.none_held-held.result) es) c.args.out_beats.now c.args.out_values.now (ap (λ s. still_written row_key_at near_to s es) c.none_held-held.ensures))
 
 pub bounds-out_beats-count : goal.bounds-out_beats-count
 bounds-out_beats-count c =

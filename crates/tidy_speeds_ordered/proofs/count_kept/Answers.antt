@@ -2,21 +2,11 @@
 use mathlib.Core.Path.{ap}
 use native.Mathlib.Omega.{arith}
 use lib.ListN.{length}
-use Rattle.rows.specs.RowKey.{row_key_at}
-use Rattle.tidy_kept.specs.Passing.{still_written}
-use Rattle.tidy_speeds_entries.specs.Speed.{speed_value_of, near_speed, speed_entries}
+use Rattle.tidy_speeds_entries.specs.Speed.{speed_value_of}
 use Rattle.tidy_speeds_ordered.specs.inside.Waiting.{speed_waiting}
 use Rattle.tidy_speeds_ordered.proofs.Turns.{speed-writes, speed-waits, ends_waiting, ends}
 use Rattle.tidy_speeds_ordered.proofs.count_kept.Goals as goal
 use Rattle.tidy_speeds_ordered.proofs.count_kept.Goals.{then-writes, else-writes}
-
-pub loop-i-init : goal.loop-i-init
-loop-i-init c =
-    let es = speed_entries c.args.beats.now c.args.ratios.now c.args.delays.now c.args.units.now in
-    (omega arith, omega (arith, ap (λ s. length (still_written row_key_at near_speed s es)) c.none_held-held.ensures))
-
-pub overflow_add-count : goal.overflow_add-count
-overflow_add-count c = record { fits = omega (arith, c.loop-i-test.true, c.loop-i.invariant.0) }
 
 pub loop-i-preserved : goal.loop-i-preserved
 loop-i-preserved c =
@@ -37,9 +27,6 @@ loop-i-preserved c =
           let turn = speed-waits beats ratios delays units c.args.n c.requires s next i more (speed_value_of c.speed_at.result) c.speed_at.ensures c.pass-next.ensures row.result row.ensures c.writes.result c.writes.ensures w.if-writes.false in
           (omega (arith, c.loop-i.invariant.0), omega (arith, ap length turn, c.loop-i.invariant.1))
     ]
-
-pub overflow_add-result : goal.overflow_add-result
-overflow_add-result c = record { fits = omega (arith, c.requires, c.loop-i.invariant.0) }
 
 pub returns-then-held : goal.returns-then-held
 returns-then-held c =

@@ -1,6 +1,6 @@
 -- `tidy_speeds_ordered::lay_kept` lays what the pass writes. Assumes nothing.
 use Prim.Native.Nat.{◌+◌}
-use mathlib.Core.Path.{refl, ap, ◌∙◌}
+use mathlib.Core.Path.{refl}
 use mathlib.Core.List.{[]}
 use native.Mathlib.Omega.{arith}
 use lib.ListN.{drop}
@@ -10,14 +10,9 @@ use Rattle.tidy_speeds_entries.specs.Speed.{speed_value_of, near_speed, speed_en
 use Rattle.tidy_speeds_ordered.specs.inside.Waiting.{speed_waiting}
 use Rattle.tidy_speeds_ordered.specs.OrderedSpeeds.{kept_speeds}
 use Rattle.tidy_speeds_ordered.proofs.Turns.{speed-writes, speed-waits, ends_waiting, ends}
-use Rattle.tidy_speeds_entries.proofs.SpeedsLaid.{speeds-none, speeds-same, speeds-room, speeds-more, speeds-count, speeds-all}
+use Rattle.tidy_speeds_entries.proofs.SpeedsLaid.{speeds-same, speeds-room, speeds-more, speeds-count, speeds-all}
 use Rattle.tidy_speeds_ordered.proofs.lay_kept.Goals as goal
 use Rattle.tidy_speeds_ordered.proofs.lay_kept.Goals.{then-writes, else-writes}
-
-pub loop-i-init : goal.loop-i-init
-loop-i-init c =
-    let es = speed_entries c.args.beats.now c.args.ratios.now c.args.delays.now c.args.units.now in
-    (omega arith, speeds-none (kept_speeds es) (still_written row_key_at near_speed (speed_waiting c.none_held-held.result) es) c.args.out_beats.now c.args.out_ratios.now c.args.out_delays.now c.args.out_units.now (ap (λ s. still_written row_key_at near_speed s es) c.none_held-held.ensures))
 
 pub write_speed-requires : goal.write_speed-requires
 write_speed-requires c =
@@ -33,9 +28,6 @@ write_speed-requires c =
     let next = speed_waiting c.pass-next.result in
     let turn = speed-writes beats ratios delays units c.args.n c.requires.n_value s next i (omega (arith, more)) (speed_value_of c.speed_at.result) c.speed_at.ensures c.pass-next.ensures c.row_key-row.result c.row_key-row.ensures c.writes.result c.writes.ensures c.if-writes.true in
     speeds-room whole left c.args.out_beats.now c.loop-i.out_beats c.args.out_ratios.now c.loop-i.out_ratios c.args.out_delays.now c.loop-i.out_delays c.args.out_units.now c.loop-i.out_units c.loop-i.count c.loop-i.invariant.1 (s.beat, s.value) (still_written row_key_at near_speed next (drop (i + 1) (speed_entries beats ratios delays units))) turn c.requires.kept_bound
-
-pub overflow_add-count : goal.overflow_add-count
-overflow_add-count c = record { fits = omega (arith, c.loop-i-test.true, c.loop-i.invariant.0) }
 
 pub loop-i-preserved : goal.loop-i-preserved
 loop-i-preserved c =
@@ -76,21 +68,6 @@ write_speed-requires-then-held c =
     let turn = ends_waiting beats ratios delays units c.args.n c.requires.n_value s i c.loop-i-test.false c.if-held.true in
     speeds-room whole left c.args.out_beats.now c.loop-i.out_beats c.args.out_ratios.now c.loop-i.out_ratios c.args.out_delays.now c.loop-i.out_delays c.args.out_units.now c.loop-i.out_units c.loop-i.count c.loop-i.invariant.1 (s.beat, s.value) [] turn c.requires.kept_bound
 
-pub overflow_add-result : goal.overflow_add-result
-overflow_add-result c = record { fits = omega (arith, c.requires.n_value, c.loop-i.invariant.0) }
-
-pub shape_of-out_beats-then-held : goal.shape_of-out_beats-then-held
-shape_of-out_beats-then-held c = c.write_speed-then-held.auto.out_beats ∙ c.loop-i.invariant.1.beats_so.size
-
-pub shape_of-out_ratios-then-held : goal.shape_of-out_ratios-then-held
-shape_of-out_ratios-then-held c = c.write_speed-then-held.auto.out_ratios ∙ c.loop-i.invariant.1.ratios_so.size
-
-pub shape_of-out_delays-then-held : goal.shape_of-out_delays-then-held
-shape_of-out_delays-then-held c = c.write_speed-then-held.auto.out_delays ∙ c.loop-i.invariant.1.delays_so.size
-
-pub shape_of-out_units-then-held : goal.shape_of-out_units-then-held
-shape_of-out_units-then-held c = c.write_speed-then-held.auto.out_units ∙ c.loop-i.invariant.1.units_so.size
-
 pub returns-then-held : goal.returns-then-held
 returns-then-held c =
     let beats = c.args.beats.now in
@@ -107,18 +84,6 @@ returns-then-held c =
       value = speeds-count whole [] c.args.out_beats.now _ c.args.out_ratios.now _ c.args.out_delays.now _ c.args.out_units.now _ (c.loop-i.count + 1) done refl;
       fact = speeds-all whole [] c.args.out_beats.now _ c.args.out_ratios.now _ c.args.out_delays.now _ c.args.out_units.now _ (c.loop-i.count + 1) done refl;
     }
-
-pub shape_of-out_beats : goal.shape_of-out_beats
-shape_of-out_beats c = c.loop-i.invariant.1.beats_so.size
-
-pub shape_of-out_ratios : goal.shape_of-out_ratios
-shape_of-out_ratios c = c.loop-i.invariant.1.ratios_so.size
-
-pub shape_of-out_delays : goal.shape_of-out_delays
-shape_of-out_delays c = c.loop-i.invariant.1.delays_so.size
-
-pub shape_of-out_units : goal.shape_of-out_units
-shape_of-out_units c = c.loop-i.invariant.1.units_so.size
 
 pub returns : goal.returns
 returns c =

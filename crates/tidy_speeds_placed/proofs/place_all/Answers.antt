@@ -12,18 +12,6 @@ use Rattle.tidy_speeds_placed.proofs.place_all.Goals as goal
 pub loop-i-init : goal.loop-i-init
 loop-i-init c = (c.requires.kept_beats_len.0, c.requires.kept_beats_len.1, c.requires.kept_beats_len.2, c.requires.kept_beats_len.3, placing_none row_key_at near_speed (speed_entries c.args.beats.now c.args.ratios.now c.args.delays.now c.args.units.now) c.args.kept_beats.now (speed_values c.args.kept_ratios.now c.args.kept_delays.now c.args.kept_units.now))
 
-pub shape_of-kept_beats-then-kept : goal.shape_of-kept_beats-then-kept
-shape_of-kept_beats-then-kept c = c.loop-i.invariant.0 ∙ sym c.requires.kept_beats_len.0
-
-pub shape_of-kept_ratios-then-kept : goal.shape_of-kept_ratios-then-kept
-shape_of-kept_ratios-then-kept c = c.loop-i.invariant.1 ∙ sym c.requires.kept_beats_len.1
-
-pub shape_of-kept_delays-then-kept : goal.shape_of-kept_delays-then-kept
-shape_of-kept_delays-then-kept c = c.loop-i.invariant.2 ∙ sym c.requires.kept_beats_len.2
-
-pub shape_of-kept_units-then-kept : goal.shape_of-kept_units-then-kept
-shape_of-kept_units-then-kept c = c.loop-i.invariant.3 ∙ sym c.requires.kept_beats_len.3
-
 pub returns-then-kept : goal.returns-then-kept
 returns-then-kept c =
     let more = c.loop-i-test.true in
@@ -33,12 +21,6 @@ pub speed_at-value-requires : goal.speed_at-value-requires
 speed_at-value-requires c =
     let more = c.loop-i-test.true in
     (omega (arith, more, c.requires.n_bound.1), omega (arith, more, c.requires.n_bound.1), omega (arith, more, c.requires.n_bound.1))
-
-pub offset_bounds-beats-i : goal.offset_bounds-beats-i
-offset_bounds-beats-i c = record { fits = omega (arith, c.loop-i-test.true, c.requires.n_bound.0) }
-
-pub bounds-beats-i : goal.bounds-beats-i
-bounds-beats-i c = omega (arith, c.loop-i-test.true, c.requires.n_bound.1)
 
 pub add_speed_segment_slow-kept-requires : goal.add_speed_segment_slow-kept-requires
 add_speed_segment_slow-kept-requires c =
@@ -60,18 +42,6 @@ loop-i-preserved c =
       c.add_speed_segment_slow-kept.auto.units ∙ c.loop-i.invariant.3,
       placing_more row_key_at near_speed (speed_entries c.args.beats.now c.args.ratios.now c.args.delays.now c.args.units.now) c.loop-i.kept_beats (speed_values c.loop-i.kept_ratios c.loop-i.kept_delays c.loop-i.kept_units) c.loop-i.kept.count c.loop-i.kept.falls c.loop-i.i c.loop-i.invariant.4 (get_or c.args.beats.now c.loop-i.i nan, v) (nan, no_speed) (omega (arith, more, c.requires.n_bound.1, many-speeds c.args.ratios.now c.args.delays.now c.args.units.now c.args.beats.now)) (speed-entry c.args.ratios.now c.args.delays.now c.args.units.now c.args.beats.now c.loop-i.i v (omega (arith, more, c.requires.n_bound.1)) c.speed_at-value.ensures) _ _ _ _ c.if-kept.false c.add_speed_segment_slow-kept.ensures,
     )
-
-pub shape_of-kept_beats : goal.shape_of-kept_beats
-shape_of-kept_beats c = c.loop-i.invariant.0 ∙ sym c.requires.kept_beats_len.0
-
-pub shape_of-kept_ratios : goal.shape_of-kept_ratios
-shape_of-kept_ratios c = c.loop-i.invariant.1 ∙ sym c.requires.kept_beats_len.1
-
-pub shape_of-kept_delays : goal.shape_of-kept_delays
-shape_of-kept_delays c = c.loop-i.invariant.2 ∙ sym c.requires.kept_beats_len.2
-
-pub shape_of-kept_units : goal.shape_of-kept_units
-shape_of-kept_units c = c.loop-i.invariant.3 ∙ sym c.requires.kept_beats_len.3
 
 pub returns : goal.returns
 returns c =
