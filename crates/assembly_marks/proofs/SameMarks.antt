@@ -11,7 +11,6 @@ use lib.Seq.{length-take-le}
 use lib.Ieee.{Float}
 use Rattle.limits.specs.Numbers.{every}
 use Rattle.limits.proofs.Every.{every_rest}
-use Rattle.tidy_rows.specs.RowTidying.{tidy_rows}
 use Rattle.tidy_rows.proofs.AnyValues.{tidy-seconds}
 use Rattle.tidy_warps.specs.WarpTidying.{tidy_marks}
 use Rattle.assembly_marks.specs.AssembledMarks.{all_the_same}

@@ -25,10 +25,8 @@ pub fn merge_marks(marks: &[u8], made: usize, out: &mut [u8])
 {
     let given = columns::room_of(marks.len(), out.len());
     let end = given + columns::room_of(made, out.len() - given);
-    let mut i = 0;
-    while i < end {
+    for i in 0..end {
         out[i] = mark_at(marks, i);
-        i += 1;
     }
 }
 
@@ -50,10 +48,8 @@ pub fn all_the_same(marks: &[u8]) -> bool
     }
     let first = marks[0];
     let mut worst: u32 = 0;
-    let mut i = 0;
-    while i < marks.len() {
-        worst = limits::worse_of(worst, one_other(marks[i], first));
-        i += 1;
+    for &mark in marks {
+        worst = limits::worse_of(worst, one_other(mark, first));
     }
     worst == 0
 }

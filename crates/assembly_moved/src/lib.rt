@@ -34,10 +34,8 @@ fn count_each(format: TimingFormat, beats: &[f64], values: &[f64]) -> u32
 {
     let n = columns::room_of(beats.len(), values.len());
     let mut moved: u32 = 0;
-    let mut i = 0;
-    while i < n {
-        moved = std::num::wrapping_add_u32(moved, one_moved(format, beats[i], values[i]));
-        i += 1;
+    for (i, &beat) in beats[..n].iter().enumerate() {
+        moved = std::num::wrapping_add_u32(moved, one_moved(format, beat, values[i]));
     }
     moved
 }

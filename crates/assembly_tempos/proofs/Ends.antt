@@ -1,6 +1,6 @@
 -- The ends of the call are its one outcome: refused by the raw tests, for too many warps, by what comes later, and taken. Assumes nothing.
 use Prim.Native.Nat.{ℕ, ◌≤◌, ◌<◌, min}
-use mathlib.Core.Path.{◌≡◌, refl, sym, ap, ◌∙◌}
+use mathlib.Core.Path.{◌≡◌, sym, ◌∙◌}
 use borrow.Author.Tests.{eq-eqb, ne_eqb, le-leb, lt-leb}
 use mathlib.Core.List.{List, map}
 use lib.ListN.{length}

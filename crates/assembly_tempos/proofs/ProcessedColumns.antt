@@ -19,9 +19,8 @@ use Rattle.order.proofs.Columns.{length-entries, first-entries, second-entries}
 use Rattle.columns.specs.declared.Outcome.{Outcome}
 use Rattle.columns.specs.Laying.{room_number, LaidPair, LaidList}
 use Rattle.columns.specs.Each.{laid_each}
-use Rattle.columns.proofs.Rooms.{number-taken, list-laid, list_of_pair}
+use Rattle.columns.proofs.Rooms.{list-laid, list_of_pair}
 use Rattle.columns.proofs.EachOverFront.{each_over_front}
-use Rattle.columns_each.specs.OffGrid.{moved_in, moved_under}
 use Rattle.process_raw.specs.RawLists.{room_for}
 use Rattle.process_raw.specs.LentLists.{ThreeColumns}
 use Rattle.assembly_rows.specs.AssembledRows.{narrowed_entry, change_by, assembled_rows, RowsUntested, rows_fit_in}

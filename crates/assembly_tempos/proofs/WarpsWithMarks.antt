@@ -1,6 +1,6 @@
 -- Warps that fit, with the marks of the given ones and 1 for each that is made: laid without marks where all are the same or beats rise, and tidied with them elsewhere.
 -- Assumes nothing.
-use Prim.Native.Nat.{ℕ, zero, suc, ◌+◌, ◌≤◌, min}
+use Prim.Native.Nat.{ℕ, zero, suc, ◌≤◌, min}
 use mathlib.Core.Path.{◌≡◌, refl, sym, ap, ap₂, ◌∙◌}
 use mathlib.Core.Bool.{true}
 use mathlib.Core.List.{List, map, append-nil}
@@ -13,7 +13,7 @@ use Rattle.limits.specs.Numbers.{every}
 use Rattle.limits.specs.Neighbours.{every_two}
 use Rattle.limits.proofs.ListTaken.{list-taken}
 use Rattle.order.specs.Order.{laid}
-use Rattle.order.specs.Entries.{entries, first, second}
+use Rattle.order.specs.Entries.{entries, first}
 use Rattle.order.proofs.Columns.{first-entries, entries-columns}
 use Rattle.columns.specs.declared.Outcome.{Outcome}
 use Rattle.columns.specs.Each.{laid_each}

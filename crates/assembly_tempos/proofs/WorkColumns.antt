@@ -1,6 +1,6 @@
 -- Work columns: long enough for what processing makes, read back as the lists that it made, and fit to be assembled. Assumes nothing.
 use Prim.Native.Nat.{ℕ, ◌+◌, ◌*◌, ◌≤◌, max}
-use mathlib.Core.Path.{◌≡◌, refl, sym, ap, ◌∙◌}
+use mathlib.Core.Path.{◌≡◌, sym, ap, ◌∙◌}
 use mathlib.Core.Bool.{Bool, true, false}
 use mathlib.Core.List.{List, [], ◌∷◌, ◌++◌, map, map-append}
 use lib.ListN.{length, take, length-map, length-append, length-take}
@@ -10,12 +10,11 @@ use Rattle.picks.specs.Pick.{pick}
 use Rattle.rows.specs.Rows.{quantized}
 use Rattle.limits.specs.declared.Kind.TheVariants.{Beat, Value}
 use Rattle.limits.specs.Numbers.{range_of, in_range, every}
-use Rattle.limits.specs.Refusals.{lower}
 use Rattle.limits.proofs.NoRefusal.{lower-none}
 use Rattle.limits.proofs.ListTaken.{list-taken, list-passes}
 use Rattle.order.specs.Entries.{entries, first, second}
 use Rattle.order.proofs.Columns.{length-entries, first-entries, second-entries, entries-columns}
-use Rattle.columns.specs.Laying.{room_number, given, LaidList}
+use Rattle.columns.specs.Laying.{given, LaidList}
 use Rattle.tidy_rows.specs.RowTidying.{rows_number}
 use Rattle.process_raw.specs.declared.Processed as processed
 use Rattle.process_raw.specs.RawLists.{raw_numbers, list_room}

@@ -96,10 +96,8 @@ fn cast_column(from: &[f64], to: &mut [f32])
     ensures { to.new ≡ laid_each (λ (x : Float). x) from.now to.old }
 {
     let n = columns::room_of(from.len(), to.len());
-    let mut i = 0;
-    while i < n {
-        to[i] = from[i] as f32;
-        i += 1;
+    for (i, &number) in from[..n].iter().enumerate() {
+        to[i] = number as f32;
     }
 }
 

@@ -1,15 +1,13 @@
 -- A piece of the run, through arrays of 64: what it leaves. Assumes nothing.
 use Prim.Native.Nat.{ℕ, min, ◌≤◌}
-use mathlib.Core.Path.{◌≡◌, refl, sym, ap, ◌∙◌}
-use mathlib.Core.Bool.{true}
-use mathlib.Core.List.{List, [], ◌∷◌, ◌++◌, map}
+use mathlib.Core.Path.{◌≡◌, sym, ap, ◌∙◌}
+use mathlib.Core.List.{List, map}
 use native.Mathlib.Omega.{arith}
 use borrow.Author.Tests.{le-leb}
 use lib.IntN.{ℤ}
 use lib.ListN.{length, take, drop, length-map}
 use lib.Seq.{take_at}
 use lib.Ieee.{Float, binary64}
-use Rattle.picks.specs.Pick.{pick}
 use Rattle.rows.specs.Rows.{beat_of}
 use Rattle.limits.specs.Refusals.{lower}
 use Rattle.order.specs.Order.{laid}
@@ -18,10 +16,9 @@ use Rattle.columns.specs.Each.{laid_each}
 use Rattle.columns.specs.Laying.{given}
 use Rattle.columns.proofs.EachOverFront.{each_over_front}
 use Rattle.chart.specs.Timing.{Timing}
-use Rattle.clock.specs.Question.{cursor_refusal}
 use Rattle.clock.specs.declared.Cursor.{Cursor}
 use Rattle.clock.specs.History.{answers, last_cursor, time_of, count_of}
-use Rattle.clock_run.specs.Run.{run_of, run_room_number, checked_run_number, RunColumns, run_columns, CheckedRunLaid}
+use Rattle.clock_run.specs.Run.{run_room_number, checked_run_number, run_columns, CheckedRunLaid}
 use Rattle.clock_run.specs.declared.Ran.{Ran}
 use Rattle.note_sheet.specs.Sheet.{beats_of_rows, sheet_questions}
 use Rattle.note_sheet.specs.inside.Pieces.{PieceFits}

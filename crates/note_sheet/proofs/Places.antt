@@ -1,15 +1,15 @@
 -- The colours of the 48 places, and the remainder of a row that may be negative. Assumes nothing.
 use Prim.Native.Nat.{ℕ, zero, suc, ◌-◌, ◌/◌, ◌%◌, ◌<◌}
-use mathlib.Core.Path.{◌≡◌, refl, sym, ap, ◌∙◌, subst}
+use mathlib.Core.Path.{◌≡◌, refl, sym, ap, ◌∙◌}
 use mathlib.Core.Bool.{Bool, true, false}
 use mathlib.Core.List.{List, [], ◌∷◌}
-use mathlib.Core.Logic.{◌⊎◌, inl, inr}
+use mathlib.Core.Logic.{inl, inr}
 use native.Mathlib.Omega.{arith}
-use lib.Dec.{T, eqb, eqb→eq}
-use lib.IntN.{ℤ, pos, negsuc, nat_abs, neg_ℤ, ◌+ℤ◌}
-use lib.Signed.{mag, lt_z, non_neg, quot_z, rem_z}
+use lib.Dec.{eqb}
+use lib.IntN.{ℤ, pos, negsuc, neg_ℤ, ◌+ℤ◌}
+use lib.Signed.{mag, lt_z, quot_z, rem_z}
 use mir.Syntax.{w32}
-use mir.Val.{Fits, SFits, to_z, of_z}
+use mir.Val.{SFits}
 use types.Run.{OneOf}
 use borrow.Author.Tests.{ne_eqb, ltb-true, le-ltb}
 use native.Mathlib.Nat.{eq-or-lt_of_le, le_of_suc-le-suc}

@@ -1,5 +1,5 @@
 -- The run of a sheet in pieces: what holds before each piece, and at the end. Assumes nothing.
-use Prim.Native.Nat.{ℕ, suc, ◌+◌, ◌-◌, ◌*◌, ◌≤◌, ◌<◌, ◌^◌}
+use Prim.Native.Nat.{ℕ, suc, ◌+◌, ◌-◌, ◌≤◌, ◌<◌, ◌^◌}
 use mathlib.Core.Path.{◌≡◌, refl, sym, ap, ◌∙◌}
 use mathlib.Core.Bool.{Bool, true, false}
 use mathlib.Core.List.{List, [], ◌∷◌, ◌++◌, map, map-append}
@@ -29,7 +29,7 @@ use Rattle.clock_run.specs.Run.{run_of}
 use Rattle.clock_histories.specs.Costs.{events}
 use Rattle.clock_histories.proofs.AnyQuestion.{fine, used-comes}
 use Rattle.clock_histories.proofs.RunsAreQuestions.{answers_of_both, cursor_after_both}
-use Rattle.note_sheet.specs.Sheet.{Song, song, sheet_questions}
+use Rattle.note_sheet.specs.Sheet.{song, sheet_questions}
 use Rattle.note_sheet.specs.inside.Pieces.{PieceFits, PieceTimed, AllFit}
 use Rattle.note_sheet.specs.declared.Piece.{Piece}
 use Rattle.note_sheet.proofs.Totals.{total-on}

@@ -4,7 +4,6 @@ use mathlib.Core.List.{List, [], ◌∷◌, map}
 use mathlib.Core.Bool.{Bool, true, false}
 use mathlib.Core.Path.{◌≡◌, refl, ap, ◌∙◌}
 use native.Mathlib.Omega.{arith}
-use native.Mathlib.Nat.{one-mul}
 use borrow.Author.Tests.{leb-true}
 use lib.Dec.{leb}
 use lib.IntN.{ℤ}
@@ -21,7 +20,7 @@ use Rattle.limits.proofs.Every.{every_rest}
 use Rattle.limits.proofs.NoRefusal.{lower-none}
 use Rattle.clock_tests.specs.TimingNumbers.{timing_number}
 use Rattle.clock.specs.History.{last_cursor, number_of, time_of, count_of}
-use Rattle.clock_histories.specs.Costs.{beats_of, accepted_rows, falls, events, most_of}
+use Rattle.clock_histories.specs.Costs.{beats_of, falls, events, most_of}
 use Rattle.clock_histories.specs.Demand.{alone}
 use Rattle.clock_histories.proofs.FreshNumber.{fresh-number}
 use Rattle.clock_histories.proofs.RunsAreQuestions.{numbers-alone, times-alone}

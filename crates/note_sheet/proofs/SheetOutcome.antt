@@ -1,8 +1,8 @@
 -- The outcome of a sheet: refused by its own tests, refused by the lookup's, or laid. Assumes nothing.
-use Prim.Native.Nat.{ℕ, min, ◌≤◌}
-use mathlib.Core.Path.{◌≡◌, refl, sym, ap, ◌∙◌}
+use Prim.Native.Nat.{ℕ, ◌≤◌}
+use mathlib.Core.Path.{◌≡◌, refl, sym, ◌∙◌}
 use mathlib.Core.Bool.{Bool, true, false}
-use mathlib.Core.List.{List, [], map}
+use mathlib.Core.List.{List}
 use native.Mathlib.Omega.{arith}
 use borrow.Author.Tests.{eqb-true, leb-true, le-leb}
 use lib.Dec.{leb, eqb}
@@ -23,11 +23,9 @@ use Rattle.clock_tests.specs.TimingNumbers.{timing_number}
 use Rattle.lookup_tests.specs.Refused.{judgable_number}
 use Rattle.lookup.specs.Lookups.{is_judgable, Judged}
 use Rattle.clock.specs.Question.{fresh_cursor}
-use Rattle.clock.specs.History.{count_of}
 use Rattle.order.specs.Entries.{total}
 use Rattle.note_sheet.specs.Sheet.{Song, notes_of, SheetColumns, sheet_columns, sheet_room, sheet_answers, colour_of, rows_order_number, sheet_room_number, sheet_number, refused_sheet, SheetLaid}
 use Rattle.note_sheet.specs.inside.Pieces.{PieceTimed, AllFit}
-use Rattle.note_sheet.specs.declared.Sheet.{Sheet}
 use Rattle.note_sheet.specs.declared.Piece.{Piece}
 use Rattle.note_sheet.proofs.SheetKept.{Taken, sheet_taken_lem}
 

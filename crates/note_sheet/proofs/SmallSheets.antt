@@ -1,8 +1,7 @@
 -- Small sheets that show where it is easy to go wrong, by computation. Assumes nothing.
-use Prim.Native.Nat.{ℕ}
 use mathlib.Core.Path.{◌≡◌, refl}
-use mathlib.Core.List.{List, [], ◌∷◌}
-use lib.IntN.{ℤ, pos, negsuc}
+use mathlib.Core.List.{[], ◌∷◌}
+use lib.IntN.{pos, negsuc}
 use lib.Ieee.{Float, fin, lt, le, eq, neg}
 use Rattle.limits.specs.Numbers.{in_range, every, row_in}
 use Rattle.limits.specs.Refusals.{lower, list_number}

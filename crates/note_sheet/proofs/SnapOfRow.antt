@@ -7,7 +7,6 @@ use native.Mathlib.Omega.{arith}
 use lib.Dec.{eqb}
 use lib.IntN.{ℤ, pos, negsuc, nat_abs, neg_ℤ, ◌+ℤ◌, ◌*ℤ◌}
 use borrow.Author.Tests.{lt-ltb, eq-eqb, ne_eqb, eqb-true, eqb-false}
-use Rattle.picks.specs.Pick.{pick}
 use Rattle.note_sheet.specs.Snap.{place_in_beat, is_multiple, first_rule, snap_of}
 
 pub place-below : (row : ℤ) → place_in_beat row < 48

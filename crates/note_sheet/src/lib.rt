@@ -126,10 +126,8 @@ fn rows_rise(rows: &[i32]) -> bool
     ensures { result ≡ every_two lt_z rows.now }
 {
     let mut fail: usize = 0;
-    let mut i = 0;
-    while i + 1 < rows.len() {
-        fail += not_below(rows[i], rows[i + 1]);
-        i += 1;
+    for i in 1..rows.len() {
+        fail += not_below(rows[i - 1], rows[i]);
     }
     fail == 0
 }
@@ -139,10 +137,8 @@ fn snap_rows(rows: &[i32], out: &mut [u8])
     ensures { out.new ≡ laid_each colour_of rows.now out.old }
 {
     let n = columns::room_of(rows.len(), out.len());
-    let mut i = 0;
-    while i < n {
-        out[i] = snap_number(snap_of_row(rows[i]));
-        i += 1;
+    for (i, &row) in rows[..n].iter().enumerate() {
+        out[i] = snap_number(snap_of_row(row));
     }
 }
 
@@ -151,10 +147,8 @@ fn beats_of(rows: &[i32], out: &mut [f64])
     ensures { out.new ≡ laid_each (beat_of binary64) rows.now out.old }
 {
     let n = columns::room_of(rows.len(), out.len());
-    let mut i = 0;
-    while i < n {
-        out[i] = rows::note_row_to_beat(rows[i]);
-        i += 1;
+    for (i, &row) in rows[..n].iter().enumerate() {
+        out[i] = rows::note_row_to_beat(row);
     }
 }
 
@@ -164,10 +158,8 @@ fn sum(counts: &[usize]) -> usize
     ensures { result ≡ total counts.now }
 {
     let mut all = 0;
-    let mut i = 0;
-    while i < counts.len() {
-        all += counts[i];
-        i += 1;
+    for &count in counts {
+        all += count;
     }
     all
 }

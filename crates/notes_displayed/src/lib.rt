@@ -62,14 +62,12 @@ fn walk_to(scroll_beats: &[f32], scroll_ratios: &[f32], beat: f64) -> f64
     let mut shown = 0.0;
     let mut from = 0.0;
     let mut ratio = 1.0;
-    let mut i = 0;
-    while i < scroll_beats.len() {
-        let next = std::num::f32_to_f64_with_nan(scroll_beats[i]);
+    for (i, &scroll_beat) in scroll_beats.iter().enumerate() {
+        let next = std::num::f32_to_f64_with_nan(scroll_beat);
         if next <= beat {
             shown = scrolled_on(shown, from, ratio, next);
             from = next;
             ratio = std::num::f32_to_f64_with_nan(scroll_ratios[i]);
-            i += 1;
             continue;
         }
         if i == 0 {
@@ -77,7 +75,7 @@ fn walk_to(scroll_beats: &[f32], scroll_ratios: &[f32], beat: f64) -> f64
         }
         return displayed_from(shown, from, ratio, beat);
     }
-    if i == 0 {
+    if scroll_beats.is_empty() {
         return beat;
     }
     displayed_from(shown, from, ratio, beat)
@@ -111,14 +109,12 @@ fn lay_prefix(scroll_beats: &[f32], scroll_ratios: &[f32], prefix: &mut [f64])
     let mut shown = 0.0;
     let mut from = 0.0;
     let mut ratio = 1.0;
-    let mut i = 0;
-    while i < scroll_beats.len() {
-        let next = std::num::f32_to_f64_with_nan(scroll_beats[i]);
+    for (i, &scroll_beat) in scroll_beats.iter().enumerate() {
+        let next = std::num::f32_to_f64_with_nan(scroll_beat);
         shown = scrolled_on(shown, from, ratio, next);
         prefix[i] = shown;
         from = next;
         ratio = std::num::f32_to_f64_with_nan(scroll_ratios[i]);
-        i += 1;
     }
 }
 
@@ -225,10 +221,8 @@ fn count_each(scroll_beats: &[f32], beats: &[f64], numbers: &mut [u32])
     requires { (length scroll_beats.now ≤ most_entries) × (length beats.now ≤ length numbers.old) }
     ensures { numbers.new ≡ laid_each (λ (beat : Float). found_up_to beat scroll_beats.now) beats.now numbers.old }
 {
-    let mut i = 0;
-    while i < beats.len() {
-        numbers[i] = count_up_to(scroll_beats, beats[i]) as u32;
-        i += 1;
+    for (i, &beat) in beats.iter().enumerate() {
+        numbers[i] = count_up_to(scroll_beats, beat) as u32;
     }
 }
 
@@ -270,13 +264,11 @@ fn answer_each(
         (numbers.new ≡ laid_each (λ (beat : Float). (at beat).number) beats.now numbers.old)
         × (positions.new ≡ laid_each (λ (beat : Float). (at beat).beat) beats.now positions.old) }
 {
-    let mut i = 0;
-    while i < beats.len() {
+    for (i, &beat) in beats.iter().enumerate() {
         let count = numbers[i] as usize;
-        let shown = answer_behind(scroll_beats, scroll_ratios, prefix, count, beats[i]);
+        let shown = answer_behind(scroll_beats, scroll_ratios, prefix, count, beat);
         numbers[i] = shown.number;
         positions[i] = shown.beat;
-        i += 1;
     }
 }
 

@@ -67,16 +67,14 @@ fn put_entries(page: &mut [u8], beats: &[f64], tempos: &[f64]) -> usize
         Wrote text 0 result page.old page.new }
 {
     let mut place = 0;
-    let mut i = 0;
-    while i < beats.len() {
+    for (i, &beat) in beats.iter().enumerate() {
         place = put_entry(
             page,
             place,
             i,
-            ieee::narrow_f64(beats[i]),
+            ieee::narrow_f64(beat),
             ieee::narrow_f64(tempos[i]),
         );
-        i += 1;
     }
     place
 }
@@ -86,10 +84,8 @@ fn text_size(beats: &[f64], tempos: &[f64]) -> usize
     ensures { result ≡ length (tempo_text (map narrow beats.now) (map narrow tempos.now)) }
 {
     let mut size: usize = 0;
-    let mut i = 0;
-    while i < beats.len() {
-        size += entry_size(i, ieee::narrow_f64(beats[i]), ieee::narrow_f64(tempos[i]));
-        i += 1;
+    for (i, &beat) in beats.iter().enumerate() {
+        size += entry_size(i, ieee::narrow_f64(beat), ieee::narrow_f64(tempos[i]));
     }
     size
 }
@@ -122,7 +118,7 @@ pub fn format_bpm_segments_like_itg(beats: &[f64], tempos: &[f64], page: &mut [u
     let count = put_entries(page, beats, tempos);
     Outcome {
         number: limits::TAKEN,
-        count: count,
+        count,
     }
 }
 
@@ -133,10 +129,8 @@ fn put_entries_f32(page: &mut [u8], beats: &[f32], tempos: &[f32]) -> usize
     ensures { Wrote (tempo_text beats.now tempos.now) 0 result page.old page.new }
 {
     let mut place = 0;
-    let mut i = 0;
-    while i < beats.len() {
-        place = put_entry(page, place, i, beats[i], tempos[i]);
-        i += 1;
+    for (i, &beat) in beats.iter().enumerate() {
+        place = put_entry(page, place, i, beat, tempos[i]);
     }
     place
 }
@@ -146,10 +140,8 @@ fn text_size_f32(beats: &[f32], tempos: &[f32]) -> usize
     ensures { result ≡ length (tempo_text beats.now tempos.now) }
 {
     let mut size: usize = 0;
-    let mut i = 0;
-    while i < beats.len() {
-        size += entry_size(i, beats[i], tempos[i]);
-        i += 1;
+    for (i, &beat) in beats.iter().enumerate() {
+        size += entry_size(i, beat, tempos[i]);
     }
     size
 }
@@ -179,6 +171,6 @@ pub fn format_bpm_segments_f32_like_itg(beats: &[f32], tempos: &[f32], page: &mu
     let count = put_entries_f32(page, beats, tempos);
     Outcome {
         number: limits::TAKEN,
-        count: count,
+        count,
     }
 }

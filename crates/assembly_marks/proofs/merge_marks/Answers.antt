@@ -1,11 +1,8 @@
 -- `assembly_marks::merge_marks` writes each mark, as far as the room goes. Assumes nothing.
-use Prim.Native.Nat.{ℕ, ◌-◌}
 use mathlib.Core.Path.{sym, ◌∙◌}
 use native.Mathlib.Omega.{arith}
-use Rattle.columns.proofs.LaidEach.{LayingEach, begun, turned, ended}
-use Rattle.assembly_marks.specs.AssembledMarks.{merged_marks}
+use Rattle.columns.proofs.LaidEach.{begun, turned, ended}
 use Rattle.assembly_marks.proofs.MergedMarks.{merged-at, merged-length}
-use borrow.Author.Rules.{rules}
 use Rattle.assembly_marks.proofs.merge_marks.Goals as goal
 
 pub loop-i-init : goal.loop-i-init

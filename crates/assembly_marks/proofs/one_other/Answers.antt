@@ -1,7 +1,6 @@
 -- `assembly_marks::one_other` is 0 for the mark that is asked for. Assumes nothing.
 use mathlib.Core.Path.{sym}
 use borrow.Author.Tests.{eq-eqb, ne_eqb}
-use borrow.Author.Rules.{rules}
 use Rattle.assembly_marks.proofs.one_other.Goals as goal
 
 pub returns-then-mark-asked : goal.returns-then-mark-asked

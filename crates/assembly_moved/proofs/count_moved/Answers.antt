@@ -1,5 +1,5 @@
 -- `assembly_moved::count_moved` counts nothing where no beat is off the grid, and else each entry. Assumes nothing.
-use Rattle.std.proofs.Common.{sym, rules}
+use Rattle.std.proofs.Common.{sym}
 use Rattle.assembly_moved.proofs.NoneOff.{none-moved}
 use Rattle.assembly_moved.proofs.count_moved.Goals as goal
 

@@ -1,5 +1,5 @@
 -- `assembly_moved::none_off` quantises a column whole and looks at the count. Assumes nothing.
-use Rattle.std.proofs.Common.{sym, ◌∙◌, true≢false, lit≤, rules, eqb-true}
+use Rattle.std.proofs.Common.{sym, ◌∙◌, true≢false, lit≤, eqb-true}
 use Rattle.assembly_moved.proofs.NoneOff.{counted-whole}
 use Rattle.assembly_moved.proofs.none_off.Goals as goal
 

@@ -1,5 +1,5 @@
 -- `assembly_moved::one_moved` meets its contract. Assumes nothing.
-use Rattle.std.proofs.Common.{◌≡◌, ℕ, Bool, true, false, not, sym, ap, ◌∙◌, rules}
+use Rattle.std.proofs.Common.{◌≡◌, ℕ, Bool, true, false, not, sym, ap, ◌∙◌}
 use Rattle.picks.specs.Pick.{pick}
 use Rattle.rows.specs.Rows.{on_grid}
 use Rattle.assembly_moved.proofs.one_moved.Goals as goal

@@ -1,5 +1,4 @@
 -- `assembly_moved::stays` asks the format's own test. Assumes nothing.
-use Rattle.std.proofs.Common.{rules}
 use Rattle.assembly_moved.proofs.stays.Goals as goal
 
 pub returns-in-Sm : goal.returns-in-Sm

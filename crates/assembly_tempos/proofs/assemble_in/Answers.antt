@@ -1,5 +1,5 @@
 -- `assembly_tempos::assemble_in` has the lists processed into work columns, and lays what is read from them. Assumes nothing.
-use Prim.Native.Nat.{ℕ, ◌-◌, ◌+◌, ◌≤◌}
+use Prim.Native.Nat.{ℕ, ◌-◌, ◌+◌}
 use mathlib.Core.Path.{◌≡◌, sym, ap, ap₂, ◌∙◌}
 use mathlib.Core.Bool.{true}
 use native.Mathlib.Omega.{arith}
@@ -17,7 +17,6 @@ use Rattle.assembly_tempos.specs.AssembledTempos.{raw_with, made_warps}
 use Rattle.assembly_tempos.specs.inside.Refusal.{nothing_assembled}
 use Rattle.assembly_tempos.proofs.Ends.{raw-refused}
 use Rattle.assembly_tempos.proofs.WorkColumns.{Fronts, number_is, fronts, as_read, fronts-inside, warps-merged, processed-columns, tempos-held, stops-held}
-use borrow.Author.Rules.{rules}
 use Rattle.assembly_tempos.proofs.assemble_in.Goals as goal
 use Rattle.assembly_tempos.proofs.assemble_in.Goals.{After-lower_of-number, Else-number-ne-TAKEN, Start}
 

@@ -4,7 +4,6 @@ use mathlib.Core.Path.{sym, ◌∙◌}
 use native.Mathlib.Omega.{arith}
 use lib.ListN.{length}
 use Rattle.assembly_tempos.proofs.OnRows.{on_row_held, laid_as_they_are}
-use borrow.Author.Rules.{rules}
 use Rattle.assembly_tempos.proofs.assemble_stops.Goals as goal
 
 pub returns-then-beats-room_of : goal.returns-then-beats-room_of

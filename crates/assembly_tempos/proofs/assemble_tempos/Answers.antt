@@ -4,7 +4,6 @@ use lib.ListN.{length-replicate}
 use lib.Ieee.{Float, binary64, of_bits}
 use Rattle.process_raw.specs.LentLists.{ThreeColumns, three_columns}
 use Rattle.assembly_tempos.proofs.WorkColumns.{lengths-few, work-rooms}
-use borrow.Author.Rules.{rules}
 use Rattle.assembly_tempos.proofs.assemble_tempos.Goals as goal
 use Rattle.assembly_tempos.proofs.assemble_tempos.Goals.{Start}
 

@@ -9,7 +9,6 @@ use Rattle.columns.proofs.LaidEach.{laid-all}
 use Rattle.columns_each.specs.OffGrid.{moved_in}
 use Rattle.columns_each.proofs.OffGridCounts.{whole-counted}
 use Rattle.assembly_tempos.proofs.WarpsWithMarks.{few-beats, rising-written}
-use borrow.Author.Rules.{rules}
 use Rattle.assembly_tempos.proofs.lay_differing.Goals as goal
 use Rattle.assembly_tempos.proofs.lay_differing.Goals.{After-quantize_beats-off, Start}
 

@@ -13,7 +13,6 @@ use Rattle.assembly_tempos.proofs.Ends.{too_many, later-refused, all_laid}
 use Rattle.assembly_tempos.proofs.OnRows.{on_row_held}
 use Rattle.assembly_tempos.proofs.ProcessedColumns.{warps-count, tempos-laid, stops-laid, AllFit, all_fit}
 use Rattle.assembly_tempos.proofs.WarpsWithMarks.{warps-fit, list_written, marks-written, moved-written}
-use borrow.Author.Rules.{rules}
 use Rattle.assembly_tempos.proofs.lay_lists.Goals as goal
 use Rattle.assembly_tempos.proofs.lay_lists.Goals.{After-lower_of-number, Else-number-ne-TAKEN, Start}
 

@@ -4,7 +4,6 @@ use mathlib.Core.Path.{sym, ◌∙◌}
 use lib.ListN.{length}
 use lib.Seq.{length-take-le}
 use Rattle.assembly_tempos.proofs.WarpsWithMarks.{few-beats, marks-inside, front-written}
-use borrow.Author.Rules.{rules}
 use Rattle.assembly_tempos.proofs.lay_merged.Goals as goal
 use Rattle.assembly_tempos.proofs.lay_merged.Goals.{Else-all_the_same}
 

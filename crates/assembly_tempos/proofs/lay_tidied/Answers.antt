@@ -4,7 +4,6 @@ use mathlib.Core.List.{map}
 use Rattle.rows.specs.Rows.{quantized}
 use Rattle.columns.proofs.LaidEach.{laid-all}
 use Rattle.assembly_tempos.proofs.WarpsWithMarks.{even-lengths, tidied-written}
-use borrow.Author.Rules.{rules}
 use Rattle.assembly_tempos.proofs.lay_tidied.Goals as goal
 use Rattle.assembly_tempos.proofs.lay_tidied.Goals.{After-tidy_warp_segments-tidied, Start}
 

@@ -5,7 +5,6 @@ use lib.ListN.{length}
 use lib.Seq.{length-take-le}
 use Rattle.assembly_marks.specs.AssembledMarks.{merged_marks}
 use Rattle.assembly_tempos.proofs.WarpsWithMarks.{none_made, few-beats}
-use borrow.Author.Rules.{rules}
 use Rattle.assembly_tempos.proofs.lay_warps.Goals as goal
 use Rattle.assembly_tempos.proofs.lay_warps.Goals.{Else-made-eq0}
 

@@ -4,7 +4,6 @@ use mathlib.Core.Path.{◌≡◌, sym, ◌∙◌}
 use mathlib.Core.List.{map-id}
 use Rattle.columns.proofs.LaidEach.{laid-all}
 use Rattle.assembly_marks.specs.AssembledMarks.{merged_marks}
-use borrow.Author.Rules.{rules}
 use Rattle.assembly_tempos.proofs.lay_warps_in.Goals as goal
 use Rattle.assembly_tempos.proofs.lay_warps_in.Goals.{After-merge_marks}
 

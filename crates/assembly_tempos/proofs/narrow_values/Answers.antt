@@ -1,7 +1,6 @@
 -- `assembly_tempos::narrow_values` casts f32s and narrows the rest. Assumes nothing.
 use mathlib.Core.Path.{◌∙◌}
 use Rattle.assembly_tempos.proofs.OnRows.{held-laid}
-use borrow.Author.Rules.{rules}
 use Rattle.assembly_tempos.proofs.narrow_values.Goals as goal
 
 pub cast_column-requires : goal.cast_column-requires

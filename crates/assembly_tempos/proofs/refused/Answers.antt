@@ -1,7 +1,6 @@
 -- `assembly_tempos::refused` answers a number and nothing else. Assumes nothing.
 use mathlib.Core.Path.{refl}
 use lib.Ieee.{of_bits}
-use borrow.Author.Rules.{rules}
 use Rattle.assembly_tempos.proofs.refused.Goals as goal
 
 pub returns : goal.returns

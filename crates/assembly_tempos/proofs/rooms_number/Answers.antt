@@ -2,7 +2,6 @@
 use mathlib.Core.Path.{◌∙◌}
 use Rattle.process_raw.specs.LentLists.{three_columns}
 use Rattle.assembly_tempos.proofs.ProcessedColumns.{rooms-are}
-use borrow.Author.Rules.{rules}
 use Rattle.assembly_tempos.proofs.rooms_number.Goals as goal
 
 pub returns : goal.returns

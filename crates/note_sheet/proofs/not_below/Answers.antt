@@ -1,8 +1,6 @@
 -- `note_sheet::not_below` is 1 where the test fails. Assumes nothing.
 use mathlib.Core.Bool.{true, false}
-use Rattle.limits.specs.Numbers.{miss}
 use Rattle.rows.proofs.BackFromBits.{tested}
-use borrow.Author.Rules.{rules}
 use Rattle.note_sheet.proofs.not_below.Goals as goal
 
 pub returns-then-row-next : goal.returns-then-row-next

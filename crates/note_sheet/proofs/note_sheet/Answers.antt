@@ -1,11 +1,9 @@
 -- `note_sheet::note_sheet` has the one outcome that its definition gives. Assumes nothing.
-use mathlib.Core.Path.{◌≡◌, sym, ap, ◌∙◌}
-use lib.ListN.{length}
+use mathlib.Core.Path.{◌≡◌, sym, ◌∙◌}
 use Rattle.chart.specs.Timing.{timing}
 use Rattle.chart.specs.ChartColumns.{list_columns}
 use Rattle.note_sheet.specs.Sheet.{song, sheet_columns}
 use Rattle.note_sheet.proofs.SheetOutcome.{own_number, refused_by_own, refused_by_lookup, all_fit, sheet_laid}
-use borrow.Author.Rules.{rules}
 use Rattle.note_sheet.proofs.note_sheet.Goals as goal
 use Rattle.note_sheet.proofs.note_sheet.Goals.{After-lower_of-own}
 

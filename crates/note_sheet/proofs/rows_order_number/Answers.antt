@@ -1,7 +1,6 @@
 -- `note_sheet::rows_order_number` is `rows_order_number`. Assumes nothing.
 use mathlib.Core.Path.{sym, ◌∙◌}
 use Rattle.note_sheet.specs.Sheet.{rows_order_number}
-use borrow.Author.Rules.{rules}
 use Rattle.note_sheet.proofs.rows_order_number.Goals as goal
 
 pub returns-then-rows_rise : goal.returns-then-rows_rise

@@ -1,7 +1,6 @@
 -- `note_sheet::sheet_room_number` is `sheet_room_number`. Assumes nothing.
 use borrow.Author.Tests.{le-leb, lt-leb}
 use Rattle.note_sheet.specs.Sheet.{sheet_room_number}
-use borrow.Author.Rules.{rules}
 use Rattle.note_sheet.proofs.sheet_room_number.Goals as goal
 
 pub returns-then-rows-room : goal.returns-then-rows-room

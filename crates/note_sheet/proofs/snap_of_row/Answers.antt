@@ -1,11 +1,9 @@
 -- `note_sheet::snap_of_row` is `snap_of`. Assumes nothing.
-use mathlib.Core.Path.{◌≡◌, ap, ◌∙◌}
-use native.Mathlib.Omega.{arith}
+use mathlib.Core.Path.{ap, ◌∙◌}
 use mir.Syntax.{w32}
 use mir.ValLaws.{to_z-of_z}
-use Rattle.note_sheet.specs.Snap.{place_in_beat, first_rule, snap_of}
+use Rattle.note_sheet.specs.Snap.{first_rule, snap_of}
 use Rattle.note_sheet.proofs.SnapOfRow.{place-below}
-use borrow.Author.Rules.{rules}
 use Rattle.note_sheet.proofs.snap_of_row.Goals as goal
 
 pub snap_of_place-requires : goal.snap_of_place-requires

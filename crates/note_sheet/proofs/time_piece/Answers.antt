@@ -1,11 +1,9 @@
 -- `note_sheet::time_piece` times at most 64 rows. Assumes nothing.
-use mathlib.Core.Path.{◌≡◌, refl, sym, ap, ◌∙◌}
-use native.Mathlib.Omega.{arith}
-use lib.ListN.{length, take}
+use mathlib.Core.Path.{refl, sym, ap, ◌∙◌}
+use lib.ListN.{length}
 use lib.Seq.{length-take-le}
 use Rattle.order.specs.Entries.{total}
 use Rattle.note_sheet.proofs.PieceByPiece.{front-beats, beats-many, piece_ran}
-use borrow.Author.Rules.{rules}
 use Rattle.note_sheet.proofs.time_piece.Goals as goal
 
 pub slice_bounds-run_checked-end : goal.slice_bounds-run_checked-end

@@ -1,13 +1,12 @@
 -- `note_sheet::time_rows` times all rows, piece by piece. Assumes nothing.
-use Prim.Native.Nat.{◌+◌, ◌-◌, ◌<◌, ◌≤◌, ◌^◌}
-use mathlib.Core.Path.{◌≡◌, refl, sym, ap, ◌∙◌}
+use Prim.Native.Nat.{◌+◌, ◌<◌, ◌≤◌, ◌^◌}
+use mathlib.Core.Path.{ap, ◌∙◌}
 use native.Mathlib.Omega.{arith}
-use lib.ListN.{length, take, drop}
+use lib.ListN.{length}
 use Rattle.chart.specs.Timing.{timing}
-use Rattle.note_sheet.proofs.RunInPieces.{Timed, none_timed, fresh-made, timed_size, piece_fits, steps-fit, piece_timed, all_timed}
+use Rattle.note_sheet.proofs.RunInPieces.{none_timed, fresh-made, timed_size, piece_fits, steps-fit, piece_timed, all_timed}
 use Rattle.clock.specs.declared.Made.{Made}
 use Rattle.clock_run.proofs.PlacesInColumns.{scaled4, scaled8}
-use borrow.Author.Rules.{rules}
 use Rattle.note_sheet.proofs.time_rows.Goals as goal
 
 pub loop-done-init : goal.loop-done-init

@@ -1,13 +1,8 @@
 -- `note_sheet::time_rows` times all rows, piece by piece. Assumes nothing.
-use Prim.Native.Nat.{◌+◌, ◌-◌, ◌<◌, ◌≤◌, ◌^◌}
-use mathlib.Core.Path.{◌≡◌, refl, sym, ap, ◌∙◌}
-use native.Mathlib.Omega.{arith}
-use lib.ListN.{length, take, drop}
+use Prim.Native.Nat.{◌-◌}
+use lib.ListN.{length}
 use Rattle.chart.specs.Timing.{timing}
-use Rattle.note_sheet.proofs.RunInPieces.{Timed, none_timed, fresh-made, timed_size, piece_fits, steps-fit, piece_timed, all_timed}
-use Rattle.clock.specs.declared.Made.{Made}
-use Rattle.clock_run.proofs.PlacesInColumns.{scaled4, scaled8}
-use borrow.Author.Rules.{rules}
+use Rattle.note_sheet.proofs.RunInPieces.{Timed}
 use Rattle.note_sheet.proofs.time_rows.Given as goal
 
 abbrev pub invariant-loop-done : goal.invariant-loop-done

@@ -1,6 +1,6 @@
 -- `notes_displayed::answer_behind` refuses the beat, or draws it. Assumes nothing.
 use lib.Ieee.{of_bits}
-use Rattle.std.proofs.Common.{rules, ne_eqb}
+use Rattle.std.proofs.Common.{ne_eqb}
 use Rattle.notes_displayed.specs.Answers.{displayed}
 use Rattle.notes_displayed.proofs.answer_behind.Goals as goal
 

@@ -1,5 +1,5 @@
 -- `notes_displayed::build_scroll_prefix` refuses, or lays the whole prefix. Assumes nothing.
-use Rattle.std.proofs.Common.{sym, ◌∙◌, rules}
+use Rattle.std.proofs.Common.{sym, ◌∙◌}
 use Rattle.notes_displayed.proofs.ScrollsTaken.{scrolls-taken}
 use Rattle.notes_displayed.proofs.Outcomes.{prefix_refused, prefix_no_room, prefix_laid}
 use Rattle.notes_displayed.proofs.build_scroll_prefix.Goals as goal

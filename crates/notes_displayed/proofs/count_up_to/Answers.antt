@@ -1,6 +1,5 @@
 -- `notes_displayed::count_up_to` is what a search finds. Assumes nothing.
 use Rattle.notes_displayed.specs.Scrolls.{found_up_to}
-use Rattle.std.proofs.Common.{rules}
 use Rattle.notes_displayed.proofs.count_up_to.Goals as goal
 
 pub returns : goal.returns

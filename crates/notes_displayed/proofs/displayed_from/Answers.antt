@@ -1,6 +1,5 @@
 -- `notes_displayed::displayed_from` is `displayed_from`. Assumes nothing.
 use Rattle.notes_displayed.specs.Scrolls.{displayed_from}
-use Rattle.std.proofs.Common.{rules}
 use Rattle.notes_displayed.proofs.displayed_from.Goals as goal
 
 pub returns : goal.returns

@@ -1,5 +1,5 @@
 -- `notes_displayed::draw_behind` draws a beat by the last of some scrolls. Assumes nothing.
-use Rattle.std.proofs.Common.{◌∙◌, rules, ne_eqb}
+use Rattle.std.proofs.Common.{◌∙◌, ne_eqb}
 use Rattle.notes_displayed.specs.Scrolls.{behind_scrolls}
 use Rattle.notes_displayed.proofs.draw_behind.Goals as goal
 

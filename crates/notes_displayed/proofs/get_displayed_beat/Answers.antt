@@ -1,5 +1,5 @@
 -- `notes_displayed::get_displayed_beat` refuses, or walks to the beat. Assumes nothing.
-use Rattle.std.proofs.Common.{sym, ◌∙◌, rules, ne_eqb}
+use Rattle.std.proofs.Common.{sym, ◌∙◌, ne_eqb}
 use lib.Ieee.{of_bits}
 use Rattle.limits.proofs.NoRefusal.{lower-none}
 use Rattle.notes_displayed.specs.Answers.{displayed, displayed_number, displayed_at}

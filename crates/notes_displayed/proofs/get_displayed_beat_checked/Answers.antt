@@ -1,6 +1,6 @@
 -- `notes_displayed::get_displayed_beat_checked` refuses the beat, or draws it by the count that a search finds. Assumes nothing.
 use lib.Ieee.{of_bits}
-use Rattle.std.proofs.Common.{rules, ne_eqb}
+use Rattle.std.proofs.Common.{ne_eqb}
 use Rattle.notes_displayed.specs.Scrolls.{displayed_by}
 use Rattle.notes_displayed.specs.Answers.{displayed, checked_at}
 use Rattle.notes_displayed.proofs.get_displayed_beat_checked.Goals as goal

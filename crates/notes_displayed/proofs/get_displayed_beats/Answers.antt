@@ -1,5 +1,5 @@
 -- `notes_displayed::get_displayed_beats` refuses, or answers every beat. Assumes nothing.
-use Rattle.std.proofs.Common.{sym, ◌∙◌, arith, rules}
+use Rattle.std.proofs.Common.{sym, ◌∙◌, arith}
 use Rattle.notes_displayed.proofs.Outcomes.{beats-refused, beats_no_room, beats-displayed}
 use Rattle.notes_displayed.proofs.get_displayed_beats.Goals as goal
 

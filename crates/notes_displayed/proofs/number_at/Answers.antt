@@ -1,5 +1,5 @@
 -- `notes_displayed::number_at` is the number at a place, or a NaN. Assumes nothing.
-use Rattle.std.proofs.Common.{sym, rules}
+use Rattle.std.proofs.Common.{sym}
 use lib.ListN.{get_or-eq_default}
 use lib.Ieee.{nan, div, of_bits}
 use Rattle.notes_displayed.proofs.number_at.Goals as goal

@@ -1,7 +1,6 @@
 -- `notes_displayed::scroll_columns_number` is the number of the scrolls by themselves. Assumes nothing.
 use Rattle.notes_displayed.specs.Answers.{scroll_columns_number}
 use Rattle.picks.proofs.Rules.{flags}
-use Rattle.std.proofs.Common.{rules}
 use Rattle.notes_displayed.proofs.scroll_columns_number.Goals as goal
 
 pub returns-then-never_fall : goal.returns-then-never_fall

@@ -1,5 +1,5 @@
 -- `notes_displayed::show_all` lends an array for the prefix. Assumes nothing.
-use Rattle.std.proofs.Common.{◌≡◌, ℕ, ◌≤◌, sym, arith, length-take-le, rules}
+use Rattle.std.proofs.Common.{◌≡◌, ℕ, ◌≤◌, sym, arith, length-take-le}
 use Rattle.notes_displayed.proofs.ScrollsTaken.{scrolls-taken}
 use Rattle.notes_displayed.proofs.show_all.Goals as goal
 

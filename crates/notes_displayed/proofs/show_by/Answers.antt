@@ -1,5 +1,5 @@
 -- `notes_displayed::show_by` lays the prefix, counts for all beats, and draws each. Assumes nothing.
-use Rattle.std.proofs.Common.{ℕ, ◌∙◌, rules}
+use Rattle.std.proofs.Common.{ℕ, ◌∙◌}
 use lib.Ieee.{Float, nan}
 use Rattle.order.specs.Order.{laid as laid_over}
 use Rattle.notes_displayed.specs.Scrolls.{scroll_prefix, found_up_to}

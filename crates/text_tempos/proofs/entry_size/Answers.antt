@@ -2,7 +2,6 @@
 use native.Mathlib.Omega.{arith}
 use Rattle.text_page.proofs.WholePage.{wrote-whole}
 use Rattle.text_tempos.proofs.EntrySizes.{entry-most}
-use borrow.Author.Rules.{rules}
 use Rattle.text_tempos.proofs.entry_size.Goals as goal
 
 pub returns : goal.returns

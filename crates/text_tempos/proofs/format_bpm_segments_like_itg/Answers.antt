@@ -3,7 +3,6 @@ use mathlib.Core.Path.{sym, ◌∙◌}
 use borrow.Author.Tests.{not-true, not-false}
 use Rattle.limits.proofs.ListTaken.{list-taken}
 use Rattle.text_tempos.proofs.Outcomes.{list-refused, no_room_left, text-laid}
-use borrow.Author.Rules.{rules}
 use Rattle.text_tempos.proofs.format_bpm_segments_like_itg.Goals as goal
 
 pub returns-then-number-ne-TAKEN : goal.returns-then-number-ne-TAKEN

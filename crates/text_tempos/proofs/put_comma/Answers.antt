@@ -5,7 +5,6 @@ use mathlib.Core.List.{[], ◌∷◌}
 use native.Mathlib.Omega.{arith}
 use Rattle.text_page.proofs.Joined.{wrote_as, wrote_none}
 use Rattle.text_tempos.specs.inside.TextsLeft.{comma_before}
-use borrow.Author.Rules.{rules}
 use Rattle.text_tempos.proofs.put_comma.Goals as goal
 
 later : (i : ℕ) → 0 < i → 44 ∷ [] ≡ comma_before i

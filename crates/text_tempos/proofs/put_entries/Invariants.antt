@@ -1,17 +1,10 @@
 -- `text_tempos::put_entries` meets its contract: a turn is an entry. Assumes nothing.
-use Prim.Native.Nat.{◌-◌, ◌≤◌}
 use mathlib.Core.List.{map}
-use native.Mathlib.Omega.{arith}
-use lib.ListN.{length}
 use Rattle.ieee.specs.Narrowing.{narrow}
 use Rattle.text_page.proofs.Joined.{Left}
 use Rattle.text_tempos.specs.TempoText.{tempo_text}
-use Rattle.text_tempos.proofs.EntriesLeft.{left, entries-start, narrowed-turn, narrowed-end}
-use borrow.Author.Rules.{rules}
+use Rattle.text_tempos.proofs.EntriesLeft.{left}
 use Rattle.text_tempos.proofs.put_entries.Given as goal
 
 abbrev pub invariant-loop-i : goal.invariant-loop-i
-invariant-loop-i l = (l.i ≤ length l.beats) × Left (tempo_text (map narrow l.beats) (map narrow l.tempos)) (left (map narrow l.beats) (map narrow l.tempos) l.i) 0 l.place l.initial.page l.page
-
-abbrev pub decreases-loop-i : goal.decreases-loop-i
-decreases-loop-i l = length l.beats - l.i
+invariant-loop-i l = Left (tempo_text (map narrow l.beats) (map narrow l.tempos)) (left (map narrow l.beats) (map narrow l.tempos) l.i) 0 l.place l.initial.page l.page

@@ -1,7 +1,6 @@
 -- `text_tempos::put_entry` meets its contract, piece by piece. Assumes nothing.
 use Rattle.text_page.proofs.Joined.{wrote-join}
 use Rattle.text_tempos.specs.TempoText.{entry_text}
-use borrow.Author.Rules.{rules}
 use Rattle.text_tempos.proofs.put_entry.Goals as goal
 
 pub returns : goal.returns
