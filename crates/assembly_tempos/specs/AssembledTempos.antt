@@ -1,5 +1,5 @@
 -- Assembly of tempos, stops and warps, which are processed first, under the one number of all seven lists. Definitions only.
-use Rattle.std.specs.Prelude.{ℕ, min, List, map, ◌≡◌, leb, eqb, length, Float}
+use Rattle.std.specs.Prelude.{ℕ, min, true, List, map, ◌≡◌, leb, eqb, length, Float}
 use Rattle.limits.specs.Table.{too_long_number, most_entries}
 use Rattle.ieee.specs.Constants.{plus_zero}
 use Rattle.picks.specs.Pick.{pick}

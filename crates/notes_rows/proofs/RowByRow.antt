@@ -1,24 +1,17 @@
 -- The beats of a measure's rows, row by row. Assumes nothing.
-use Prim.Native.Nat.{ℕ, suc, ◌+◌, ◌-◌, ◌^◌, ◌<◌, ◌≤◌}
+use Prim.Native.Nat.{ℕ, suc, ◌+◌, ◌-◌, ◌<◌, ◌≤◌}
 use mathlib.Core.List.{List, [], ◌∷◌, ◌++◌, map, append_assoc}
 use mathlib.Core.Path.{◌≡◌, ap}
 use native.Mathlib.Numerals.{add-one}
 use native.Mathlib.Omega.{arith}
-use lib.IntN.{pos}
 use lib.ListN.{length, take, set}
 use lib.Seq.{take-suc-set}
-use lib.Dec.{T, le→leb}
-use lib.Ieee.{Float, binary32, in_float}
-use Rattle.notes_rows.specs.RowBeats.{beat_of_row, rows_from, measure_beats, most_note_bytes}
+use lib.Ieee.{Float}
+use Rattle.notes_rows.specs.RowBeats.{beat_of_row, rows_from, measure_beats}
 
 -- those from a row on
 abbrev pub beats_left : (measure rows row : ℕ) → List Float
 beats_left measure rows row = map (beat_of_row measure rows) (rows_from row (rows - row))
-
--- every count of rows or measures is a whole number of f32
-pub count_held : (n : ℕ) → n ≤ most_note_bytes → T (in_float binary32 (pos n))
-unfolding in_float
-count_held n few = le→leb n (2 ^ 24) (omega arith)
 
 module _ (measure rows : ℕ) where
   pub all_left : measure_beats measure rows ≡ beats_left measure rows 0
