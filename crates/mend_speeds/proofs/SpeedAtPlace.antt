@@ -6,7 +6,7 @@ use lib.ListN.{length, get_or}
 use lib.Ieee.{Float, nan}
 use Rattle.order.specs.Entries.{entries}
 use Rattle.order.proofs.Columns.{length-entries, entries-get_or}
-use Rattle.tidy_speeds_entries.specs.Speed.{SpeedValue, no_speed, speed_values}
+use Rattle.tidy_speeds_entries.specs.Speed.{no_speed, speed_values}
 use Rattle.mend_speeds.specs.inside.EvenValues.{EvenValues}
 
 module _ {ratios delays : List Float} {units : List ℕ} (e : EvenValues ratios delays units) where

@@ -4,7 +4,6 @@ use lib.ListN.{get_or}
 use Rattle.order.specs.Packed.{lower_half}
 use Rattle.tidy_speeds_entries.specs.Speed.{near_speed, no_speed, speed_values}
 use Rattle.mend_fates.specs.inside.Walking.{near_last_of}
-use borrow.Author.Rules.{rules}
 use Rattle.mend_speeds.proofs.fate_at.Goals as goal
 use Rattle.mend_speeds.proofs.fate_at.Goals.{After-near_last}
 

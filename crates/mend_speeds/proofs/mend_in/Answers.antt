@@ -1,7 +1,6 @@
 -- `mend_speeds::mend_in` walks in the lent columns, and lays what it finds. Assumes nothing.
 use Rattle.chart.specs.ChartColumns.{speed_columns}
 use Rattle.mend_speeds.proofs.Outcomes.{ratios-even, even-values}
-use borrow.Author.Rules.{rules}
 use Rattle.mend_speeds.proofs.mend_in.Goals as goal
 
 pub walk-count-requires : goal.walk-count-requires

@@ -2,7 +2,6 @@
 use mathlib.Core.Path.{sym, ◌∙◌}
 use Rattle.chart.specs.ChartColumns.{speed_columns}
 use Rattle.mend_speeds.proofs.Outcomes.{refused_by_tests}
-use borrow.Author.Rules.{rules}
 use Rattle.mend_speeds.proofs.mend_speeds.Goals as goal
 
 pub returns-then-number-ne-TAKEN : goal.returns-then-number-ne-TAKEN

@@ -5,7 +5,6 @@ use lib.ListN.{length, take, replicate}
 use lib.Seq.{length-take-le}
 use Rattle.chart.specs.ChartColumns.{speed_columns}
 use Rattle.mend_speeds.proofs.Outcomes.{few-speeds}
-use borrow.Author.Rules.{rules}
 use Rattle.mend_speeds.proofs.mend_taken.Goals as goal
 use Rattle.mend_speeds.proofs.mend_taken.Goals.{Start}
 

@@ -5,7 +5,6 @@ use lib.ListN.{get_or}
 use borrow.Author.Tests.{eq-eqb, ne_eqb}
 use Rattle.tidy_speeds_entries.specs.Speed.{SpeedValue, speed_value_of, near_speed, no_speed, speed_values}
 use Rattle.mend_speeds.proofs.SpeedAtPlace.{speed_at_place}
-use borrow.Author.Rules.{rules}
 use Rattle.mend_speeds.proofs.near_last.Goals as goal
 
 pub returns-then-count-eq0 : goal.returns-then-count-eq0

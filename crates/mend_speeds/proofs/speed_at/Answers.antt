@@ -1,5 +1,4 @@
 -- `mend_speeds::speed_at` reads the three columns. Assumes nothing.
-use borrow.Author.Rules.{rules}
 use Rattle.mend_speeds.proofs.speed_at.Goals as goal
 
 pub returns : goal.returns
