@@ -56,11 +56,9 @@ fn walk(
 {
     tidy_rows_sort::sort_places(beats, numbers);
     let mut count: usize = 0;
-    let mut i = 0;
-    while i < numbers.len() {
+    for (i, &number) in numbers.iter().enumerate() {
         let fate = fate_at(numbers, i, values, kept, count);
-        count = mend_fates::settle(numbers[i], fate, fates, kept, count);
-        i += 1;
+        count = mend_fates::settle(number, fate, fates, kept, count);
     }
     count
 }

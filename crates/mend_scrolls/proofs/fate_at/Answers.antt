@@ -5,7 +5,6 @@ use lib.Ieee.{nan}
 use Rattle.order.specs.Packed.{lower_half}
 use Rattle.tidy_kept.specs.Near.{near_to}
 use Rattle.mend_fates.specs.inside.Walking.{near_last_of}
-use borrow.Author.Rules.{rules}
 use Rattle.mend_scrolls.proofs.fate_at.Goals as goal
 use Rattle.mend_scrolls.proofs.fate_at.Goals.{After-near_last}
 

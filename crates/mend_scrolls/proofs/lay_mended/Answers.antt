@@ -4,7 +4,6 @@ use native.Mathlib.Omega.{arith}
 use lib.Seq.{length-take-le}
 use Rattle.chart.specs.ChartColumns.{list_columns}
 use Rattle.mend_scrolls.proofs.Outcomes.{fates_too_long, list_too_long, all_laid}
-use borrow.Author.Rules.{rules}
 use Rattle.mend_scrolls.proofs.lay_mended.Goals as goal
 
 pub returns-then-fates-out_fates : goal.returns-then-fates-out_fates

@@ -1,6 +1,5 @@
 -- `mend_scrolls::mend_in` walks in the lent columns, and lays what it finds. Assumes nothing.
 use Rattle.limits.proofs.ListTaken.{list-taken}
-use borrow.Author.Rules.{rules}
 use Rattle.mend_scrolls.proofs.mend_in.Goals as goal
 
 pub walk-count-requires : goal.walk-count-requires

@@ -2,7 +2,6 @@
 use mathlib.Core.Path.{sym, ◌∙◌}
 use Rattle.chart.specs.ChartColumns.{list_columns}
 use Rattle.mend_scrolls.proofs.Outcomes.{refused_by_tests}
-use borrow.Author.Rules.{rules}
 use Rattle.mend_scrolls.proofs.mend_scrolls.Goals as goal
 
 pub returns-then-number-ne-TAKEN : goal.returns-then-number-ne-TAKEN

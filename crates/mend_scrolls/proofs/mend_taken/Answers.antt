@@ -4,7 +4,6 @@ use mathlib.Core.Path.{◌≡◌, sym}
 use lib.ListN.{length, take, replicate}
 use lib.Seq.{length-take-le}
 use Rattle.limits.proofs.ListTaken.{list-taken}
-use borrow.Author.Rules.{rules}
 use Rattle.mend_scrolls.proofs.mend_taken.Goals as goal
 use Rattle.mend_scrolls.proofs.mend_taken.Goals.{Start}
 

@@ -5,7 +5,6 @@ use lib.Ieee.{Float, nan}
 use lib.ListN.{get_or}
 use borrow.Author.Tests.{eq-eqb, ne_eqb}
 use Rattle.tidy_kept.specs.Near.{near_to}
-use borrow.Author.Rules.{rules}
 use Rattle.mend_scrolls.proofs.near_last.Goals as goal
 
 pub returns-then-count-eq0 : goal.returns-then-count-eq0

@@ -1,13 +1,9 @@
 -- `mend_scrolls::walk` meets its contract, place by place in the order of rows. Assumes nothing.
-use mathlib.Core.Path.{◌≡◌, refl, sym, ◌∙◌}
-use Prim.Native.Nat.{◌-◌}
+use mathlib.Core.Path.{refl, ◌∙◌}
 use native.Mathlib.Omega.{arith}
-use lib.ListN.{length}
 use lib.Ieee.{nan}
 use Rattle.tidy_kept.specs.Near.{near_to}
-use Rattle.tidy_rows_sort.specs.RowOrder.{places_by_row}
-use Rattle.mend_fates.proofs.BeatsWalked.{Walking, kept-long, work-sorted, walking_begins, as_many, walking_turns, walking_ends}
-use borrow.Author.Rules.{rules}
+use Rattle.mend_fates.proofs.BeatsWalked.{kept-long, work-sorted, walking_begins, as_many, walking_turns, walking_ends}
 use Rattle.mend_scrolls.proofs.walk.Goals as goal
 use Rattle.mend_scrolls.proofs.walk.Goals.{At-loop-i, Start}
 
@@ -34,12 +30,6 @@ loop-i-preserved c =
       kept-long asked.fate_at-fate.result at.loop-i.count _ at.loop-i.kept left.kept_after ∙ at.loop-i.invariant.0,
       walking_turns nan near_to beats begin.args.values.now begin.requires.beats_len few sorted at.loop-i.invariant.1 (omega (arith, asked.loop-i-test.true, more)) asked.fate_at-fate.ensures left.fates_after left.kept_after left.value,
     )
-
-pub shape_of-fates : goal.shape_of-fates
-shape_of-fates c = c.loop-i.invariant.1.fates_long
-
-pub shape_of-kept : goal.shape_of-kept
-shape_of-kept c = c.loop-i.invariant.0
 
 pub returns : goal.returns
 returns c =
