@@ -61,8 +61,7 @@ pub fn put_pairs(
     ensures { Wrote (pair_lines word.now (take count beats.now) (take count values.now)) at result page.old page.new }
 {
     let mut place = at;
-    let mut i = 0;
-    while i < count {
+    for i in 0..count {
         if i >= beats.len() {
             return place;
         }
@@ -70,7 +69,6 @@ pub fn put_pairs(
             return place;
         }
         place = put_pair(page, place, word, beats[i], values[i]);
-        i += 1;
     }
     place
 }
@@ -100,8 +98,7 @@ pub fn put_speeds(
         at result page.old page.new }
 {
     let mut place = at;
-    let mut i = 0;
-    while i < count {
+    for i in 0..count {
         if i >= beats.len() {
             return place;
         }
@@ -115,7 +112,6 @@ pub fn put_speeds(
             return place;
         }
         place = put_speed(page, place, beats[i], ratios[i], delays[i], units[i]);
-        i += 1;
     }
     place
 }
@@ -142,8 +138,7 @@ pub fn put_warps(
     ensures { Wrote (warp_lines (take count beats.now) (take count lengths.now) (take count marks.now)) at result page.old page.new }
 {
     let mut place = at;
-    let mut i = 0;
-    while i < count {
+    for i in 0..count {
         if i >= beats.len() {
             return place;
         }
@@ -154,7 +149,6 @@ pub fn put_warps(
             return place;
         }
         place = put_warp(page, place, beats[i], lengths[i], marks[i]);
-        i += 1;
     }
     place
 }

@@ -1,6 +1,5 @@
 -- `report_text::put_number` meets its contract, by the digits of the pattern. Assumes nothing.
 use Rattle.text_page.proofs.Joined.{wrote-join}
-use borrow.Author.Rules.{rules}
 use Rattle.report_text.proofs.put_number.Goals as goal
 
 pub returns : goal.returns

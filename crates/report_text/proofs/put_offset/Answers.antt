@@ -1,7 +1,6 @@
 -- `report_text::put_offset` meets its contract, piece by piece. Assumes nothing.
 use Rattle.text_page.proofs.Joined.{wrote-join}
 use Rattle.report_text.specs.Output.{offset_line}
-use borrow.Author.Rules.{rules}
 use Rattle.report_text.proofs.put_offset.Goals as goal
 
 pub returns : goal.returns

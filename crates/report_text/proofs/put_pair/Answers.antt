@@ -1,7 +1,6 @@
 -- `report_text::put_pair` meets its contract, piece by piece. Assumes nothing.
 use Rattle.text_page.proofs.Joined.{wrote-join, wrote_after}
 use Rattle.report_text.specs.Output.{number, pair_line}
-use borrow.Author.Rules.{rules}
 use Rattle.report_text.proofs.put_pair.Goals as goal
 
 pub returns : goal.returns

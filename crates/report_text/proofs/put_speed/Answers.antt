@@ -1,7 +1,6 @@
 -- `report_text::put_speed` meets its contract, piece by piece. Assumes nothing.
 use Rattle.text_page.proofs.Joined.{wrote-join, wrote_after}
 use Rattle.report_text.specs.Output.{number, speed_line}
-use borrow.Author.Rules.{rules}
 use Rattle.report_text.proofs.put_speed.Goals as goal
 
 pub returns : goal.returns

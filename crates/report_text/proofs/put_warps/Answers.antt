@@ -1,52 +1,28 @@
 -- `report_text::put_warps` meets its contract: a turn is a line. Assumes nothing.
-use Prim.Native.Nat.{◌≤◌, ◌-◌}
-use native.Mathlib.Omega.{arith}
-use lib.ListN.{length, take, drop}
-use Rattle.report_text.specs.Output.{warp_lines}
-use Rattle.text_page.proofs.Joined.{Left, left-start}
 use Rattle.report_text.proofs.Turns.{warps-turn, warps-all, warps-end, warps_no_size, warps_no_mark}
-use borrow.Author.Rules.{rules}
 use Rattle.report_text.proofs.put_warps.Goals as goal
-
-pub loop-i-init : goal.loop-i-init
-loop-i-init c = (search rules, left-start _ _ _)
-
-pub shape_of-page-then-i-beats : goal.shape_of-page-then-i-beats
-shape_of-page-then-i-beats c = c.loop-i.invariant.1.size
 
 pub returns-then-i-beats : goal.returns-then-i-beats
 returns-then-i-beats c =
     let given = c.args in
-    warps-end given.count given.beats.now given.lengths.now given.marks.now c.loop-i.i c.loop-i.invariant.1 c.if-i-beats.true
-
-pub shape_of-page-then-i-lengths : goal.shape_of-page-then-i-lengths
-shape_of-page-then-i-lengths c = c.loop-i.invariant.1.size
+    warps-end given.count given.beats.now given.lengths.now given.marks.now c.loop-i.i c.loop-i.invariant c.if-i-beats.true
 
 pub returns-then-i-lengths : goal.returns-then-i-lengths
 returns-then-i-lengths c =
     let given = c.args in
-    warps_no_size given.count given.beats.now given.lengths.now given.marks.now c.loop-i.i c.loop-i.invariant.1 c.if-i-lengths.true
-
-pub shape_of-page-then-i-marks : goal.shape_of-page-then-i-marks
-shape_of-page-then-i-marks c = c.loop-i.invariant.1.size
+    warps_no_size given.count given.beats.now given.lengths.now given.marks.now c.loop-i.i c.loop-i.invariant c.if-i-lengths.true
 
 pub returns-then-i-marks : goal.returns-then-i-marks
 returns-then-i-marks c =
     let given = c.args in
-    warps_no_mark given.count given.beats.now given.lengths.now given.marks.now c.loop-i.i c.loop-i.invariant.1 c.if-i-marks.true
-
-pub loop-i-smaller : goal.loop-i-smaller
-loop-i-smaller c = omega arith
+    warps_no_mark given.count given.beats.now given.lengths.now given.marks.now c.loop-i.i c.loop-i.invariant c.if-i-marks.true
 
 pub loop-i-preserved : goal.loop-i-preserved
 loop-i-preserved c =
     let given = c.args in
-    (omega arith, warps-turn given.count given.beats.now given.lengths.now given.marks.now c.loop-i.i c.loop-i-test.true c.if-i-beats.false c.if-i-lengths.false c.if-i-marks.false c.loop-i.invariant.1 c.put_warp-place.ensures)
-
-pub shape_of-page : goal.shape_of-page
-shape_of-page c = c.loop-i.invariant.1.size
+    warps-turn given.count given.beats.now given.lengths.now given.marks.now c.loop-i.i c.loop-i-test.true c.if-i-beats.false c.if-i-lengths.false c.if-i-marks.false c.loop-i.invariant c.put_warp-place.ensures
 
 pub returns : goal.returns
 returns c =
     let given = c.args in
-    warps-all given.count given.beats.now given.lengths.now given.marks.now c.loop-i.i c.loop-i.invariant.1 c.loop-i-test.false
+    warps-all given.count given.beats.now given.lengths.now given.marks.now c.loop-i.i c.loop-i.invariant c.loop-i-test.false
