@@ -78,19 +78,16 @@ fn one_if(different: bool) -> u64
 
 // Every whole line of the text; what is left over counts as one line more, which differs.
 fn replay(text: &[u8]) -> Tally {
-    let mut replayed: u64 = 0;
+    let (lines, rest) = text.as_chunks::<LINE>();
     let mut different: u64 = 0;
-    let mut at = 0;
-    while text.len() - at >= LINE {
-        let bits = ieee_patterns::hex_word(text, at + 2);
-        let stored = ieee_patterns::hex_word(text, at + 19);
-        different += one_if(!same(text[at], bits, stored));
-        replayed += 1;
-        at += LINE;
+    for line in lines {
+        let bits = ieee_patterns::hex_word(line, 2);
+        let stored = ieee_patterns::hex_word(line, 19);
+        different += one_if(!same(line[0], bits, stored));
     }
     Tally {
-        replayed: replayed,
-        different: different + one_if(at < text.len()),
+        replayed: lines.len() as u64,
+        different: different + one_if(!rest.is_empty()),
     }
 }
 

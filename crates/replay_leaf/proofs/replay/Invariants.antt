@@ -1,9 +1,6 @@
--- `replay_leaf::replay` reads within the text, counts without overflow and ends. Assumes nothing.
-use Rattle.std.proofs.Common.{◌≤◌, ◌-◌, length}
+-- `replay_leaf::replay` counts without overflow. Assumes nothing.
+use Rattle.std.proofs.Common.{◌≤◌}
 use Rattle.replay_leaf.proofs.replay.Given as goal
 
-abbrev pub invariant-loop-at : goal.invariant-loop-at
-invariant-loop-at l = (l.at ≤ length l.text) × (l.replayed ≤ l.at) × (l.different ≤ l.replayed)
-
-abbrev pub decreases-loop-at : goal.decreases-loop-at
-decreases-loop-at l = length l.text - l.at
+abbrev pub invariant-loop-line : goal.invariant-loop-line
+invariant-loop-line l = l.different ≤ l.line-index
