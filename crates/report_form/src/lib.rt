@@ -415,12 +415,10 @@ pub fn is_whole(reading: Reading) -> bool
 fn is_over(counts: &[u64]) -> bool
     ensures { result ≡ over counts.now }
 {
-    let mut i = 0;
-    while i < counts.len() {
-        if counts[i] > MOST_COUNTED {
+    for &count in counts {
+        if count > MOST_COUNTED {
             return true;
         }
-        i += 1;
     }
     false
 }

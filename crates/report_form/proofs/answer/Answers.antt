@@ -1,5 +1,4 @@
 -- `report_form::answer` meets its contract, test by test. Assumes nothing.
-use borrow.Author.Rules.{rules}
 use Rattle.picks.proofs.Rules.{flags}
 use Rattle.report_form.specs.Form.{answer_of}
 use Rattle.report_form.proofs.answer.Goals as goal

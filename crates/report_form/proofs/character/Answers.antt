@@ -1,5 +1,4 @@
 -- `report_form::character` meets its contract, test by test. Assumes nothing.
-use borrow.Author.Rules.{rules}
 use Rattle.picks.proofs.Rules.{picks}
 use Rattle.report_form.specs.Form.{character_of}
 use Rattle.report_form.proofs.character.Goals as goal

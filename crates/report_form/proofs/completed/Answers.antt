@@ -1,5 +1,4 @@
 -- `report_form::completed` meets its contract, test by test. Assumes nothing.
-use borrow.Author.Rules.{rules}
 use Rattle.picks.proofs.Rules.{flags}
 use Rattle.report_form.specs.Stores.{store_of}
 use Rattle.report_form.proofs.completed.Goals as goal

@@ -1,5 +1,4 @@
 -- `report_form::format` meets its contract, test by test. Assumes nothing.
-use borrow.Author.Rules.{rules}
 use Rattle.picks.proofs.Rules.{picks}
 use Rattle.report_form.specs.Form.{format_ended}
 use Rattle.report_form.proofs.format.Goals as goal

@@ -1,5 +1,4 @@
 -- `report_form::is_whole` meets its contract, test by test. Assumes nothing.
-use borrow.Author.Rules.{rules}
 use Rattle.picks.proofs.Rules.{flags}
 use Rattle.report_form.specs.Form.{whole}
 use Rattle.report_form.proofs.is_whole.Goals as goal

@@ -1,5 +1,4 @@
 -- `report_form::last_digits` meets its contract, test by test. Assumes nothing.
-use borrow.Author.Rules.{rules}
 use Rattle.picks.proofs.Rules.{picks}
 use Rattle.report_form.specs.Form.{last_digits_of}
 use Rattle.report_form.proofs.last_digits.Goals as goal

@@ -1,5 +1,4 @@
 -- `report_form::list_of` meets its contract, test by test. Assumes nothing.
-use borrow.Author.Rules.{rules}
 use Rattle.picks.proofs.Rules.{picks}
 use Rattle.report_form.specs.Form.{list_named}
 use Rattle.report_form.proofs.list_of.Goals as goal

@@ -1,5 +1,4 @@
 -- `report_form::may_follow` meets its contract, test by test. Assumes nothing.
-use borrow.Author.Rules.{rules}
 use Rattle.picks.proofs.Rules.{picks}
 use Rattle.report_form.specs.Form.{follows}
 use Rattle.report_form.proofs.may_follow.Goals as goal

@@ -1,5 +1,4 @@
 -- `report_form::one_more` meets its contract, test by test. Assumes nothing.
-use borrow.Author.Rules.{rules}
 use Rattle.picks.proofs.Rules.{picks}
 use Rattle.report_form.specs.Form.{more}
 use Rattle.report_form.proofs.one_more.Goals as goal

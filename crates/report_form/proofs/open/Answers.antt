@@ -1,5 +1,4 @@
 -- `report_form::open` meets its contract, test by test. Assumes nothing.
-use borrow.Author.Rules.{rules}
 use Rattle.picks.proofs.Rules.{picks}
 use Rattle.report_form.specs.Form.{opened}
 use Rattle.report_form.proofs.open.Goals as goal

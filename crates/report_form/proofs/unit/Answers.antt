@@ -1,5 +1,4 @@
 -- `report_form::unit` meets its contract, test by test. Assumes nothing.
-use borrow.Author.Rules.{rules}
 use Rattle.picks.proofs.Rules.{picks}
 use Rattle.report_form.specs.Form.{unit_read}
 use Rattle.report_form.proofs.unit.Goals as goal
