@@ -154,9 +154,7 @@ pub fn feed(
     ensures fake_lengths_after { fake_lengths.new ≡ column_after (number_in 8 2) begun chunk.now fake_lengths.old }
 {
     let mut reading = begun;
-    let mut i = 0;
-    while i < chunk.len() {
-        let byte = chunk[i];
+    for &byte in chunk {
         let next = report_form::step(reading, byte);
         let store = report_form::completed(reading, byte, next);
         put(
@@ -180,7 +178,6 @@ pub fn feed(
             fake_lengths,
         );
         reading = next;
-        i += 1;
     }
     reading
 }

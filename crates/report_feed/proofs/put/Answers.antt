@@ -2,7 +2,6 @@
 use mathlib.Core.Path.{refl}
 use lib.Ieee.{of_bits, binary64}
 use Prim.Native.Nat.{ℕ, ◌%◌}
-use borrow.Author.Rules.{rules}
 use Rattle.report_feed.proofs.Turns.{placed-none, count_none}
 use Rattle.report_feed.proofs.put.Goals as goal
 

@@ -1,5 +1,4 @@
 -- `report_feed::put_number` meets its contract, test by test. Assumes nothing.
-use borrow.Author.Rules.{rules}
 use Rattle.picks.proofs.Rules.{picks}
 use Rattle.report_form.specs.Stores.{stored_in}
 use Rattle.report_feed.proofs.Turns.{past}
