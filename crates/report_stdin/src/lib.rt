@@ -76,7 +76,7 @@ fn less(left: usize, count: usize) -> usize {
 }
 
 // All of standard input, or as many bytes of it as `most`, fed from the first on, and a byte that no form has where a read failed. A proved loop
-// has to end, and nothing says that the input does: the turns are counted down from a number that no run uses up.
+// has to end, and nothing says that the input does: the loop has more turns than any run uses up.
 pub fn read_all(
     rt: &HostRuntime,
     counts: &mut [u64],
@@ -111,8 +111,7 @@ pub fn read_all(
 {
     let mut reading = report_form::begin();
     let mut left = most;
-    let mut turns = u64::MAX;
-    while turns > 0 {
+    for _ in 0..u64::MAX {
         let mut piece = [0u8; PIECE];
         let got = read_piece(rt, &mut piece, left);
         let count = io::count(got, &piece);
@@ -143,7 +142,6 @@ pub fn read_all(
             return reading;
         }
         left = less(left, count);
-        turns -= 1;
     }
     cut_short(rt, reading)
 }

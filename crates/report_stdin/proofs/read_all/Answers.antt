@@ -5,13 +5,13 @@ use Rattle.report_stdin.proofs.Pieces.{fed_none, fed_zero, fed_join, fed_answere
 use Rattle.report_stdin.proofs.read_all.Goals as goal
 use Rattle.report_stdin.proofs.read_all.Goals.{After-answered-after}
 
-pub loop-turns-init : goal.loop-turns-init
-loop-turns-init c = fed_none c.begin-reading.ensures
+pub loop-init : goal.loop-init
+loop-init c = fed_none c.begin-reading.ensures
 
 -- the columns as a turn finds them, and as the piece leaves them
 piece-fed : (c : After-answered-after) →
-    Fed c.loop-turns.reading c.answered-after.result.reading c.loop-turns.counts c.feed-fed.new.counts
-    (chart_columns (list_columns c.loop-turns.tempo_beats c.loop-turns.tempo_values) (list_columns c.loop-turns.stop_beats c.loop-turns.stop_values) (list_columns c.loop-turns.delay_beats c.loop-turns.delay_values) (list_columns c.loop-turns.warp_beats c.loop-turns.warp_lengths) (speed_columns c.loop-turns.speed_beats c.loop-turns.speed_ratios c.loop-turns.speed_delays c.loop-turns.speed_units) (list_columns c.loop-turns.scroll_beats c.loop-turns.scroll_values) (list_columns c.loop-turns.fake_beats c.loop-turns.fake_lengths))
+    Fed c.loop.reading c.answered-after.result.reading c.loop.counts c.feed-fed.new.counts
+    (chart_columns (list_columns c.loop.tempo_beats c.loop.tempo_values) (list_columns c.loop.stop_beats c.loop.stop_values) (list_columns c.loop.delay_beats c.loop.delay_values) (list_columns c.loop.warp_beats c.loop.warp_lengths) (speed_columns c.loop.speed_beats c.loop.speed_ratios c.loop.speed_delays c.loop.speed_units) (list_columns c.loop.scroll_beats c.loop.scroll_values) (list_columns c.loop.fake_beats c.loop.fake_lengths))
     (chart_columns (list_columns c.feed-fed.new.tempo_beats c.feed-fed.new.tempo_values) (list_columns c.feed-fed.new.stop_beats c.feed-fed.new.stop_values) (list_columns c.feed-fed.new.delay_beats c.feed-fed.new.delay_values) (list_columns c.feed-fed.new.warp_beats c.feed-fed.new.warp_lengths) (speed_columns c.feed-fed.new.speed_beats c.feed-fed.new.speed_ratios c.feed-fed.new.speed_delays c.feed-fed.new.speed_units) (list_columns c.feed-fed.new.scroll_beats c.feed-fed.new.scroll_values) (list_columns c.feed-fed.new.fake_beats c.feed-fed.new.fake_lengths))
 piece-fed c =
     let fed = c.feed-fed.ensures in
@@ -40,10 +40,10 @@ piece-fed c =
     c.answered-after.ensures.reading_value
 
 pub returns-then-not-after : goal.returns-then-not-after
-returns-then-not-after c = fed_join c.loop-turns.invariant (piece-fed (goal.at.returns-then-not-after c).After-answered-after)
+returns-then-not-after c = fed_join c.loop.invariant (piece-fed (goal.at.returns-then-not-after c).After-answered-after)
 
-pub loop-turns-preserved : goal.loop-turns-preserved
-loop-turns-preserved c = fed_join c.loop-turns.invariant (piece-fed (goal.at.loop-turns-preserved c).After-answered-after)
+pub loop-preserved : goal.loop-preserved
+loop-preserved c = fed_join c.loop.invariant (piece-fed (goal.at.loop-preserved c).After-answered-after)
 
 pub returns : goal.returns
-returns c = fed_join c.loop-turns.invariant (fed_zero c.cut_short.ensures.value)
+returns c = fed_join c.loop.invariant (fed_zero c.cut_short.ensures.value)
