@@ -1,5 +1,5 @@
 -- How long an answer is: a page can be made large enough. Assumes nothing.
-use Prim.Native.Nat.{ℕ, suc, ◌+◌, ◌*◌, ◌≤◌, ◌%◌}
+use Prim.Native.Nat.{ℕ, suc, ◌*◌, ◌≤◌}
 use mathlib.Core.Path.{◌≡◌, refl}
 use mathlib.Core.Bool.{Bool, true, false}
 use mathlib.Core.List.{List, [], ◌∷◌, ◌++◌, map}
@@ -10,7 +10,6 @@ use lib.Ieee.{Float, to_bits, binary64}
 use Rattle.picks.specs.Pick.{pick}
 use Rattle.ieee_patterns.specs.Hex.{hex_text}
 use Rattle.chart.specs.ChartColumns.{ListColumns, SpeedColumns}
-use Rattle.text_page.specs.Digits.{decimal_text}
 use Rattle.text_page.proofs.DigitSizes.{decimal_size}
 use Rattle.tidy_kept.specs.Near.{near_to}
 use Rattle.tidy_kept.proofs.ShortestColumn.{many-entries}
@@ -18,7 +17,6 @@ use Rattle.tidy_speeds_entries.specs.Speed.{SpeedEntry, near_speed, speeds_in}
 use Rattle.tidy_speeds_entries.specs.LaidSpeeds.{ratio_of, delay_of}
 use Rattle.tidy_speeds_entries.proofs.SpeedColumns.{many-speeds}
 use Rattle.report_form.specs.Text.{Entry, entry_line, entry_lines}
-use Rattle.report_text.specs.Output.{answer_line}
 use Rattle.report_text.proofs.TextSizes.{answer-size}
 use Rattle.mend_scrolls.specs.MendedScrolls.{scroll_entries, mended_scrolls, scroll_fates}
 use Rattle.mend_speeds.specs.MendedSpeeds.{mended_speeds, speed_fates}

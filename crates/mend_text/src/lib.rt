@@ -78,10 +78,8 @@ fn put_scrolls(page: &mut [u8], at: usize, beats: &[f64], values: &[f64]) -> usi
 {
     let n = columns::room_of(beats.len(), values.len());
     let mut place = at;
-    let mut i = 0;
-    while i < n {
+    for i in 0..n {
         place = put_scroll(page, place, beats[i], values[i]);
-        i += 1;
     }
     place
 }
@@ -99,10 +97,8 @@ fn put_speeds(
 {
     let n = tidy_speeds_entries::least_of(beats.len(), ratios.len(), delays.len(), units.len());
     let mut place = at;
-    let mut i = 0;
-    while i < n {
+    for i in 0..n {
         place = put_speed(page, place, beats[i], ratios[i], delays[i], units[i]);
-        i += 1;
     }
     place
 }
@@ -111,10 +107,8 @@ fn put_fates(page: &mut [u8], at: usize, fates: &[u8]) -> usize
     ensures { Wrote (fate_lines 0 fates.now) at result page.old page.new }
 {
     let mut place = at;
-    let mut i = 0;
-    while i < fates.len() {
-        place = put_fate(page, place, i, fates[i]);
-        i += 1;
+    for (i, &fate) in fates.iter().enumerate() {
+        place = put_fate(page, place, i, fate);
     }
     place
 }

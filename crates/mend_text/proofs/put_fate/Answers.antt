@@ -1,7 +1,6 @@
 -- `mend_text::put_fate` meets its contract, piece by piece. Assumes nothing.
 use Rattle.text_page.proofs.Joined.{wrote-join}
 use Rattle.mend_text.specs.MendedText.{fate_line}
-use borrow.Author.Rules.{rules}
 use Rattle.mend_text.proofs.put_fate.Goals as goal
 
 pub returns : goal.returns

@@ -10,7 +10,6 @@ use Rattle.mend_text.specs.MendedText.{form_scroll, fate_lines}
 use Rattle.ieee.specs.Constants.{plus_zero}
 use Rattle.text_page.proofs.Joined.{wrote-join, wrote_as}
 use Rattle.mend_text.proofs.FrontsMended.{scrolls-front, scroll_fates_front}
-use borrow.Author.Rules.{rules}
 use Rattle.mend_text.proofs.put_mended_scrolls.Goals as goal
 
 pub returns : goal.returns

@@ -3,13 +3,12 @@ use Prim.Native.Nat.{ℕ}
 use mathlib.Core.Path.{◌≡◌, refl, ap, ◌∙◌}
 use mathlib.Core.List.{List, map}
 use lib.ListN.{length-replicate}
-use Rattle.tidy_speeds_entries.specs.Speed.{SpeedEntry, speed_entries}
+use Rattle.tidy_speeds_entries.specs.Speed.{SpeedEntry}
 use Rattle.tidy_speeds_entries.specs.LaidSpeeds.{least_of}
 use Rattle.report_form.specs.Text.{entry_lines}
 use Rattle.text_page.proofs.Joined.{wrote-join, wrote_as}
 use Rattle.mend_text.specs.MendedText.{form_speed, fate_lines}
 use Rattle.mend_text.proofs.FrontsMended.{same-speeds, speeds-front, speed_fates_front}
-use borrow.Author.Rules.{rules}
 use Rattle.mend_text.proofs.put_mended_speeds.Goals as goal
 
 pub returns : goal.returns

@@ -5,7 +5,6 @@ use mathlib.Core.List.{List, ◌++◌}
 use Rattle.ieee_patterns.specs.Hex.{hex_text}
 use Rattle.text_page.proofs.Joined.{wrote-join, wrote_as}
 use Rattle.mend_text.proofs.HexHalves.{hex_halves}
-use borrow.Author.Rules.{rules}
 use Rattle.mend_text.proofs.put_number.Goals as goal
 
 pub returns : goal.returns

@@ -2,7 +2,6 @@
 use mathlib.Core.List.{append_assoc}
 use Rattle.report_form.specs.Text.{entry_line}
 use Rattle.text_page.proofs.Joined.{wrote-join, wrote_as}
-use borrow.Author.Rules.{rules}
 use Rattle.mend_text.proofs.put_scroll.Goals as goal
 
 pub returns : goal.returns

@@ -1,6 +1,5 @@
 -- `mend_text::put_word` meets its contract, word by word. Assumes nothing.
 use borrow.Author.Tests.{eq-eqb, ne_eqb}
-use borrow.Author.Rules.{rules}
 use Rattle.mend_text.proofs.put_word.Goals as goal
 
 pub returns-then-fate-eq-KEPT : goal.returns-then-fate-eq-KEPT

@@ -5,7 +5,6 @@ use Rattle.text_page.proofs.Joined.{wrote-join, wrote_as}
 use Rattle.report_answer.proofs.Inside.{wrote-counts}
 use Rattle.mend_text.specs.MendedText.{mend_number}
 use Rattle.mend_text.proofs.ByNumber.{lower-is, refused-only, taken-lists, both-taken}
-use borrow.Author.Rules.{rules}
 use Rattle.mend_text.proofs.write_lists.Goals as goal
 use Rattle.mend_text.proofs.write_lists.Goals.{After-lower_of-number, Start}
 

@@ -3,7 +3,6 @@ use mathlib.Core.Path.{sym, ◌∙◌}
 use Rattle.text_page.proofs.Joined.{wrote_as}
 use Rattle.chart.specs.ChartColumns.{list_columns, speed_columns}
 use Rattle.mend_text.proofs.ReadText.{few-counted, counted-few, fronts-are, refused-told, taken-told}
-use borrow.Author.Rules.{rules}
 use Rattle.mend_text.proofs.write_mended.Goals as goal
 
 pub returns-then-number-ne-TAKEN : goal.returns-then-number-ne-TAKEN
