@@ -119,34 +119,26 @@ fn is_yes(yes: bool, word: u64) -> bool {
 
 // All words as numbers of each kind that a column has.
 fn read_f64s(words: &[u64], to: &mut [f64]) {
-    let mut i = 0;
-    while i < to.len() {
-        to[i] = ieee_patterns::f64_of_bits(word_at(words, i));
-        i += 1;
+    for (i, number) in to.iter_mut().enumerate() {
+        *number = ieee_patterns::f64_of_bits(word_at(words, i));
     }
 }
 
 fn read_f32s(words: &[u64], to: &mut [f32]) {
-    let mut i = 0;
-    while i < to.len() {
-        to[i] = f32_of_word(word_at(words, i));
-        i += 1;
+    for (i, number) in to.iter_mut().enumerate() {
+        *number = f32_of_word(word_at(words, i));
     }
 }
 
 fn read_rows(words: &[u64], to: &mut [i32]) {
-    let mut i = 0;
-    while i < to.len() {
-        to[i] = row_of_word(word_at(words, i));
-        i += 1;
+    for (i, row) in to.iter_mut().enumerate() {
+        *row = row_of_word(word_at(words, i));
     }
 }
 
 fn read_bytes(words: &[u64], to: &mut [u8]) {
-    let mut i = 0;
-    while i < to.len() {
-        to[i] = (word_at(words, i) % 256) as u8;
-        i += 1;
+    for (i, byte) in to.iter_mut().enumerate() {
+        *byte = (word_at(words, i) % 256) as u8;
     }
 }
 
@@ -213,11 +205,9 @@ fn entry_or(words: &[u64], column: usize, size: usize, i: usize, untouched: u64)
 fn same_f64s(words: &[u64], column: usize, found: &[f64]) -> bool {
     let size = size_at(words, column);
     let mut same = true;
-    let mut i = 0;
-    while i < found.len() {
+    for (i, &number) in found.iter().enumerate() {
         let stored = entry_or(words, column, size, i, 0x3FF8_0000_0000_0000);
-        same = both(same, is_f64(found[i], stored));
-        i += 1;
+        same = both(same, is_f64(number, stored));
     }
     same
 }
@@ -225,11 +215,9 @@ fn same_f64s(words: &[u64], column: usize, found: &[f64]) -> bool {
 fn same_f32s(words: &[u64], column: usize, found: &[f32]) -> bool {
     let size = size_at(words, column);
     let mut same = true;
-    let mut i = 0;
-    while i < found.len() {
+    for (i, &number) in found.iter().enumerate() {
         let stored = entry_or(words, column, size, i, 0x3FC0_0000);
-        same = both(same, ieee_patterns::bits_of_f32(found[i]) as u64 == stored);
-        i += 1;
+        same = both(same, ieee_patterns::bits_of_f32(number) as u64 == stored);
     }
     same
 }
@@ -237,11 +225,9 @@ fn same_f32s(words: &[u64], column: usize, found: &[f32]) -> bool {
 fn same_rows(words: &[u64], column: usize, found: &[i32]) -> bool {
     let size = size_at(words, column);
     let mut same = true;
-    let mut i = 0;
-    while i < found.len() {
+    for (i, &row) in found.iter().enumerate() {
         let stored = entry_or(words, column, size, i, 77);
-        same = both(same, is_row(found[i], stored));
-        i += 1;
+        same = both(same, is_row(row, stored));
     }
     same
 }
@@ -249,11 +235,9 @@ fn same_rows(words: &[u64], column: usize, found: &[i32]) -> bool {
 fn same_bytes(words: &[u64], column: usize, found: &[u8]) -> bool {
     let size = size_at(words, column);
     let mut same = true;
-    let mut i = 0;
-    while i < found.len() {
+    for (i, &byte) in found.iter().enumerate() {
         let stored = entry_or(words, column, size, i, 77);
-        same = both(same, is_byte(found[i], stored));
-        i += 1;
+        same = both(same, is_byte(byte, stored));
     }
     same
 }
@@ -261,11 +245,9 @@ fn same_bytes(words: &[u64], column: usize, found: &[u8]) -> bool {
 fn same_u32s(words: &[u64], column: usize, found: &[u32]) -> bool {
     let size = size_at(words, column);
     let mut same = true;
-    let mut i = 0;
-    while i < found.len() {
+    for (i, &number) in found.iter().enumerate() {
         let stored = entry_or(words, column, size, i, 77);
-        same = both(same, is_u32(found[i], stored));
-        i += 1;
+        same = both(same, is_u32(number, stored));
     }
     same
 }
@@ -273,11 +255,9 @@ fn same_u32s(words: &[u64], column: usize, found: &[u32]) -> bool {
 fn same_counts(words: &[u64], column: usize, found: &[usize]) -> bool {
     let size = size_at(words, column);
     let mut same = true;
-    let mut i = 0;
-    while i < found.len() {
+    for (i, &count) in found.iter().enumerate() {
         let stored = entry_or(words, column, size, i, 77);
-        same = both(same, found[i] as u64 == stored);
-        i += 1;
+        same = both(same, count as u64 == stored);
     }
     same
 }
@@ -1235,8 +1215,7 @@ fn same_positions(
     asked: &[f64],
 ) -> bool {
     let mut same = true;
-    let mut i = 0;
-    while i < asked.len() {
+    for (i, &beat) in asked.iter().enumerate() {
         let one = same_position(
             words,
             numbers_at,
@@ -1246,10 +1225,9 @@ fn same_positions(
             scroll_ratios,
             prefix,
             number,
-            asked[i],
+            beat,
         );
         same = both(same, one);
-        i += 1;
     }
     same
 }
@@ -1480,12 +1458,10 @@ fn count_different(
     let cases = case_count(words);
     let mut different: u64 = 0;
     let mut at: usize = 1;
-    let mut i: u64 = 0;
-    while i < cases {
+    for _ in 0..cases {
         let replayed = replay_case(words, numbers, floats, rows, bytes, at);
         at = replayed.next;
         different += one_if(!replayed.same);
-        i += 1;
     }
     different + one_if(at != read)
 }
@@ -1494,17 +1470,11 @@ fn count_different(
 fn read_words(text: &[u8], words: &mut [u64]) -> usize
     ensures { result ≤ length words.old }
 {
-    let mut i = 0;
-    let mut at = 0;
-    while i < words.len() {
-        if text.len() - at < LINE {
-            return i;
-        }
-        words[i] = ieee_patterns::hex_word(text, at);
-        at += LINE;
-        i += 1;
+    let count = words.len().min(text.len() / LINE);
+    for (i, word) in words[..count].iter_mut().enumerate() {
+        *word = ieee_patterns::hex_word(text, i * LINE);
     }
-    i
+    count
 }
 
 // Reads standard input until the bytes are full, the input ends or a read fails; how many were put at their start.
