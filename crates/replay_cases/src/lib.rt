@@ -135,23 +135,18 @@ fn replay(rt: &HostRuntime, program: Program, sizes: Sizes, first: bool) -> std:
 pub fn replay_all(rt: &HostRuntime, program: Program) -> std::io::Result<Tally>
     ensures { IfOk result (λ tally. Replayed tally.answers tally.different) }
 {
-    let mut answers: u64 = 0;
     let mut different: u64 = 0;
-    while answers < MOST {
+    for answers in 0..MOST {
         let sizes = read_sizes(rt);
         if !sizes.there {
-            return Ok(Tally {
-                answers: answers,
-                different: different,
-            });
+            return Ok(Tally { answers, different });
         }
         if !replay(rt, program, sizes, different == 0)? {
             different += 1;
         }
-        answers += 1;
     }
     Ok(Tally {
-        answers: answers,
-        different: different,
+        answers: MOST,
+        different,
     })
 }

@@ -1,6 +1,6 @@
 -- One turn of the loop over the bytes: what holds of the state, and of each column; and what a store of nothing leaves alone. Assumes nothing.
 use Prim.Native.Nat.{ℕ, ◌+◌, ◌≤◌, ◌<◌}
-use mathlib.Core.Path.{◌≡◌, refl, sym, ◌∙◌}
+use mathlib.Core.Path.{◌≡◌, sym, ◌∙◌}
 use mathlib.Core.Bool.{false}
 use mathlib.Core.List.{List}
 use native.Mathlib.Numerals.{add-one}
@@ -31,9 +31,6 @@ unfolding read_on
 read-end chunk begun reading i h r = rw (drop_of_length-le chunk h) at r
 
 module _ {A : Type 0} (change : Store → List A → List A) (chunk : List ℕ) (begun : Reading) (old : List A) where
-  pub column-start : Column change chunk begun old begun old 0
-  column-start = record { size = refl; same = refl }
-
   pub column-turn : (reading next : Reading) (store : Store) (l m : List A) (i : ℕ) → i < length chunk → next ≡ step_of reading (get_or chunk i 0) → store ≡ store_of reading (get_or chunk i 0) next
       → m ≡ change store l → length m ≡ length l → Column change chunk begun old reading l i → Column change chunk begun old next m (i + 1)
   unfolding column_after

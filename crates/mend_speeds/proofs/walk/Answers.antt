@@ -42,12 +42,6 @@ loop-i-preserved c =
       walking_turns no_speed near_speed beats (values begin) (even begin) few sorted at.loop-i.invariant.1 (omega (arith, asked.loop-i-test.true, more)) asked.fate_at-fate.ensures left.fates_after left.kept_after left.value,
     )
 
-pub shape_of-fates : goal.shape_of-fates
-shape_of-fates c = c.loop-i.invariant.1.fates_long
-
-pub shape_of-kept : goal.shape_of-kept
-shape_of-kept c = c.loop-i.invariant.0
-
 pub returns : goal.returns
 returns c =
     let at = c in

@@ -6,14 +6,11 @@ use lib.ListN.{length, get_or}
 use lib.Ieee.{Float, nan}
 use Rattle.order.specs.Entries.{entries}
 use Rattle.tidy_kept.proofs.ShortestColumn.{many-entries, entry_at}
-use Rattle.text_page.proofs.Joined.{left-start, wrote_as}
+use Rattle.text_page.proofs.Joined.{wrote_as}
 use Rattle.report_form.specs.Text.{entry_line}
 use Rattle.mend_text.specs.MendedText.{form_scroll}
 use Rattle.mend_text.proofs.LinesLeft.{entries-turn, entries-end}
 use Rattle.mend_text.proofs.put_scrolls.Goals as goal
-
-pub loop-i-init : goal.loop-i-init
-loop-i-init c = left-start _ _ _
 
 pub loop-i-preserved : goal.loop-i-preserved
 loop-i-preserved c =
@@ -27,9 +24,6 @@ loop-i-preserved c =
     let within : i < min (length beats) (length values) = omega (arith, at.room_of-n.ensures) in
     let here : get_or (entries beats values) i (nan, nan) ≡ (get_or beats i nan, get_or values i nan) = entry_at beats values i nan nan (omega arith) (omega arith) in
     entries-turn form_scroll (entries beats values) i at.loop-i.invariant (nan, nan) (omega (arith, many-entries beats values)) (wrote_as (ap (λ (e : Float × Float). entry_line (form_scroll e)) (sym here)) put.put_scroll-place.ensures)
-
-pub shape_of-page : goal.shape_of-page
-shape_of-page c = c.loop-i.invariant.size
 
 pub returns : goal.returns
 returns c =

@@ -7,14 +7,11 @@ use lib.Ieee.{nan}
 use Rattle.tidy_speeds_entries.specs.Speed.{SpeedEntry, no_speed, speed_entries}
 use Rattle.tidy_speeds_entries.specs.LaidSpeeds.{least_of}
 use Rattle.tidy_speeds_entries.proofs.SpeedColumns.{many-speeds, speed-here}
-use Rattle.text_page.proofs.Joined.{left-start, wrote_as}
+use Rattle.text_page.proofs.Joined.{wrote_as}
 use Rattle.report_form.specs.Text.{entry_line}
 use Rattle.mend_text.specs.MendedText.{form_speed}
 use Rattle.mend_text.proofs.LinesLeft.{entries-turn, entries-end}
 use Rattle.mend_text.proofs.put_speeds.Goals as goal
-
-pub loop-i-init : goal.loop-i-init
-loop-i-init c = left-start _ _ _
 
 pub loop-i-preserved : goal.loop-i-preserved
 loop-i-preserved c =
@@ -30,9 +27,6 @@ loop-i-preserved c =
     let within : i < least_of (length beats) (length ratios) (length delays) (length units) = omega (arith, at.least_of-n.ensures) in
     let here = speed-here ratios delays units beats i within in
     entries-turn form_speed (speed_entries beats ratios delays units) i at.loop-i.invariant (nan, no_speed) (omega (arith, many-speeds ratios delays units beats)) (wrote_as (ap (λ (e : SpeedEntry). entry_line (form_speed e)) (sym here)) put.put_speed-place.ensures)
-
-pub shape_of-page : goal.shape_of-page
-shape_of-page c = c.loop-i.invariant.size
 
 pub returns : goal.returns
 returns c =

@@ -1,33 +1,10 @@
 -- `report_feed::feed` meets its contract: one turn is one byte, for the state and for each column. Assumes nothing.
 use Prim.Native.Nat.{◌≤◌, ◌<◌}
-use mathlib.Core.Path.{refl}
 use native.Mathlib.Omega.{arith}
 use lib.ListN.{length}
 use Rattle.report_form.specs.Stores.{number_in, unit_in, count_in}
-use Rattle.report_feed.proofs.Turns.{read-turn, read-end, column-start, column-turn, column-end}
+use Rattle.report_feed.proofs.Turns.{read-turn, read-end, column-turn, column-end}
 use Rattle.report_feed.proofs.feed.Goals as goal
-
-pub loop-byte-init : goal.loop-byte-init
-loop-byte-init c = (
-  refl,
-  column-start count_in _ _ _,
-  column-start (number_in 2 1) _ _ _,
-  column-start (number_in 2 2) _ _ _,
-  column-start (number_in 3 1) _ _ _,
-  column-start (number_in 3 2) _ _ _,
-  column-start (number_in 4 1) _ _ _,
-  column-start (number_in 4 2) _ _ _,
-  column-start (number_in 5 1) _ _ _,
-  column-start (number_in 5 2) _ _ _,
-  column-start (number_in 6 1) _ _ _,
-  column-start (number_in 6 2) _ _ _,
-  column-start (number_in 6 3) _ _ _,
-  column-start (unit_in 6 4) _ _ _,
-  column-start (number_in 7 1) _ _ _,
-  column-start (number_in 7 2) _ _ _,
-  column-start (number_in 8 1) _ _ _,
-  column-start (number_in 8 2) _ _ _,
-)
 
 pub loop-byte-preserved : goal.loop-byte-preserved
 loop-byte-preserved c =
@@ -57,57 +34,6 @@ loop-byte-preserved c =
       column-turn (number_in 8 1) _ _ _ reading stepped.step-next.result told.completed-store.result start.loop-byte.fake_beats after-put.put.new.fake_beats i inside stepped.step-next.ensures told.completed-store.ensures after-put.put.ensures.fake_beats_after after-put.put.auto.fake_beats start.loop-byte.invariant.16,
       column-turn (number_in 8 2) _ _ _ reading stepped.step-next.result told.completed-store.result start.loop-byte.fake_lengths after-put.put.new.fake_lengths i inside stepped.step-next.ensures told.completed-store.ensures after-put.put.ensures.fake_lengths_after after-put.put.auto.fake_lengths start.loop-byte.invariant.17,
     )
-
-pub shape_of-counts : goal.shape_of-counts
-shape_of-counts c = c.loop-byte.invariant.1.size
-
-pub shape_of-tempo_beats : goal.shape_of-tempo_beats
-shape_of-tempo_beats c = c.loop-byte.invariant.2.size
-
-pub shape_of-tempo_values : goal.shape_of-tempo_values
-shape_of-tempo_values c = c.loop-byte.invariant.3.size
-
-pub shape_of-stop_beats : goal.shape_of-stop_beats
-shape_of-stop_beats c = c.loop-byte.invariant.4.size
-
-pub shape_of-stop_values : goal.shape_of-stop_values
-shape_of-stop_values c = c.loop-byte.invariant.5.size
-
-pub shape_of-delay_beats : goal.shape_of-delay_beats
-shape_of-delay_beats c = c.loop-byte.invariant.6.size
-
-pub shape_of-delay_values : goal.shape_of-delay_values
-shape_of-delay_values c = c.loop-byte.invariant.7.size
-
-pub shape_of-warp_beats : goal.shape_of-warp_beats
-shape_of-warp_beats c = c.loop-byte.invariant.8.size
-
-pub shape_of-warp_lengths : goal.shape_of-warp_lengths
-shape_of-warp_lengths c = c.loop-byte.invariant.9.size
-
-pub shape_of-speed_beats : goal.shape_of-speed_beats
-shape_of-speed_beats c = c.loop-byte.invariant.10.size
-
-pub shape_of-speed_ratios : goal.shape_of-speed_ratios
-shape_of-speed_ratios c = c.loop-byte.invariant.11.size
-
-pub shape_of-speed_delays : goal.shape_of-speed_delays
-shape_of-speed_delays c = c.loop-byte.invariant.12.size
-
-pub shape_of-speed_units : goal.shape_of-speed_units
-shape_of-speed_units c = c.loop-byte.invariant.13.size
-
-pub shape_of-scroll_beats : goal.shape_of-scroll_beats
-shape_of-scroll_beats c = c.loop-byte.invariant.14.size
-
-pub shape_of-scroll_values : goal.shape_of-scroll_values
-shape_of-scroll_values c = c.loop-byte.invariant.15.size
-
-pub shape_of-fake_beats : goal.shape_of-fake_beats
-shape_of-fake_beats c = c.loop-byte.invariant.16.size
-
-pub shape_of-fake_lengths : goal.shape_of-fake_lengths
-shape_of-fake_lengths c = c.loop-byte.invariant.17.size
 
 pub returns : goal.returns
 returns c =

@@ -1,21 +1,11 @@
 -- `report_text::put_pairs` meets its contract: a turn is a line. Assumes nothing.
-use Rattle.text_page.proofs.Joined.{left-start}
 use Rattle.report_text.proofs.Turns.{pairs-turn, pairs-all, pairs_end, pairs-short}
 use Rattle.report_text.proofs.put_pairs.Goals as goal
-
-pub loop-i-init : goal.loop-i-init
-loop-i-init c = left-start _ _ _
-
-pub shape_of-page-then-i-beats : goal.shape_of-page-then-i-beats
-shape_of-page-then-i-beats c = c.loop-i.invariant.size
 
 pub returns-then-i-beats : goal.returns-then-i-beats
 returns-then-i-beats c =
     let given = c.args in
     pairs_end given.word.now given.count given.beats.now given.values.now c.loop-i.i c.loop-i.invariant c.if-i-beats.true
-
-pub shape_of-page-then-i-values : goal.shape_of-page-then-i-values
-shape_of-page-then-i-values c = c.loop-i.invariant.size
 
 pub returns-then-i-values : goal.returns-then-i-values
 returns-then-i-values c =
@@ -26,9 +16,6 @@ pub loop-i-preserved : goal.loop-i-preserved
 loop-i-preserved c =
     let given = c.args in
     pairs-turn given.word.now given.count given.beats.now given.values.now c.loop-i.i c.loop-i-test.true c.if-i-beats.false c.if-i-values.false c.loop-i.invariant c.put_pair-place.ensures
-
-pub shape_of-page : goal.shape_of-page
-shape_of-page c = c.loop-i.invariant.size
 
 pub returns : goal.returns
 returns c =

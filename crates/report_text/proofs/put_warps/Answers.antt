@@ -1,29 +1,16 @@
 -- `report_text::put_warps` meets its contract: a turn is a line. Assumes nothing.
-use Rattle.text_page.proofs.Joined.{left-start}
 use Rattle.report_text.proofs.Turns.{warps-turn, warps-all, warps-end, warps_no_size, warps_no_mark}
 use Rattle.report_text.proofs.put_warps.Goals as goal
-
-pub loop-i-init : goal.loop-i-init
-loop-i-init c = left-start _ _ _
-
-pub shape_of-page-then-i-beats : goal.shape_of-page-then-i-beats
-shape_of-page-then-i-beats c = c.loop-i.invariant.size
 
 pub returns-then-i-beats : goal.returns-then-i-beats
 returns-then-i-beats c =
     let given = c.args in
     warps-end given.count given.beats.now given.lengths.now given.marks.now c.loop-i.i c.loop-i.invariant c.if-i-beats.true
 
-pub shape_of-page-then-i-lengths : goal.shape_of-page-then-i-lengths
-shape_of-page-then-i-lengths c = c.loop-i.invariant.size
-
 pub returns-then-i-lengths : goal.returns-then-i-lengths
 returns-then-i-lengths c =
     let given = c.args in
     warps_no_size given.count given.beats.now given.lengths.now given.marks.now c.loop-i.i c.loop-i.invariant c.if-i-lengths.true
-
-pub shape_of-page-then-i-marks : goal.shape_of-page-then-i-marks
-shape_of-page-then-i-marks c = c.loop-i.invariant.size
 
 pub returns-then-i-marks : goal.returns-then-i-marks
 returns-then-i-marks c =
@@ -34,9 +21,6 @@ pub loop-i-preserved : goal.loop-i-preserved
 loop-i-preserved c =
     let given = c.args in
     warps-turn given.count given.beats.now given.lengths.now given.marks.now c.loop-i.i c.loop-i-test.true c.if-i-beats.false c.if-i-lengths.false c.if-i-marks.false c.loop-i.invariant c.put_warp-place.ensures
-
-pub shape_of-page : goal.shape_of-page
-shape_of-page c = c.loop-i.invariant.size
 
 pub returns : goal.returns
 returns c =
