@@ -41,7 +41,7 @@ kind_of Delay = delay_begins
 kind_of Stop = stop_begins
 kind_of Warp = warp_begins
 
-abbrev head_of : (Option Next) → Head
+abbrev head_of : Option Next → Head
 head_of (Some n) = record { row = n.row; kind = kind_of n.kind }
 head_of None = nothing_left
 
@@ -53,11 +53,11 @@ runner_of early t s n = record { row = s.row; time = s.time; tempo = in_force ea
 
 -- ---- which event falls next
 
-head_row : (a : (Option Next)) → (head_of a).row ≡ row_ahead a
+head_row : (a : Option Next) → (head_of a).row ≡ row_ahead a
 head_row (Some n) = refl
 head_row None = refl
 
-lower_as : (a : (Option Next)) (at : ℤ) (k : Event) → lower_head (head_of a) at (kind_of k) ≡ head_of (sooner row_ahead a (Some (record { row = at; kind = k })))
+lower_as : (a : Option Next) (at : ℤ) (k : Event) → lower_head (head_of a) at (kind_of k) ≡ head_of (sooner row_ahead a (Some (record { row = at; kind = k })))
 unfolding lower_head sooner
 lower_as a at k = rw (head_row a) (go (lt_z at (row_ahead a)))
   where
@@ -65,7 +65,7 @@ lower_as a at k = rw (head_row a) (go (lt_z at (row_ahead a)))
     go true = refl
     go false = refl
 
-entry_as : (a : (Option Next)) (beats : List Float) (place : ℕ) (k : Event) → or_entry (head_of a) beats place (kind_of k) ≡ head_of (offered row_ahead Some a beats place k)
+entry_as : (a : Option Next) (beats : List Float) (place : ℕ) (k : Event) → or_entry (head_of a) beats place (kind_of k) ≡ head_of (offered row_ahead Some a beats place k)
 unfolding or_entry offered
 entry_as a beats place k = go (ltb place (length beats))
   where
@@ -194,7 +194,7 @@ module _ (early : Float) (t : Timing) (r : ℤ) where
           ∙ ap (λ (x : State). at_end (stopped x (n + 1))) (sym on)
           ∙ ap at_end (sym (pass_on early t (is_due t r) (says_due t r) s n d))
 
-  by-ahead : (f : ℕ) (s : State) (n : ℕ) (a : (Option Next)) → ahead t s ≡ a
+  by-ahead : (f : ℕ) (s : State) (n : ℕ) (a : Option Next) → ahead t s ≡ a
       → (is_due t r s ≡ true → run_down r (runner_of early t (onward early t s) (n + 1)) (listed_within f t (spot_of (onward early t s))) ≡ at_end (stopped (onward early t s) (n + 1)))
       → run_down r (runner_of early t s n) (listed_within (suc f) t (spot_of s)) ≡ at_end (stopped s n)
   by-ahead f s n None is later = ap (run_down r (runner_of early t s n)) (list-none early t s f is) ∙ run_none (runner_of early t s n) ∙ not_due_lem s n (rw is)

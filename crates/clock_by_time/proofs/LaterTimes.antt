@@ -57,7 +57,7 @@ module _ (early : Float) (t : Timing) where
   by_tests false b false d e h f g = rw (f refl) refl
 
   module _ (first later : Float) (h : le first later ≡ true) where
-    found-over : (s : State) (a : (Option Next)) → is_found_over first early t s a ≡ true → is_found_over later early t s a ≡ true
+    found-over : (s : State) (a : Option Next) → is_found_over first early t s a ≡ true → is_found_over later early t s a ≡ true
     unfolding over_by has_come still_runs
     found-over s (Some n) o = by_tests (lt first _) (lt first _) (is_delay_or_stop n.kind) (lt later _) (lt later _) o (not_above_lem first later _ h) (not_above_lem first later _ h)
     found-over s None o = no o

@@ -55,7 +55,7 @@ module _ (early : Float) (t : Timing) where
       rw (not_above_lem (time_at early t.tempo_values s n.row) time come, kind-over s time (time_at early t.tempo_values s n.row) (brings t.stop_values t.delay_values t.warp_beats t.warp_lengths s n.kind) n.row n.kind after) refl
 
   -- what is ahead, where time holds past it
-  past : (s : State) (time : Float) (a : (Option Next)) → ahead t s ≡ a → is_found a ≡ true → holds_past early t s ≡ true → T (le (onward early t s).time time)
+  past : (s : State) (time : Float) (a : Option Next) → ahead t s ≡ a → is_found a ≡ true → holds_past early t s ≡ true → T (le (onward early t s).time time)
       → (is_ahead_over time early t s ≡ true) × T (le s.time time)
   unfolding holds_past
   past s time (Some n) is found holds after =

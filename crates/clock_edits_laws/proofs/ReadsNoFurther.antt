@@ -72,7 +72,7 @@ module _ (early : Float) (t : Timing) (r : ℤ) where
   same-onward : (s : State) → PlacesWithin u s → is_due t r s ≡ true → onward early t s ≡ onward early u s
   same-onward s within h = go (due t r s) refl h
     where
-      go : (d : (Option Next)) → due t r s ≡ d → is_passes d ≡ true → onward early t s ≡ onward early u s
+      go : (d : Option Next) → due t r s ≡ d → is_passes d ≡ true → onward early t s ≡ onward early u s
       go (Some n) e h =
           let f : due u r s ≡ Some n = sym (same-due r t s within) ∙ e in
           due-passed early t r s n e ∙ same-passing s n within (placed u s n (due-found r (ahead u s) n f)) ∙ sym (due-passed early u r s n f)

@@ -15,15 +15,15 @@ use Rattle.rows.proofs.RowOrder.{no, lt_le, le_trans, lt_not}
 use Rattle.clock_walk.proofs.ClockTest.{before_le, not_before_le, behind, first_up_to}
 
 -- ---- up to the asked beat the rule finds what is ahead
-abbrev as_candidate : (Option Next) → Candidate
+abbrev as_candidate : Option Next → Candidate
 as_candidate (Some n) = event n
 as_candidate None = nothing
 
-same_row : (a : (Option Next)) → candidate_row (as_candidate a) ≡ row_ahead a
+same_row : (a : Option Next) → candidate_row (as_candidate a) ≡ row_ahead a
 same_row (Some n) = refl
 same_row None = refl
 
-sooner_as : (a : (Option Next)) (n : Next) → sooner candidate_row (as_candidate a) (event n) ≡ as_candidate (sooner row_ahead a (Some n))
+sooner_as : (a : Option Next) (n : Next) → sooner candidate_row (as_candidate a) (event n) ≡ as_candidate (sooner row_ahead a (Some n))
 unfolding sooner
 sooner_as a n = rw (same_row a) (go (lt_z n.row (row_ahead a)))
   where
@@ -31,7 +31,7 @@ sooner_as a n = rw (same_row a) (go (lt_z n.row (row_ahead a)))
     go true = refl
     go false = refl
 
-offered_as : (a : (Option Next)) (beats : List Float) (place : ℕ) (k : Event) → offered candidate_row event (as_candidate a) beats place k ≡ as_candidate (offered row_ahead Some a beats place k)
+offered_as : (a : Option Next) (beats : List Float) (place : ℕ) (k : Event) → offered candidate_row event (as_candidate a) beats place k ≡ as_candidate (offered row_ahead Some a beats place k)
 unfolding offered
 offered_as a beats place k = go (ltb place (length beats))
   where
@@ -48,15 +48,15 @@ end_as true end = sooner_as None (record { row = row binary64 end; kind = WarpEn
 end_as false end = refl
 
 -- ---- and what it finds there goes first on its row
-abbrev First : (Option Next) → Type 0
+abbrev First : Option Next → Type 0
 First (Some n) = goes_first n.kind ≡ true
 First None = Unit {0}
 
-first_pick : (b : Bool) (x y : (Option Next)) → First x → First y → First (pick b x y)
+first_pick : (b : Bool) (x y : Option Next) → First x → First y → First (pick b x y)
 first_pick true x y p q = p
 first_pick false x y p q = q
 
-first-offered : (a : (Option Next)) (beats : List Float) (place : ℕ) (k : Event) → goes_first k ≡ true → First a → First (offered row_ahead Some a beats place k)
+first-offered : (a : Option Next) (beats : List Float) (place : ℕ) (k : Event) → goes_first k ≡ true → First a → First (offered row_ahead Some a beats place k)
 unfolding offered sooner
 first-offered a beats place k h f =
     let new = Some (record { row = row binary64 (get_or beats place nan); kind = k }) in
@@ -70,13 +70,13 @@ first-end false end = tt
 
 module _ (r : ℤ) (in_range_lem : lt_z r farthest ≡ true) where
   -- what is due where this is ahead, as a candidate
-  abbrev or_asked : (Option Next) → Candidate
+  abbrev or_asked : Option Next → Candidate
   or_asked a = candidate_of r (due_of r a)
 
   abbrev picked : Bool → Next → Candidate
   picked b n = candidate_of r (pick b (Some n) None)
 
-  asked_in : (a : (Option Next)) → First a → sooner candidate_row (as_candidate a) (asked_beat r) ≡ or_asked a
+  asked_in : (a : Option Next) → First a → sooner candidate_row (as_candidate a) (asked_beat r) ≡ or_asked a
   unfolding sooner
   asked_in (Some n) f = go (lt_z r n.row) refl
     where
@@ -95,7 +95,7 @@ module _ (r : ℤ) (in_range_lem : lt_z r farthest ≡ true) where
       each false true = refl
       each false false = refl
 
-  later_in : (a : (Option Next)) (n : Next) → goes_first n.kind ≡ false → sooner candidate_row (or_asked a) (event n) ≡ or_asked (sooner row_ahead a (Some n))
+  later_in : (a : Option Next) (n : Next) → goes_first n.kind ≡ false → sooner candidate_row (or_asked a) (event n) ≡ or_asked (sooner row_ahead a (Some n))
   unfolding sooner
   later_in (Some m) n late = go (goes_before r m) (lt_z n.row m.row) refl refl
     where
@@ -117,7 +117,7 @@ module _ (r : ℤ) (in_range_lem : lt_z r farthest ≡ true) where
       go false true e f = no (sym e ∙ lt_le n.row r farthest f (lt_not r farthest in_range_lem))
       go false false e f = refl
 
-  later-offered : (a : (Option Next)) (beats : List Float) (place : ℕ) (k : Event) → goes_first k ≡ false → offered candidate_row event (or_asked a) beats place k ≡ or_asked (offered row_ahead Some a beats place k)
+  later-offered : (a : Option Next) (beats : List Float) (place : ℕ) (k : Event) → goes_first k ≡ false → offered candidate_row event (or_asked a) beats place k ≡ or_asked (offered row_ahead Some a beats place k)
   unfolding offered
   later-offered a beats place k late = go (ltb place (length beats))
     where
@@ -149,7 +149,7 @@ module _ (r : ℤ) (in_range_lem : lt_z r farthest ≡ true) where
       ∙ ap with_warp (later-offered delay t.stop_beats s.stops Stop refl)
       ∙ later-offered stop t.warp_beats s.warps Warp refl
 
-something : (r : ℤ) (d : (Option Next)) → is_nothing (candidate_of r d) ≡ false
+something : (r : ℤ) (d : Option Next) → is_nothing (candidate_of r d) ≡ false
 something r (Some n) = refl
 something r None = refl
 

@@ -27,7 +27,7 @@ row_at s at time number Delay = refl
 row_at s at time number Stop = refl
 row_at s at time number Warp = refl
 
-found-row : (early : Float) (t : Timing) (s : State) (a : (Option Next)) → is_found a ≡ true → (past_found early t s a).row ≡ row_ahead a
+found-row : (early : Float) (t : Timing) (s : State) (a : Option Next) → is_found a ≡ true → (past_found early t s a).row ≡ row_ahead a
 unfolding event_passed
 found-row early t s (Some n) e = row_at s n.row _ _ n.kind
 found-row early t s None e = no e
@@ -40,7 +40,7 @@ abbrev pub UpTo : ℤ → ℤ → Type 0
 UpTo most z = lt_z most z ≡ false
 
 module _ (most : ℤ) where
-  sooner_up_to : (a c : (Option Next)) → UpTo most (row_ahead a) → UpTo most (row_ahead (sooner row_ahead a c))
+  sooner_up_to : (a c : Option Next) → UpTo most (row_ahead a) → UpTo most (row_ahead (sooner row_ahead a c))
   unfolding sooner
   sooner_up_to a c h = go (lt_z (row_ahead c) (row_ahead a)) refl
     where
@@ -48,7 +48,7 @@ module _ (most : ℤ) where
       go true e = le_trans (row_ahead c) (row_ahead a) most (lt_not (row_ahead c) (row_ahead a) e) h
       go false e = h
 
-  offered_up_to : (a : (Option Next)) (beats : List Float) (place : ℕ) (k : Event) → UpTo most (row_ahead a) → UpTo most (row_ahead (offered row_ahead Some a beats place k))
+  offered_up_to : (a : Option Next) (beats : List Float) (place : ℕ) (k : Event) → UpTo most (row_ahead a) → UpTo most (row_ahead (offered row_ahead Some a beats place k))
   unfolding offered
   offered_up_to a beats place k h = go (ltb place (length beats))
     where
@@ -57,7 +57,7 @@ module _ (most : ℤ) where
       go false = h
 
 -- a candidate brings what is ahead to its row or before it
-offered-by : (a : (Option Next)) (beats : List Float) (place : ℕ) (k : Event) → place < length beats → UpTo (row binary64 (get_or beats place nan)) (row_ahead (offered row_ahead Some a beats place k))
+offered-by : (a : Option Next) (beats : List Float) (place : ℕ) (k : Event) → place < length beats → UpTo (row binary64 (get_or beats place nan)) (row_ahead (offered row_ahead Some a beats place k))
 unfolding offered sooner
 offered-by a beats place k h = rw (lt-ltb place (length beats) h) (go (lt_z (row binary64 (get_or beats place nan)) (row_ahead a)) refl)
   where

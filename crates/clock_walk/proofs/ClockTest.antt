@@ -45,24 +45,24 @@ module _ (r : ℤ) where
       either false = refl
 
   -- ---- what is due is what is ahead
-  abbrev passes_or : Next → (Option Next) → Next
+  abbrev passes_or : Next → Option Next → Next
   passes_or other (Some n) = n
   passes_or other None = other
 
-  pub due-found : (a : (Option Next)) (n : Next) → due_of r a ≡ Some n → a ≡ Some n
+  pub due-found : (a : Option Next) (n : Next) → due_of r a ≡ Some n → a ≡ Some n
   due-found (Some m) n e = go (goes_before r m) e
     where
       go : (b : Bool) → pick b (Some m) None ≡ Some n → Some m ≡ Some n
-      go true e = ap (λ (d : (Option Next)). Some (passes_or m d)) e
+      go true e = ap (λ (d : Option Next). Some (passes_or m d)) e
       go false e = no (ap is_passes e)
   due-found None n e = no (ap is_passes e)
 
-  found-due : (a : (Option Next)) → is_passes (due_of r a) ≡ true → is_found a ≡ true
+  found-due : (a : Option Next) → is_passes (due_of r a) ≡ true → is_found a ≡ true
   found-due (Some n) e = refl
   found-due None e = no e
 
   -- and on no later row
-  up-to : (a : (Option Next)) → is_passes (due_of r a) ≡ true → lt_z r (row_ahead a) ≡ false
+  up-to : (a : Option Next) → is_passes (due_of r a) ≡ true → lt_z r (row_ahead a) ≡ false
   up-to (Some n) e = go (goes_before r n) refl e
     where
       go : (b : Bool) → goes_before r n ≡ b → is_passes (pick b (Some n) None) ≡ true → lt_z r n.row ≡ false
@@ -70,7 +70,7 @@ module _ (r : ℤ) where
       go false h e = no e
   up-to None e = no e
 
-  not_due_lem : (a : (Option Next)) → lt_z r (row_ahead a) ≡ true → is_passes (due_of r a) ≡ false
+  not_due_lem : (a : Option Next) → lt_z r (row_ahead a) ≡ true → is_passes (due_of r a) ≡ false
   not_due_lem (Some n) h = rw (behind n h)
   not_due_lem None h = refl
 
@@ -97,7 +97,7 @@ later-before r q n later h = go (lt_z n.row q) (lt_z q n.row) (lt_z n.row r) (lt
     go false true false false e f g k h = no (sym (le_trans n.row r q k later) ∙ f)
     go false false false false e f g k h = h
 
-later-due : (r q : ℤ) (a : (Option Next)) → lt_z q r ≡ false → is_passes (due_of r a) ≡ true → is_passes (due_of q a) ≡ true
+later-due : (r q : ℤ) (a : Option Next) → lt_z q r ≡ false → is_passes (due_of r a) ≡ true → is_passes (due_of q a) ≡ true
 later-due r q (Some n) later e = go (goes_before r n) refl e
   where
     go : (b : Bool) → goes_before r n ≡ b → is_passes (pick b (Some n) None) ≡ true → is_passes (pick (goes_before q n) (Some n) None) ≡ true

@@ -15,15 +15,15 @@ use Rattle.clock_walk.proofs.EventByEvent.{left-falls}
 use Rattle.clock_walk.proofs.BeforeAnyTempo.{tempo-ahead}
 
 module _ (early : Float) (t : Timing) where
-  ends_by : (f : ℕ) (a : (Option Next)) (s : State) → ahead t s ≡ a → events_left t s ≤ f → ahead t (state_after (length (events_within f early t s)) early t s) ≡ None
+  ends_by : (f : ℕ) (a : Option Next) (s : State) → ahead t s ≡ a → events_left t s ≤ f → ahead t (state_after (length (events_within f early t s)) early t s) ≡ None
   unfolding events_within state_after
   ends_by zero (Some n) s e l = let k = left-falls early t s (ap is_found e) in absurd (omega arith)
   ends_by zero None s e l = e
   ends_by (suc f) (Some n) s e l =
       let k = left-falls early t s (ap is_found e) in
-      ap (λ (a : (Option Next)). ahead t (state_after (length (found_before a (events_within f early t (onward early t s)))) early t s)) e
+      ap (λ (a : Option Next). ahead t (state_after (length (found_before a (events_within f early t (onward early t s)))) early t s)) e
       ∙ ends_by f (ahead t (onward early t s)) (onward early t s) refl (omega arith)
-  ends_by (suc f) None s e l = ap (λ (a : (Option Next)). ahead t (state_after (length (found_before a (events_within f early t (onward early t s)))) early t s)) e ∙ e
+  ends_by (suc f) None s e l = ap (λ (a : Option Next). ahead t (state_after (length (found_before a (events_within f early t (onward early t s)))) early t s)) e ∙ e
 
 pub course-ends : (t : Timing) (s : State) → ahead t (end_mark t s).state ≡ None
 unfolding end_mark course

@@ -11,23 +11,23 @@ use Rattle.clock_walk.specs.declared.Next.{Next}
 use Rattle.clock_walk.specs.declared.Event.{Event}
 use Rattle.clock_walk.specs.declared.Event.TheVariants.{WarpEnd, Tempo, Delay, Stop, Warp}
 
-module _ (P : (Option Next) → Type 0) where
-  of_pick : (b : Bool) (x y : (Option Next)) → (b ≡ true → P x) → P y → P (pick b x y)
+module _ (P : Option Next → Type 0) where
+  of_pick : (b : Bool) (x y : Option Next) → (b ≡ true → P x) → P y → P (pick b x y)
   of_pick true x y p q = p refl
   of_pick false x y p q = q
 
-  of_sooner : (a c : (Option Next)) → P a → P c → P (sooner row_ahead a c)
+  of_sooner : (a c : Option Next) → P a → P c → P (sooner row_ahead a c)
   unfolding sooner
   of_sooner a c p q = of_pick (lt_z (row_ahead c) (row_ahead a)) c a (λ _. q) p
 
-  of_offered : (a : (Option Next)) (beats : List Float) (place : ℕ) (k : Event)
+  of_offered : (a : Option Next) (beats : List Float) (place : ℕ) (k : Event)
       → P a → (place < length beats → P (Some (record { row = row binary64 (get_or beats place nan); kind = k }))) → P (offered row_ahead Some a beats place k)
   unfolding offered
   of_offered a beats place k p q =
       of_pick (ltb place (length beats)) (sooner row_ahead a (Some (record { row = row binary64 (get_or beats place nan); kind = k }))) a
       (λ e. of_sooner a (Some (record { row = row binary64 (get_or beats place nan); kind = k })) p (q (ltb-true place (length beats) e))) p
 
-  of_end : (a : (Option Next)) (warping : Bool) (end : Float) → P a → (warping ≡ true → P (Some (record { row = row binary64 end; kind = WarpEnd }))) → P (end_offered row_ahead Some a warping end)
+  of_end : (a : Option Next) (warping : Bool) (end : Float) → P a → (warping ≡ true → P (Some (record { row = row binary64 end; kind = WarpEnd }))) → P (end_offered row_ahead Some a warping end)
   unfolding end_offered
   of_end a warping end p q =
       of_pick warping (sooner row_ahead a (Some (record { row = row binary64 end; kind = WarpEnd }))) a (λ h. of_sooner a (Some (record { row = row binary64 end; kind = WarpEnd })) p (q h)) p
@@ -56,7 +56,7 @@ Placed t s Delay = s.delays < length t.delay_beats
 Placed t s Stop = s.stops < length t.stop_beats
 Placed t s Warp = s.warps < length t.warp_beats
 
-abbrev pub PlacedFound : Timing → State → (Option Next) → Type 0
+abbrev pub PlacedFound : Timing → State → Option Next → Type 0
 PlacedFound t s (Some n) = Placed t s n.kind
 PlacedFound t s None = Unit {0}
 

@@ -20,7 +20,7 @@ tempos_grow s at time number Delay = omega arith
 tempos_grow s at time number Stop = omega arith
 tempos_grow s at time number Warp = omega arith
 
-found-grows : (early : Float) (t : Timing) (s : State) (a : (Option Next)) → s.tempos ≤ (past_found early t s a).tempos
+found-grows : (early : Float) (t : Timing) (s : State) (a : Option Next) → s.tempos ≤ (past_found early t s a).tempos
 unfolding event_passed
 found-grows early t s (Some n) = tempos_grow s n.row _ _ n.kind
 found-grows early t s None = omega arith
@@ -37,7 +37,7 @@ module _ (one other : Float) where
   unfolding time_at time_to
   time-apart values s at h = rw (force_apart values s.tempos h)
 
-  found-apart : (t : Timing) (s : State) (a : (Option Next)) → 0 < s.tempos → past_found one t s a ≡ past_found other t s a
+  found-apart : (t : Timing) (s : State) (a : Option Next) → 0 < s.tempos → past_found one t s a ≡ past_found other t s a
   found-apart t s (Some n) h =
       ap (λ (x : Float). event_passed s n x (brings t.stop_values t.delay_values t.warp_beats t.warp_lengths s n.kind)) (time-apart t.tempo_values s n.row h)
   found-apart t s None h = refl

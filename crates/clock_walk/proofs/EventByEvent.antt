@@ -26,7 +26,7 @@ fewer t s at time number Delay p = omega arith
 fewer t s at time number Stop p = omega arith
 fewer t s at time number Warp p = let h = one_le s.warping in omega arith
 
-found-falls : (early : Float) (t : Timing) (s : State) (a : (Option Next)) → PlacedFound t s a → is_found a ≡ true → events_left t (past_found early t s a) < events_left t s
+found-falls : (early : Float) (t : Timing) (s : State) (a : Option Next) → PlacedFound t s a → is_found a ≡ true → events_left t (past_found early t s a) < events_left t s
 unfolding event_passed
 found-falls early t s (Some n) p e = fewer t s n.row _ _ n.kind p
 found-falls early t s None p e = no e

@@ -73,10 +73,10 @@ ahead_by_heads t s =
     let low3 = stays-low tempo low2 (row_at t.delay_beats s.delays) Delay in
     let stop = sooner_head delay (row_at t.stop_beats s.stops) Stop in
     let low4 = stays-low delay low3 (row_at t.stop_beats s.stops) Stop in
-    let with_warp : (Option Next) → (Option Next) = λ a. offered row_ahead Some a t.warp_beats s.warps Warp in
-    let with_stop : (Option Next) → (Option Next) = λ a. with_warp (offered row_ahead Some a t.stop_beats s.stops Stop) in
-    let with_delay : (Option Next) → (Option Next) = λ a. with_stop (offered row_ahead Some a t.delay_beats s.delays Delay) in
-    let with_tempo : (Option Next) → (Option Next) = λ a. with_delay (offered row_ahead Some a t.tempo_beats s.tempos Tempo) in
+    let with_warp : Option Next → Option Next = λ a. offered row_ahead Some a t.warp_beats s.warps Warp in
+    let with_stop : Option Next → Option Next = λ a. with_warp (offered row_ahead Some a t.stop_beats s.stops Stop) in
+    let with_delay : Option Next → Option Next = λ a. with_stop (offered row_ahead Some a t.delay_beats s.delays Delay) in
+    let with_tempo : Option Next → Option Next = λ a. with_delay (offered row_ahead Some a t.tempo_beats s.tempos Tempo) in
     entry_more stop low4 t.warp_beats s.warps Warp
     ∙ ap with_warp (entry_more delay low3 t.stop_beats s.stops Stop)
     ∙ ap with_stop (entry_more tempo low2 t.delay_beats s.delays Delay)

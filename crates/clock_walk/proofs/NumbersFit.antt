@@ -34,7 +34,7 @@ module _ (early : Float) (t : Timing) where
   arrived-fits s at time Stop h f = (add-fits binary64 _ _, h.1)
   arrived-fits s at time Warp h f = (f, larger-fits s.end _ h.1 (add-fits binary64 _ _))
 
-  found-fits : (s : State) (a : (Option Next)) → NumbersFit s → NumbersFit (past_found early t s a)
+  found-fits : (s : State) (a : Option Next) → NumbersFit s → NumbersFit (past_found early t s a)
   unfolding event_passed time_at
   found-fits s (Some n) h = arrived-fits s n.row _ n.kind h (add-fits binary64 _ _)
   found-fits s None h = h

@@ -17,7 +17,7 @@ use Rattle.clock_walk.proofs.EventByEvent.{count_fits}
 use Rattle.clock_walk.proofs.AllWalks.{SaysAhead, Going, pass-end, spent-on, stops_at}
 
 module _ (elapsed early : Float) (t : Timing) where
-  over-found : (s : State) (a : (Option Next)) → is_found_over elapsed early t s a ≡ true → is_found a ≡ true
+  over-found : (s : State) (a : Option Next) → is_found_over elapsed early t s a ≡ true → is_found a ≡ true
   over-found s (Some n) e = refl
   over-found s None e = no e
 

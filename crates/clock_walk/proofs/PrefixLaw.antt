@@ -15,7 +15,7 @@ use Rattle.clock_walk.proofs.AllWalks.{pass_on, pass-end}
 use Rattle.clock_walk.proofs.ClockTest.{says_due}
 
 -- so many of a list lead as there are events due one after another
-lead-by : (r : ℤ) (a : (Option Next)) (list : _) (b : Bool) → is_passes (due_of r a) ≡ b → leading_before r (found_before a list) ≡ pick b (suc (leading_before r list)) 0
+lead-by : (r : ℤ) (a : Option Next) (list : _) (b : Bool) → is_passes (due_of r a) ≡ b → leading_before r (found_before a list) ≡ pick b (suc (leading_before r list)) 0
 unfolding leading_before
 lead-by r (Some n) list b e = go (goes_before r n) b e
   where

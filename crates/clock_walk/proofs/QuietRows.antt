@@ -27,7 +27,7 @@ module _ (r : ℤ) where
       → is_due t r s ≡ false
   none_before t s all end tempo delay stop warp =
       none-due r t s
-      (of_ahead (λ (a : (Option Next)). lt_z r (row_ahead a) ≡ true) t s all (at-end s end) (at_entry t.tempo_beats s.tempos tempo)
+      (of_ahead (λ (a : Option Next). lt_z r (row_ahead a) ≡ true) t s all (at-end s end) (at_entry t.tempo_beats s.tempos tempo)
       (at_entry t.delay_beats s.delays delay) (at_entry t.stop_beats s.stops stop) (at_entry t.warp_beats s.warps warp))
 
 pub quiet-end : (t : Timing) (r : ℤ) (s : State) → is_due t r s ≡ false

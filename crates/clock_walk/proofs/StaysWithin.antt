@@ -32,7 +32,7 @@ arrives t s at time number Delay p w = record { tempos = w.tempos; stops = w.sto
 arrives t s at time number Stop p w = record { tempos = w.tempos; stops = omega arith; delays = w.delays; warps = w.warps }
 arrives t s at time number Warp p w = record { tempos = w.tempos; stops = w.stops; delays = w.delays; warps = omega arith }
 
-found_within : (early : Float) (t : Timing) (s : State) (a : (Option Next)) → PlacedFound t s a → PlacesWithin t s → PlacesWithin t (past_found early t s a)
+found_within : (early : Float) (t : Timing) (s : State) (a : Option Next) → PlacedFound t s a → PlacesWithin t s → PlacesWithin t (past_found early t s a)
 unfolding event_passed
 found_within early t s (Some n) p w = arrives t s n.row _ _ n.kind p w
 found_within early t s None p w = w

@@ -12,7 +12,7 @@ use Rattle.clock_walk.proofs.EventByEvent.{left-falls}
 
 module _ (early : Float) (t : Timing) where
   -- any bound that is not below what is left gives the same events
-  enough : (f g : ℕ) (a : (Option Next)) (s : State) → ahead t s ≡ a → events_left t s ≤ f → events_left t s ≤ g → events_within f early t s ≡ events_within g early t s
+  enough : (f g : ℕ) (a : Option Next) (s : State) → ahead t s ≡ a → events_left t s ≤ f → events_left t s ≤ g → events_within f early t s ≡ events_within g early t s
   unfolding events_within
   enough zero zero a s e p q = refl
   enough zero (suc g) (Some n) s e p q = let l = left-falls early t s (ap is_found e) in absurd (omega arith)
@@ -34,7 +34,7 @@ module _ (early : Float) (t : Timing) where
       go (suc f) q =
           let l = left-falls early t s (ap is_found e) in
           ap (λ (k : ℕ). events_within k early t s) q
-          ∙ ap (λ (a : (Option Next)). found_before a (events_within f early t (onward early t s))) e
+          ∙ ap (λ (a : Option Next). found_before a (events_within f early t (onward early t s))) e
           ∙ ap (λ (list : List Next). n ∷ list) (enough f (events_left t (onward early t s)) (ahead t (onward early t s)) (onward early t s) refl (omega arith) (omega arith))
 
   -- none more

@@ -40,7 +40,7 @@ over_by elapsed early t s n =
     (still_runs elapsed (time_at early t.tempo_values s n.row) (brings t.stop_values t.delay_values t.warp_beats t.warp_lengths s n.kind) n.kind))
     false
 
-abbrev pub is_found_over : (elapsed early : Float) → Timing → State → (Option Next) → Bool
+abbrev pub is_found_over : (elapsed early : Float) → Timing → State → Option Next → Bool
 is_found_over elapsed early t s (Some n) = over_by elapsed early t s n
 is_found_over elapsed early t s None = false
 
@@ -62,7 +62,7 @@ pause_of Delay = InDelay
 pause_of Stop = InFreeze
 pause_of Warp = NoPause
 
-abbrev pub pause_found : (elapsed early : Float) → Timing → State → (Option Next) → Pausing
+abbrev pub pause_found : (elapsed early : Float) → Timing → State → Option Next → Pausing
 pause_found elapsed early t s (Some n) = pick (has_come elapsed early t s n) (pause_of n.kind) NoPause
 pause_found elapsed early t s None = NoPause
 

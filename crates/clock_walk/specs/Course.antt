@@ -7,7 +7,7 @@ use Rattle.clock_walk.specs.Passing.{passing}
 use Rattle.chart.specs.declared.State.{State}
 use Rattle.clock_walk.specs.declared.Next.{Next}
 
-abbrev pub is_found : (Option Next) → Bool
+abbrev pub is_found : Option Next → Bool
 is_found (Some n) = true
 is_found None = false
 
@@ -16,7 +16,7 @@ abbrev pub is_ahead : Timing → State → Bool
 is_ahead t s = is_found (ahead t s)
 
 -- the state after what was found; the state as it is where nothing was
-abbrev pub past_found : Float → Timing → State → (Option Next) → State
+abbrev pub past_found : Float → Timing → State → Option Next → State
 past_found early t s (Some n) = passing early t s n
 past_found early t s None = s
 
@@ -61,7 +61,7 @@ unfoldable pub state_after : ℕ → Float → Timing → State → State
 state_after zero early t s = s
 state_after (suc n) early t s = state_after n early t (onward early t s)
 
-abbrev pub found_before : (Option Next) → List Next → List Next
+abbrev pub found_before : Option Next → List Next → List Next
 found_before (Some n) list = n ∷ list
 found_before None list = []
 

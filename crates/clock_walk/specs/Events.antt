@@ -30,12 +30,12 @@ end_offered row_of made best warping end = pick warping (sooner row_of best (mad
 
 -- ---- what is ahead
 
-abbrev pub row_ahead : (Option Next) → ℤ
+abbrev pub row_ahead : Option Next → ℤ
 row_ahead (Some n) = n.row
 row_ahead None = farthest
 
 -- The least row is ahead. On one row the warp's end comes first, then the tempo, the delay, the stop, the warp.
-unfoldable pub ahead : Timing → State → (Option Next)
+unfoldable pub ahead : Timing → State → Option Next
 ahead t s =
     let entry = offered row_ahead Some in
     entry
@@ -58,9 +58,9 @@ goes_first Warp = false
 unfoldable pub goes_before : ℤ → Next → Bool
 goes_before asked n = pick (int_lt n.row asked) true (pick (int_lt asked n.row) false (goes_first n.kind))
 
-abbrev pub due_of : ℤ → (Option Next) → (Option Next)
+abbrev pub due_of : ℤ → Option Next → Option Next
 due_of asked (Some n) = pick (goes_before asked n) (Some n) None
 due_of asked None = None
 
-abbrev pub due : Timing → ℤ → State → (Option Next)
+abbrev pub due : Timing → ℤ → State → Option Next
 due t asked s = due_of asked (ahead t s)

@@ -47,8 +47,8 @@ unfoldable pub least_head : Heads → Next
 least_head h =
     sooner_head (sooner_head (sooner_head (sooner_head (sooner_head no_head h.end WarpEnd) h.tempo Tempo) h.delay Delay) h.stop Stop) h.warp Warp
 
-abbrev pub found_at : Next → (Option Next)
+abbrev pub found_at : Next → Option Next
 found_at n = pick (int_lt n.row farthest) (Some n) None
 
-unfoldable pub ahead_of : Heads → (Option Next)
+unfoldable pub ahead_of : Heads → Option Next
 ahead_of h = found_at (least_head h)

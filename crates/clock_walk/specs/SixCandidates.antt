@@ -34,6 +34,6 @@ is_nothing (asked_beat asked) = false
 is_nothing nothing = true
 
 -- what is due, as a candidate
-abbrev pub candidate_of : ℤ → (Option Next) → Candidate
+abbrev pub candidate_of : ℤ → Option Next → Candidate
 candidate_of asked (Some n) = event n
 candidate_of asked None = asked_beat asked

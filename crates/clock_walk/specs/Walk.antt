@@ -8,7 +8,7 @@ use Rattle.clock_walk.specs.Course.{Stopped, pass_while}
 use Rattle.chart.specs.declared.State.{State}
 use Rattle.clock_walk.specs.declared.Walked.{Walked}
 
-abbrev pub is_passes : (Option Next) → Bool
+abbrev pub is_passes : Option Next → Bool
 is_passes (Some n) = true
 is_passes None = false
 

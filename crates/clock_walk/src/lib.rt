@@ -189,10 +189,7 @@ pub fn find_ahead(heads: Heads) -> Option<Next>
     ensures { result ≡ ahead_of heads }
 {
     let next = least_head(heads);
-    if next.row < 2147483647 {
-        return Some(next);
-    }
-    None
+    (next.row < 2147483647).then_some(next)
 }
 
 fn goes_first(kind: Event) -> bool
@@ -253,10 +250,7 @@ fn find_due(heads: Heads, asked: i32) -> Option<Next>
     ensures { result ≡ due_of asked (ahead_of heads) }
 {
     let next = least_head(heads);
-    if goes_before(next, asked) {
-        return Some(next);
-    }
-    None
+    goes_before(next, asked).then_some(next)
 }
 
 // ---- time

@@ -32,7 +32,7 @@ elapsed-of c = c.args.elapsed
 abbrev early-of : At-loop-tempo → Float
 early-of c = c.args.early
 
-ahead-here : (c : At-loop-tempo) (x : (Option Next)) → ahead_of c.loop-tempo.heads ≡ x → ahead (timing-of c) c.loop-tempo.state ≡ x
+ahead-here : (c : At-loop-tempo) (x : Option Next) → ahead_of c.loop-tempo.heads ≡ x → ahead (timing-of c) c.loop-tempo.state ≡ x
 ahead-here c x e = sym (ap ahead_of c.loop-tempo.invariant.1 ∙ ahead_by_heads (timing-of c) c.loop-tempo.state) ∙ e
 
 module _ (c : At-loop-tempo) (n : Next) (is : ahead (timing-of c) c.loop-tempo.state ≡ Some n) where

@@ -39,7 +39,7 @@ start_at c = c.args.start
 abbrev heads_at : At-loop-tempo → State → Heads
 heads_at c s = let t = timing_at c in heads_of t.tempo_beats t.stop_beats t.delay_beats t.warp_beats s
 
-due-here : (c : At-loop-tempo) (d : (Option Next)) → due_of (asked_at c) (ahead_of c.loop-tempo.heads) ≡ d → due (timing_at c) (asked_at c) c.loop-tempo.state ≡ d
+due-here : (c : At-loop-tempo) (d : Option Next) → due_of (asked_at c) (ahead_of c.loop-tempo.heads) ≡ d → due (timing_at c) (asked_at c) c.loop-tempo.state ≡ d
 due-here c d e =
     let r = asked_at c in
     sym (ap (λ (h : Heads). due_of r (ahead_of h)) c.loop-tempo.invariant.1 ∙ ap (due_of r) (ahead_by_heads (timing_at c) c.loop-tempo.state)) ∙ e
