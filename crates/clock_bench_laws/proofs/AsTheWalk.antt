@@ -1,4 +1,5 @@
 -- Running down the list from a spot comes to what a walk from that state comes to, event by event. Assumes nothing.
+use Rattle.std.specs.Prelude.{Option, Some, None}
 use Prim.Native.Nat.{ℕ, zero, suc, ◌+◌, ◌-◌, ◌≤◌, ◌<◌}
 use mathlib.Core.List.{List, [], ◌∷◌}
 use mathlib.Core.Bool.{Bool, true, false}
@@ -21,9 +22,6 @@ use Rattle.clock_walk.specs.Walk.{is_passes, is_due}
 use Rattle.clock_walk.specs.declared.Next.{Next}
 use Rattle.clock_walk.specs.declared.Event.{Event}
 use Rattle.clock_walk.specs.declared.Event.TheVariants.{WarpEnd, Tempo, Delay, Stop, Warp}
-use Rattle.clock_walk.specs.declared.Ahead.{Ahead}
-use Rattle.clock_walk.specs.declared.Ahead.TheVariants.{Found, NotFound}
-use Rattle.clock_walk.specs.declared.Due.TheVariants.{Passes, Asked}
 use Rattle.clock_walk.proofs.EventByEvent.{left-falls}
 use Rattle.clock_walk.proofs.AllWalks.{pass_on, pass-end}
 use Rattle.clock_walk.proofs.ClockTest.{says_due}
@@ -43,9 +41,9 @@ kind_of Delay = delay_begins
 kind_of Stop = stop_begins
 kind_of Warp = warp_begins
 
-abbrev head_of : Ahead → Head
-head_of (Found n) = record { row = n.row; kind = kind_of n.kind }
-head_of NotFound = nothing_left
+abbrev head_of : Option Next → Head
+head_of (Some n) = record { row = n.row; kind = kind_of n.kind }
+head_of None = nothing_left
 
 abbrev pub spot_of : State → Spot
 spot_of s = record { tempos = s.tempos; stops = s.stops; delays = s.delays; warps = s.warps; end = s.end; warping = s.warping }
@@ -55,32 +53,32 @@ runner_of early t s n = record { row = s.row; time = s.time; tempo = in_force ea
 
 -- ---- which event falls next
 
-head_row : (a : Ahead) → (head_of a).row ≡ row_ahead a
-head_row (Found n) = refl
-head_row NotFound = refl
+head_row : (a : Option Next) → (head_of a).row ≡ row_ahead a
+head_row (Some n) = refl
+head_row None = refl
 
-lower_as : (a : Ahead) (at : ℤ) (k : Event) → lower_head (head_of a) at (kind_of k) ≡ head_of (sooner row_ahead a (Found (record { row = at; kind = k })))
+lower_as : (a : Option Next) (at : ℤ) (k : Event) → lower_head (head_of a) at (kind_of k) ≡ head_of (sooner row_ahead a (Some (record { row = at; kind = k })))
 unfolding lower_head sooner
 lower_as a at k = rw (head_row a) (go (lt_z at (row_ahead a)))
   where
-    go : (b : Bool) → pick b (record { row = at; kind = kind_of k }) (head_of a) ≡ head_of (pick b (Found (record { row = at; kind = k })) a)
+    go : (b : Bool) → pick b (record { row = at; kind = kind_of k }) (head_of a) ≡ head_of (pick b (Some (record { row = at; kind = k })) a)
     go true = refl
     go false = refl
 
-entry_as : (a : Ahead) (beats : List Float) (place : ℕ) (k : Event) → or_entry (head_of a) beats place (kind_of k) ≡ head_of (offered row_ahead Found a beats place k)
+entry_as : (a : Option Next) (beats : List Float) (place : ℕ) (k : Event) → or_entry (head_of a) beats place (kind_of k) ≡ head_of (offered row_ahead Some a beats place k)
 unfolding or_entry offered
 entry_as a beats place k = go (ltb place (length beats))
   where
     at : ℤ
     at = row binary64 (get_or beats place nan)
 
-    go : (b : Bool) → pick b (lower_head (head_of a) at (kind_of k)) (head_of a) ≡ head_of (pick b (sooner row_ahead a (Found (record { row = at; kind = k }))) a)
+    go : (b : Bool) → pick b (lower_head (head_of a) at (kind_of k)) (head_of a) ≡ head_of (pick b (sooner row_ahead a (Some (record { row = at; kind = k }))) a)
     go true = lower_as a at k
     go false = refl
 
-end_as : (warping : Bool) (end : Float) → or_end nothing_left warping end ≡ head_of (end_offered row_ahead Found NotFound warping end)
+end_as : (warping : Bool) (end : Float) → or_end nothing_left warping end ≡ head_of (end_offered row_ahead Some None warping end)
 unfolding or_end end_offered
-end_as true end = lower_as NotFound (row binary64 end) WarpEnd
+end_as true end = lower_as None (row binary64 end) WarpEnd
 end_as false end = refl
 
 module _ (t : Timing) (s : State) where
@@ -143,11 +141,11 @@ some-kind Stop = refl
 some-kind Warp = refl
 
 module _ (early : Float) (t : Timing) (s : State) (f : ℕ) where
-  list-none : ahead t s ≡ NotFound → listed_within (suc f) t (spot_of s) ≡ []
+  list-none : ahead t s ≡ None → listed_within (suc f) t (spot_of s) ≡ []
   unfolding listed_within next_listed
   list-none is = rw (head_as t s, is)
 
-  list-some : (n : Next) → ahead t s ≡ Found n → listed_within (suc f) t (spot_of s)
+  list-some : (n : Next) → ahead t s ≡ Some n → listed_within (suc f) t (spot_of s)
       ≡ record { row = n.row; kind = kind_of n.kind; number = number_for early t s n.kind } ∷ listed_within f t (spot_of (passing early t s n))
   unfolding listed_within next_listed
   list-some n is = rw (head_as t s, is, some-kind n.kind, spot-by early t s n.row n.kind)
@@ -172,12 +170,12 @@ module _ (early : Float) (t : Timing) (r : ℤ) where
   unfolding run_down
   run-some x e list b h = rw h
 
-  due_of_lem : (s : State) (n : Next) (b : Bool) → ahead t s ≡ Found n → goes_before r n ≡ b → is_due t r s ≡ b
+  due_of_lem : (s : State) (n : Next) (b : Bool) → ahead t s ≡ Some n → goes_before r n ≡ b → is_due t r s ≡ b
   due_of_lem s n true is h = rw (is, h)
   due_of_lem s n false is h = rw (is, h)
 
   -- one event more, where what is left runs as it is walked
-  one_more : (f : ℕ) (s : State) (n : ℕ) (m : Next) (b : Bool) → ahead t s ≡ Found m → goes_before r m ≡ b
+  one_more : (f : ℕ) (s : State) (n : ℕ) (m : Next) (b : Bool) → ahead t s ≡ Some m → goes_before r m ≡ b
       → (is_due t r s ≡ true → run_down r (runner_of early t (passing early t s m) (n + 1)) (listed_within f t (spot_of (passing early t s m))) ≡ at_end (stopped (passing early t s m) (n + 1)))
       → run_down r (runner_of early t s n) (listed_within (suc f) t (spot_of s)) ≡ at_end (stopped s n)
   one_more f s n m b is h later =
@@ -196,11 +194,11 @@ module _ (early : Float) (t : Timing) (r : ℤ) where
           ∙ ap (λ (x : State). at_end (stopped x (n + 1))) (sym on)
           ∙ ap at_end (sym (pass_on early t (is_due t r) (says_due t r) s n d))
 
-  by-ahead : (f : ℕ) (s : State) (n : ℕ) (a : Ahead) → ahead t s ≡ a
+  by-ahead : (f : ℕ) (s : State) (n : ℕ) (a : Option Next) → ahead t s ≡ a
       → (is_due t r s ≡ true → run_down r (runner_of early t (onward early t s) (n + 1)) (listed_within f t (spot_of (onward early t s))) ≡ at_end (stopped (onward early t s) (n + 1)))
       → run_down r (runner_of early t s n) (listed_within (suc f) t (spot_of s)) ≡ at_end (stopped s n)
-  by-ahead f s n NotFound is later = ap (run_down r (runner_of early t s n)) (list-none early t s f is) ∙ run_none (runner_of early t s n) ∙ not_due_lem s n (rw is)
-  by-ahead f s n (Found m) is later = one_more f s n m (goes_before r m) is refl (λ d. subst (λ (x : State). run_down r (runner_of early t x (n + 1)) (listed_within f t (spot_of x)) ≡ at_end (stopped x (n + 1))) (ap (past_found early t s) is) (later d))
+  by-ahead f s n None is later = ap (run_down r (runner_of early t s n)) (list-none early t s f is) ∙ run_none (runner_of early t s n) ∙ not_due_lem s n (rw is)
+  by-ahead f s n (Some m) is later = one_more f s n m (goes_before r m) is refl (λ d. subst (λ (x : State). run_down r (runner_of early t x (n + 1)) (listed_within f t (spot_of x)) ≡ at_end (stopped x (n + 1))) (ap (past_found early t s) is) (later d))
 
   none-due : (s : State) (b : Bool) → is_due t r s ≡ b → events_left t s ≤ 0 → is_due t r s ≡ false
   none-due s true e l = let k = left-falls early t s (says_due t r s e) in absurd (omega arith)

@@ -1,4 +1,6 @@
 -- What is over by a time is over by every later one, so that a walk to a later time goes on from where the earlier one stopped. Assumes nothing.
+use Rattle.clock_walk.specs.declared.Next.{Next}
+use Rattle.std.specs.Prelude.{Option, Some, None}
 use Prim.Native.Nat.{ℕ, zero, suc, ◌+◌, ◌*◌, ◌^◌, ◌<◌, ◌≤◌}
 use mathlib.Core.Bool.{Bool, true, false, not}
 use mathlib.Core.Logic.{⊎_elim}
@@ -16,8 +18,6 @@ use Rattle.chart.specs.declared.State.{State}
 use Rattle.clock_walk.specs.Events.{ahead}
 use Rattle.clock_walk.specs.Course.{onward, events_left, pass_within, pass_while}
 use Rattle.clock_walk.specs.ByTime.{has_come, is_delay_or_stop, still_runs, over_by, is_found_over, is_ahead_over, passed_by, stopped_by, walk_by}
-use Rattle.clock_walk.specs.declared.Ahead.{Ahead}
-use Rattle.clock_walk.specs.declared.Ahead.TheVariants.{Found, NotFound}
 use Rattle.clock_walk.specs.declared.ByTime.{ByTime}
 use Rattle.clock_walk.proofs.LaterBeats.{number}
 use Rattle.clock_walk.proofs.EventByEvent.{count_fits}
@@ -57,10 +57,10 @@ module _ (early : Float) (t : Timing) where
   by_tests false b false d e h f g = rw (f refl) refl
 
   module _ (first later : Float) (h : le first later ≡ true) where
-    found-over : (s : State) (a : Ahead) → is_found_over first early t s a ≡ true → is_found_over later early t s a ≡ true
+    found-over : (s : State) (a : Option Next) → is_found_over first early t s a ≡ true → is_found_over later early t s a ≡ true
     unfolding over_by has_come still_runs
-    found-over s (Found n) o = by_tests (lt first _) (lt first _) (is_delay_or_stop n.kind) (lt later _) (lt later _) o (not_above_lem first later _ h) (not_above_lem first later _ h)
-    found-over s NotFound o = no o
+    found-over s (Some n) o = by_tests (lt first _) (lt first _) (is_delay_or_stop n.kind) (lt later _) (lt later _) o (not_above_lem first later _ h) (not_above_lem first later _ h)
+    found-over s None o = no o
 
     over-later : (s : State) → is_ahead_over first early t s ≡ true → is_ahead_over later early t s ≡ true
     over-later s o = found-over s (ahead t s) o

@@ -1,4 +1,5 @@
 -- Where time does not fall, what goes before a beat is passed by its time (`AskedBack`). Assumes nothing.
+use Rattle.std.specs.Prelude.{Option, Some, None}
 use Prim.Native.Nat.{ℕ, zero, suc, ◌+◌, ◌≤◌}
 use mathlib.Core.Bool.{Bool, true, false, not}
 use mathlib.Core.Path.{◌≡◌, refl, sym, ap, ◌∙◌}
@@ -20,8 +21,6 @@ use Rattle.clock_walk.specs.ByTime.{has_come, still_runs, over_by, is_ahead_over
 use Rattle.clock_walk.specs.declared.Next.{Next}
 use Rattle.clock_walk.specs.declared.Event.{Event}
 use Rattle.clock_walk.specs.declared.Event.TheVariants.{WarpEnd, Tempo, Delay, Stop, Warp}
-use Rattle.clock_walk.specs.declared.Ahead.{Ahead}
-use Rattle.clock_walk.specs.declared.Ahead.TheVariants.{Found, NotFound}
 use Rattle.clock_walk.proofs.EventByEvent.{left-falls}
 use Rattle.clock_walk.proofs.AllWalks.{pass_on, pass-end}
 use Rattle.clock_walk.proofs.ClockTest.{says_due, walk-on, walk_end}
@@ -56,16 +55,16 @@ module _ (early : Float) (t : Timing) where
       rw (not_above_lem (time_at early t.tempo_values s n.row) time come, kind-over s time (time_at early t.tempo_values s n.row) (brings t.stop_values t.delay_values t.warp_beats t.warp_lengths s n.kind) n.row n.kind after) refl
 
   -- what is ahead, where time holds past it
-  past : (s : State) (time : Float) (a : Ahead) → ahead t s ≡ a → is_found a ≡ true → holds_past early t s ≡ true → T (le (onward early t s).time time)
+  past : (s : State) (time : Float) (a : Option Next) → ahead t s ≡ a → is_found a ≡ true → holds_past early t s ≡ true → T (le (onward early t s).time time)
       → (is_ahead_over time early t s ≡ true) × T (le s.time time)
   unfolding holds_past
-  past s time (Found n) is found holds after =
+  past s time (Some n) is found holds after =
       let comes = time_at early t.tempo_values s n.row in
       let parts = both (le s.time comes) (le comes (passing early t s n).time) (rw is at holds) in
       let left : T (le (passing early t s n).time time) = rw is at after in
       let come = float_le_trans comes (passing early t s n).time time (passes _ parts.1) left in
       (rw is (over-past s time n come left), float_le_trans s.time comes time (passes _ parts.0) come)
-  past s time NotFound is found holds after = no found
+  past s time None is found holds after = no found
 
   module _ (r : ℤ) (time : Float) where
     abbrev more : State → Bool

@@ -1,4 +1,5 @@
 -- A walk to a row is the walk over the lists cut at that row. Assumes nothing.
+use Rattle.std.specs.Prelude.{Option, Some, None}
 use Prim.Native.Nat.{ℕ, zero, suc, ◌+◌, ◌-◌, ◌≤◌, ◌<◌}
 use mathlib.Core.List.{List}
 use mathlib.Core.Bool.{Bool, true, false}
@@ -20,8 +21,6 @@ use Rattle.clock_walk.specs.Walk.{is_passes, is_due, walk_on}
 use Rattle.clock_walk.specs.declared.Next.{Next}
 use Rattle.clock_walk.specs.declared.Event.{Event}
 use Rattle.clock_walk.specs.declared.Event.TheVariants.{WarpEnd, Tempo, Delay, Stop, Warp}
-use Rattle.clock_walk.specs.declared.Due.{Due}
-use Rattle.clock_walk.specs.declared.Due.TheVariants.{Passes, Asked}
 use Rattle.rows.proofs.RowOrder.{no}
 use Rattle.clock_walk.proofs.EachCandidate.{Placed, placed}
 use Rattle.clock_walk.proofs.EventByEvent.{left-falls}
@@ -73,11 +72,11 @@ module _ (early : Float) (t : Timing) (r : ℤ) where
   same-onward : (s : State) → PlacesWithin u s → is_due t r s ≡ true → onward early t s ≡ onward early u s
   same-onward s within h = go (due t r s) refl h
     where
-      go : (d : Due) → due t r s ≡ d → is_passes d ≡ true → onward early t s ≡ onward early u s
-      go (Passes n) e h =
-          let f : due u r s ≡ Passes n = sym (same-due r t s within) ∙ e in
+      go : (d : Option Next) → due t r s ≡ d → is_passes d ≡ true → onward early t s ≡ onward early u s
+      go (Some n) e h =
+          let f : due u r s ≡ Some n = sym (same-due r t s within) ∙ e in
           due-passed early t r s n e ∙ same-passing s n within (placed u s n (due-found r (ahead u s) n f)) ∙ sym (due-passed early u r s n f)
-      go Asked e h = no h
+      go None e h = no h
 
   -- ---- the walk
   due-there : (s : State) (b : Bool) → PlacesWithin u s → is_due t r s ≡ b → is_due u r s ≡ b

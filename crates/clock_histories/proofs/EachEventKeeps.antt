@@ -1,4 +1,6 @@
 -- Every walk from a state that is fine, over lists that are taken, stays fine: its places, its last row, its time and its warp's end stay within bounds. Assumes nothing.
+use Rattle.clock_walk.specs.declared.Next.{Next}
+use Rattle.std.specs.Prelude.{Option, Some, None}
 use Prim.Native.Nat.{ℕ, ◌+◌, ◌-◌, ◌*◌, ◌^◌, ◌≤◌, ◌<◌}
 use mathlib.Core.List.{List}
 use mathlib.Core.Bool.{Bool, true, false}
@@ -29,8 +31,6 @@ use Rattle.clock_walk.specs.Walk.{is_due, walk_on, walk}
 use Rattle.chart.specs.declared.State.{State}
 use Rattle.clock_walk.specs.declared.Event.{Event}
 use Rattle.clock_walk.specs.declared.Event.TheVariants.{WarpEnd, Tempo, Delay, Stop, Warp}
-use Rattle.clock_walk.specs.declared.Ahead.{Ahead}
-use Rattle.clock_walk.specs.declared.Ahead.TheVariants.{Found, NotFound}
 use Rattle.rows.proofs.RowOrder.{no}
 use Rattle.clock_walk.proofs.EachCandidate.{Placed, PlacedFound, placed-ahead, of_ahead}
 use Rattle.clock_walk.proofs.BeforeAnyTempo.{UpTo, onward-row}
@@ -102,7 +102,7 @@ module _ (t : Timing) (lists : ListsTaken t) (r : ℤ) (asked : nat_abs r ≤ mo
   due-near : (s : State) → EndFine s.end → is_due t r s ≡ true → nat_abs (row_ahead (ahead t s)) ≤ most_row
   due-near s e d =
       brought_near r (row_ahead (ahead t s)) asked (due_up_to r t s d)
-      (of_ahead (λ (a : Ahead). NotFar (row_ahead a)) t s
+      (of_ahead (λ (a : Option Next). NotFar (row_ahead a)) t s
       (inr (2147483647, refl))
       (λ _. inr (row_not_negative binary64 s.end e.num e.den e.den_pos e.value e.small))
       (row_at t.tempo_beats s.tempos lists.tempos.beats_in)
@@ -135,16 +135,16 @@ module _ (t : Timing) (lists : ListsTaken t) (r : ℤ) (asked : nat_abs r ≤ mo
   time-after s at time k Warp l p h = at_most_wider (omega arith) h
 
   module _ (early : Float) (tempo : IsTempo early) where
-    end-found : (s : State) (a : Ahead) → PlacedFound t s a → EndFine s.end → EndFine (past_found early t s a).end
+    end-found : (s : State) (a : Option Next) → PlacedFound t s a → EndFine s.end → EndFine (past_found early t s a).end
     unfolding event_passed
-    end-found s (Found n) p e = end_after s n.row _ n.kind p e
-    end-found s NotFound p e = e
+    end-found s (Some n) p e = end_after s n.row _ n.kind p e
+    end-found s None p e = e
 
-    time-found : (s : State) (k : ℕ) (a : Ahead) → k + 1 ≤ 2 ^ 20 → PlacedFound t s a → AtMost (spans k) s.time → AtMost (spans k) (time_at early t.tempo_values s (row_ahead a))
+    time-found : (s : State) (k : ℕ) (a : Option Next) → k + 1 ≤ 2 ^ 20 → PlacedFound t s a → AtMost (spans k) s.time → AtMost (spans k) (time_at early t.tempo_values s (row_ahead a))
         → AtMost (spans (k + 1)) (past_found early t s a).time
     unfolding event_passed
-    time-found s k (Found n) l p before h = time-after s n.row _ k n.kind l p h
-    time-found s k NotFound l p before h = at_most_wider (omega arith) before
+    time-found s k (Some n) l p before h = time-after s n.row _ k n.kind l p h
+    time-found s k None l p before h = at_most_wider (omega arith) before
 
     -- the time at a row within the limit
     time-there : (s : State) (n : ℕ) → Fine t s n → (at : ℤ) → nat_abs at ≤ most_row → AtMost (spans (spans_after n + 1)) (time_at early t.tempo_values s at)

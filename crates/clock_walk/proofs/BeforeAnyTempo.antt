@@ -1,5 +1,6 @@
 -- Before any tempo is passed, a walk that began at row 0 stays at rows up to 0, where the first tempo is. Assumes nothing.
-use Rattle.std.proofs.Common.{◌≡◌, ℕ, ◌<◌, Bool, true, false, ltb, List, length, get_or, ℤ, pos, refl, ap, ◌∙◌, subst, arith, lt-ltb}
+use Rattle.clock_walk.specs.declared.Next.{Next}
+use Rattle.std.proofs.Common.{◌≡◌, ℕ, ◌<◌, Bool, true, false, ltb, List, length, get_or, ℤ, pos, refl, ap, ◌∙◌, subst, arith, lt-ltb, Option, Some, None}
 use lib.Signed.{lt_z}
 use lib.Ieee.{Float, nan, binary64}
 use Rattle.picks.specs.Pick.{pick}
@@ -12,8 +13,6 @@ use Rattle.clock_walk.specs.Walk.{walk_on}
 use Rattle.chart.specs.declared.State.{State}
 use Rattle.clock_walk.specs.declared.Event.{Event}
 use Rattle.clock_walk.specs.declared.Event.TheVariants.{WarpEnd, Tempo, Delay, Stop, Warp}
-use Rattle.clock_walk.specs.declared.Ahead.{Ahead}
-use Rattle.clock_walk.specs.declared.Ahead.TheVariants.{Found, NotFound}
 use Rattle.rows.proofs.RowOrder.{no, le_trans, lt_not, lt_not_self}
 use Rattle.clock_walk.proofs.EarlyTempoApart.{onward-grows}
 use Rattle.clock_walk.proofs.ClockTest.{says_due}
@@ -28,10 +27,10 @@ row_at s at time number Delay = refl
 row_at s at time number Stop = refl
 row_at s at time number Warp = refl
 
-found-row : (early : Float) (t : Timing) (s : State) (a : Ahead) → is_found a ≡ true → (past_found early t s a).row ≡ row_ahead a
+found-row : (early : Float) (t : Timing) (s : State) (a : Option Next) → is_found a ≡ true → (past_found early t s a).row ≡ row_ahead a
 unfolding event_passed
-found-row early t s (Found n) e = row_at s n.row _ _ n.kind
-found-row early t s NotFound e = no e
+found-row early t s (Some n) e = row_at s n.row _ _ n.kind
+found-row early t s None e = no e
 
 pub onward-row : (early : Float) (t : Timing) (s : State) → is_ahead t s ≡ true → (onward early t s).row ≡ row_ahead (ahead t s)
 onward-row early t s e = found-row early t s (ahead t s) e
@@ -41,7 +40,7 @@ abbrev pub UpTo : ℤ → ℤ → Type 0
 UpTo most z = lt_z most z ≡ false
 
 module _ (most : ℤ) where
-  sooner_up_to : (a c : Ahead) → UpTo most (row_ahead a) → UpTo most (row_ahead (sooner row_ahead a c))
+  sooner_up_to : (a c : Option Next) → UpTo most (row_ahead a) → UpTo most (row_ahead (sooner row_ahead a c))
   unfolding sooner
   sooner_up_to a c h = go (lt_z (row_ahead c) (row_ahead a)) refl
     where
@@ -49,21 +48,21 @@ module _ (most : ℤ) where
       go true e = le_trans (row_ahead c) (row_ahead a) most (lt_not (row_ahead c) (row_ahead a) e) h
       go false e = h
 
-  offered_up_to : (a : Ahead) (beats : List Float) (place : ℕ) (k : Event) → UpTo most (row_ahead a) → UpTo most (row_ahead (offered row_ahead Found a beats place k))
+  offered_up_to : (a : Option Next) (beats : List Float) (place : ℕ) (k : Event) → UpTo most (row_ahead a) → UpTo most (row_ahead (offered row_ahead Some a beats place k))
   unfolding offered
   offered_up_to a beats place k h = go (ltb place (length beats))
     where
-      go : (b : Bool) → UpTo most (row_ahead (pick b (sooner row_ahead a (Found (record { row = row binary64 (get_or beats place nan); kind = k }))) a))
-      go true = sooner_up_to a (Found (record { row = row binary64 (get_or beats place nan); kind = k })) h
+      go : (b : Bool) → UpTo most (row_ahead (pick b (sooner row_ahead a (Some (record { row = row binary64 (get_or beats place nan); kind = k }))) a))
+      go true = sooner_up_to a (Some (record { row = row binary64 (get_or beats place nan); kind = k })) h
       go false = h
 
 -- a candidate brings what is ahead to its row or before it
-offered-by : (a : Ahead) (beats : List Float) (place : ℕ) (k : Event) → place < length beats → UpTo (row binary64 (get_or beats place nan)) (row_ahead (offered row_ahead Found a beats place k))
+offered-by : (a : Option Next) (beats : List Float) (place : ℕ) (k : Event) → place < length beats → UpTo (row binary64 (get_or beats place nan)) (row_ahead (offered row_ahead Some a beats place k))
 unfolding offered sooner
 offered-by a beats place k h = rw (lt-ltb place (length beats) h) (go (lt_z (row binary64 (get_or beats place nan)) (row_ahead a)) refl)
   where
     go : (b : Bool) → lt_z (row binary64 (get_or beats place nan)) (row_ahead a) ≡ b
-        → UpTo (row binary64 (get_or beats place nan)) (row_ahead (pick b (Found (record { row = row binary64 (get_or beats place nan); kind = k })) a))
+        → UpTo (row binary64 (get_or beats place nan)) (row_ahead (pick b (Some (record { row = row binary64 (get_or beats place nan); kind = k })) a))
     go true e = lt_not_self (row binary64 (get_or beats place nan))
     go false e = e
 

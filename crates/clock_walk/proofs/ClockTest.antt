@@ -1,5 +1,5 @@
 -- The clock's walk is one whose test is that an event is due: that is what is ahead, and an event that is due by a row is due by every later one. Assumes nothing.
-use Rattle.std.proofs.Common.{◌≡◌, ℕ, ◌+◌, Bool, true, false, ℤ, sym, refl, ap, ◌∙◌}
+use Rattle.std.proofs.Common.{◌≡◌, ℕ, ◌+◌, Bool, true, false, ℤ, sym, refl, ap, ◌∙◌, Option, Some, None}
 use lib.Signed.{lt_z}
 use lib.Ieee.{Float}
 use Rattle.picks.specs.Pick.{pick}
@@ -10,10 +10,6 @@ use Rattle.clock_walk.specs.Passing.{passing}
 use Rattle.clock_walk.specs.Walk.{is_passes, is_due, ended, walk_on}
 use Rattle.chart.specs.declared.State.{State}
 use Rattle.clock_walk.specs.declared.Next.{Next}
-use Rattle.clock_walk.specs.declared.Ahead.{Ahead}
-use Rattle.clock_walk.specs.declared.Ahead.TheVariants.{Found, NotFound}
-use Rattle.clock_walk.specs.declared.Due.{Due}
-use Rattle.clock_walk.specs.declared.Due.TheVariants.{Passes, Asked}
 use Rattle.rows.proofs.RowOrder.{no, lt_le, le_trans, lt_not}
 use Rattle.clock_walk.proofs.AllWalks.{SaysAhead, pass_on, pass-end}
 
@@ -49,34 +45,34 @@ module _ (r : ℤ) where
       either false = refl
 
   -- ---- what is due is what is ahead
-  abbrev passes_or : Next → Due → Next
-  passes_or other (Passes n) = n
-  passes_or other Asked = other
+  abbrev passes_or : Next → Option Next → Next
+  passes_or other (Some n) = n
+  passes_or other None = other
 
-  pub due-found : (a : Ahead) (n : Next) → due_of r a ≡ Passes n → a ≡ Found n
-  due-found (Found m) n e = go (goes_before r m) e
+  pub due-found : (a : Option Next) (n : Next) → due_of r a ≡ Some n → a ≡ Some n
+  due-found (Some m) n e = go (goes_before r m) e
     where
-      go : (b : Bool) → pick b (Passes m) Asked ≡ Passes n → Found m ≡ Found n
-      go true e = ap (λ (d : Due). Found (passes_or m d)) e
+      go : (b : Bool) → pick b (Some m) None ≡ Some n → Some m ≡ Some n
+      go true e = ap (λ (d : Option Next). Some (passes_or m d)) e
       go false e = no (ap is_passes e)
-  due-found NotFound n e = no (ap is_passes e)
+  due-found None n e = no (ap is_passes e)
 
-  found-due : (a : Ahead) → is_passes (due_of r a) ≡ true → is_found a ≡ true
-  found-due (Found n) e = refl
-  found-due NotFound e = no e
+  found-due : (a : Option Next) → is_passes (due_of r a) ≡ true → is_found a ≡ true
+  found-due (Some n) e = refl
+  found-due None e = no e
 
   -- and on no later row
-  up-to : (a : Ahead) → is_passes (due_of r a) ≡ true → lt_z r (row_ahead a) ≡ false
-  up-to (Found n) e = go (goes_before r n) refl e
+  up-to : (a : Option Next) → is_passes (due_of r a) ≡ true → lt_z r (row_ahead a) ≡ false
+  up-to (Some n) e = go (goes_before r n) refl e
     where
-      go : (b : Bool) → goes_before r n ≡ b → is_passes (pick b (Passes n) Asked) ≡ true → lt_z r n.row ≡ false
+      go : (b : Bool) → goes_before r n ≡ b → is_passes (pick b (Some n) None) ≡ true → lt_z r n.row ≡ false
       go true h e = before_le n h
       go false h e = no e
-  up-to NotFound e = no e
+  up-to None e = no e
 
-  not_due_lem : (a : Ahead) → lt_z r (row_ahead a) ≡ true → is_passes (due_of r a) ≡ false
-  not_due_lem (Found n) h = rw (behind n h)
-  not_due_lem NotFound h = refl
+  not_due_lem : (a : Option Next) → lt_z r (row_ahead a) ≡ true → is_passes (due_of r a) ≡ false
+  not_due_lem (Some n) h = rw (behind n h)
+  not_due_lem None h = refl
 
   module _ (t : Timing) (s : State) where
     pub due_up_to : is_due t r s ≡ true → lt_z r (row_ahead (ahead t s)) ≡ false
@@ -101,13 +97,13 @@ later-before r q n later h = go (lt_z n.row q) (lt_z q n.row) (lt_z n.row r) (lt
     go false true false false e f g k h = no (sym (le_trans n.row r q k later) ∙ f)
     go false false false false e f g k h = h
 
-later-due : (r q : ℤ) (a : Ahead) → lt_z q r ≡ false → is_passes (due_of r a) ≡ true → is_passes (due_of q a) ≡ true
-later-due r q (Found n) later e = go (goes_before r n) refl e
+later-due : (r q : ℤ) (a : Option Next) → lt_z q r ≡ false → is_passes (due_of r a) ≡ true → is_passes (due_of q a) ≡ true
+later-due r q (Some n) later e = go (goes_before r n) refl e
   where
-    go : (b : Bool) → goes_before r n ≡ b → is_passes (pick b (Passes n) Asked) ≡ true → is_passes (pick (goes_before q n) (Passes n) Asked) ≡ true
+    go : (b : Bool) → goes_before r n ≡ b → is_passes (pick b (Some n) None) ≡ true → is_passes (pick (goes_before q n) (Some n) None) ≡ true
     go true h e = rw (later-before r q n later h)
     go false h e = no e
-later-due r q NotFound later e = no e
+later-due r q None later e = no e
 
 pub due-later : (t : Timing) (r q : ℤ) → lt_z q r ≡ false → (s : State) → is_due t r s ≡ true → is_due t q s ≡ true
 due-later t r q later s e = later-due r q (ahead t s) later e
@@ -123,5 +119,5 @@ module _ (early : Float) (t : Timing) (r : ℤ) where
   walk_end s n e = ap (ended early t r) (pass-end early t (is_due t r) (says_due t r) s n e)
 
   -- the event that is due is passed
-  pub due-passed : (s : State) (n : Next) → due t r s ≡ Passes n → onward early t s ≡ passing early t s n
+  pub due-passed : (s : State) (n : Next) → due t r s ≡ Some n → onward early t s ≡ passing early t s n
   due-passed s n e = ap (past_found early t s) (due-found r (ahead t s) n e)

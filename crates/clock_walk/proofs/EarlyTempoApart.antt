@@ -1,5 +1,6 @@
 -- Once a tempo is passed, the tempo that a walk began with plays no part. Assumes nothing.
-use Rattle.std.proofs.Common.{◌≡◌, ℕ, zero, suc, ◌+◌, ◌<◌, ◌≤◌, Bool, true, false, List, ℤ, refl, ap, ◌∙◌, arith, ne_eqb}
+use Rattle.clock_walk.specs.declared.Next.{Next}
+use Rattle.std.proofs.Common.{◌≡◌, ℕ, zero, suc, ◌+◌, ◌<◌, ◌≤◌, Bool, true, false, List, ℤ, refl, ap, ◌∙◌, arith, ne_eqb, Option, Some, None}
 use lib.Ieee.{Float}
 use Rattle.chart.specs.Timing.{Timing}
 use Rattle.clock_walk.specs.Events.{ahead}
@@ -9,8 +10,6 @@ use Rattle.clock_walk.specs.Walk.{is_due, ended, walk_on}
 use Rattle.chart.specs.declared.State.{State}
 use Rattle.clock_walk.specs.declared.Event.{Event}
 use Rattle.clock_walk.specs.declared.Event.TheVariants.{WarpEnd, Tempo, Delay, Stop, Warp}
-use Rattle.clock_walk.specs.declared.Ahead.{Ahead}
-use Rattle.clock_walk.specs.declared.Ahead.TheVariants.{Found, NotFound}
 
 -- ---- places only move on
 tempos_grow : (s : State) (at : ℤ) (time number : Float) (k : Event) → s.tempos ≤ (arrived s at time number k).tempos
@@ -21,10 +20,10 @@ tempos_grow s at time number Delay = omega arith
 tempos_grow s at time number Stop = omega arith
 tempos_grow s at time number Warp = omega arith
 
-found-grows : (early : Float) (t : Timing) (s : State) (a : Ahead) → s.tempos ≤ (past_found early t s a).tempos
+found-grows : (early : Float) (t : Timing) (s : State) (a : Option Next) → s.tempos ≤ (past_found early t s a).tempos
 unfolding event_passed
-found-grows early t s (Found n) = tempos_grow s n.row _ _ n.kind
-found-grows early t s NotFound = omega arith
+found-grows early t s (Some n) = tempos_grow s n.row _ _ n.kind
+found-grows early t s None = omega arith
 
 pub onward-grows : (early : Float) (t : Timing) (s : State) → s.tempos ≤ (onward early t s).tempos
 onward-grows early t s = found-grows early t s (ahead t s)
@@ -38,10 +37,10 @@ module _ (one other : Float) where
   unfolding time_at time_to
   time-apart values s at h = rw (force_apart values s.tempos h)
 
-  found-apart : (t : Timing) (s : State) (a : Ahead) → 0 < s.tempos → past_found one t s a ≡ past_found other t s a
-  found-apart t s (Found n) h =
+  found-apart : (t : Timing) (s : State) (a : Option Next) → 0 < s.tempos → past_found one t s a ≡ past_found other t s a
+  found-apart t s (Some n) h =
       ap (λ (x : Float). event_passed s n x (brings t.stop_values t.delay_values t.warp_beats t.warp_lengths s n.kind)) (time-apart t.tempo_values s n.row h)
-  found-apart t s NotFound h = refl
+  found-apart t s None h = refl
 
   module _ (t : Timing) (more : State → Bool) where
     within-apart : (f : ℕ) (b : Bool) (s : State) (n : ℕ) → more s ≡ b → 0 < s.tempos → pass_within f more one t s n ≡ pass_within f more other t s n

@@ -1,5 +1,5 @@
 -- Every event that is passed lessens what is left to pass, so that places and counts fit their integers. Assumes nothing.
-use Rattle.std.proofs.Common.{◌≡◌, ℕ, suc, ◌+◌, ◌-◌, ◌*◌, ◌^◌, ◌<◌, ◌≤◌, Bool, true, false, length, ℤ, arith}
+use Rattle.std.proofs.Common.{◌≡◌, ℕ, suc, ◌+◌, ◌-◌, ◌*◌, ◌^◌, ◌<◌, ◌≤◌, Bool, true, false, length, ℤ, arith, Option, Some, None}
 use lib.Ieee.{Float}
 use Rattle.chart.specs.Timing.{Timing}
 use Rattle.clock_walk.specs.Events.{ahead}
@@ -10,8 +10,6 @@ use Rattle.chart.specs.declared.State.{State}
 use Rattle.clock_walk.specs.declared.Next.{Next}
 use Rattle.clock_walk.specs.declared.Event.{Event}
 use Rattle.clock_walk.specs.declared.Event.TheVariants.{WarpEnd, Tempo, Delay, Stop, Warp}
-use Rattle.clock_walk.specs.declared.Ahead.{Ahead}
-use Rattle.clock_walk.specs.declared.Ahead.TheVariants.{Found, NotFound}
 use Rattle.rows.proofs.RowOrder.{no}
 use Rattle.clock_walk.proofs.EachCandidate.{Placed, PlacedFound, placed-ahead, placed}
 
@@ -28,10 +26,10 @@ fewer t s at time number Delay p = omega arith
 fewer t s at time number Stop p = omega arith
 fewer t s at time number Warp p = let h = one_le s.warping in omega arith
 
-found-falls : (early : Float) (t : Timing) (s : State) (a : Ahead) → PlacedFound t s a → is_found a ≡ true → events_left t (past_found early t s a) < events_left t s
+found-falls : (early : Float) (t : Timing) (s : State) (a : Option Next) → PlacedFound t s a → is_found a ≡ true → events_left t (past_found early t s a) < events_left t s
 unfolding event_passed
-found-falls early t s (Found n) p e = fewer t s n.row _ _ n.kind p
-found-falls early t s NotFound p e = no e
+found-falls early t s (Some n) p e = fewer t s n.row _ _ n.kind p
+found-falls early t s None p e = no e
 
 pub left-falls : (early : Float) (t : Timing) (s : State) → is_ahead t s ≡ true → events_left t (onward early t s) < events_left t s
 left-falls early t s e = found-falls early t s (ahead t s) (placed-ahead t s) e
@@ -45,7 +43,7 @@ can_move t s Delay p a b c d = omega arith
 can_move t s Stop p a b c d = omega arith
 can_move t s Warp p a b c d = omega arith
 
-pub moves : (t : Timing) (s : State) (n : Next) → ahead t s ≡ Found n
+pub moves : (t : Timing) (s : State) (n : Next) → ahead t s ≡ Some n
     → length t.tempo_beats * 4 < 2 ^ 63 → length t.stop_beats * 4 < 2 ^ 63 → length t.delay_beats * 4 < 2 ^ 63 → length t.warp_beats * 4 < 2 ^ 63 → CanMove s n.kind
 moves t s n is a b c d = can_move t s n.kind (placed t s n is) a b c d
 

@@ -1,5 +1,5 @@
 -- What is ahead, and so what is due, is found by the heads' rows alone, and an event moves only the heads that it passed. Assumes nothing.
-use Rattle.std.proofs.Common.{◌≡◌, ℕ, Bool, true, false, ltb, ◌⊎◌, List, length, get_or, ℤ, pos, negsuc, refl, ap, ◌∙◌, inl, inr, arith, w32, SFits, le-ltb}
+use Rattle.std.proofs.Common.{◌≡◌, ℕ, Bool, true, false, ltb, ◌⊎◌, List, length, get_or, ℤ, pos, negsuc, refl, ap, ◌∙◌, inl, inr, arith, w32, SFits, le-ltb, Option, Some, None}
 use lib.Signed.{lt_z}
 use lib.Ieee.{Float, nan, binary64}
 use Rattle.picks.specs.Pick.{pick}
@@ -14,9 +14,6 @@ use Rattle.clock_walk.specs.declared.Next.{Next}
 use Rattle.clock_walk.specs.declared.Heads.{Heads}
 use Rattle.clock_walk.specs.declared.Event.{Event}
 use Rattle.clock_walk.specs.declared.Event.TheVariants.{WarpEnd, Tempo, Delay, Stop, Warp}
-use Rattle.clock_walk.specs.declared.Ahead.{Ahead}
-use Rattle.clock_walk.specs.declared.Ahead.TheVariants.{Found, NotFound}
-use Rattle.clock_walk.specs.declared.Due.TheVariants.{Passes, Asked}
 use Rattle.rows.proofs.RowOrder.{lt_le, le_trans, lt_not, lt_not_self}
 use Rattle.clock_walk.proofs.ClockTest.{first_up_to}
 
@@ -30,7 +27,7 @@ module _ (best : Next) (low : lt_z farthest best.row ≡ false) where
       go true e = le_trans at best.row farthest (lt_not at best.row e) low
       go false e = low
 
-  one_more : (at : ℤ) (k : Event) → found_at (sooner_head best at k) ≡ sooner row_ahead (found_at best) (Found (record { row = at; kind = k }))
+  one_more : (at : ℤ) (k : Event) → found_at (sooner_head best at k) ≡ sooner row_ahead (found_at best) (Some (record { row = at; kind = k }))
   unfolding sooner_head sooner
   one_more at k = go (lt_z at best.row) (lt_z best.row farthest) refl refl
     where
@@ -38,7 +35,7 @@ module _ (best : Next) (low : lt_z farthest best.row ≡ false) where
       new = record { row = at; kind = k }
 
       go : (b c : Bool) → lt_z at best.row ≡ b → lt_z best.row farthest ≡ c
-          → pick (lt_z (pick b new best).row farthest) (Found (pick b new best)) NotFound ≡ pick (lt_z at (row_ahead (pick c (Found best) NotFound))) (Found new) (pick c (Found best) NotFound)
+          → pick (lt_z (pick b new best).row farthest) (Some (pick b new best)) None ≡ pick (lt_z at (row_ahead (pick c (Some best) None))) (Some new) (pick c (Some best) None)
       go true true e f = rw (e, lt_le at best.row farthest e low)
       go true false e f = rw (lt_le at best.row farthest e low)
       go false true e f = rw (e, f)
@@ -48,18 +45,18 @@ module _ (best : Next) (low : lt_z farthest best.row ≡ false) where
   unfolding sooner_head sooner
   behind-all k = rw low
 
-  entry_more : (beats : List Float) (place : ℕ) (k : Event) → found_at (sooner_head best (row_at beats place) k) ≡ offered row_ahead Found (found_at best) beats place k
+  entry_more : (beats : List Float) (place : ℕ) (k : Event) → found_at (sooner_head best (row_at beats place) k) ≡ offered row_ahead Some (found_at best) beats place k
   unfolding offered row_at
   entry_more beats place k = go (ltb place (length beats))
     where
       at : ℤ
       at = row binary64 (get_or beats place nan)
 
-      go : (b : Bool) → found_at (sooner_head best (pick b at farthest) k) ≡ pick b (sooner row_ahead (found_at best) (Found (record { row = at; kind = k }))) (found_at best)
+      go : (b : Bool) → found_at (sooner_head best (pick b at farthest) k) ≡ pick b (sooner row_ahead (found_at best) (Some (record { row = at; kind = k }))) (found_at best)
       go true = one_more at k
       go false = ap found_at (behind-all k)
 
-  end_more : (warping : Bool) (end : Float) → found_at (sooner_head best (end_row warping end) WarpEnd) ≡ end_offered row_ahead Found (found_at best) warping end
+  end_more : (warping : Bool) (end : Float) → found_at (sooner_head best (end_row warping end) WarpEnd) ≡ end_offered row_ahead Some (found_at best) warping end
   unfolding end_offered end_row
   end_more true end = one_more (row binary64 end) WarpEnd
   end_more false end = ap found_at (behind-all WarpEnd)
@@ -76,10 +73,10 @@ ahead_by_heads t s =
     let low3 = stays-low tempo low2 (row_at t.delay_beats s.delays) Delay in
     let stop = sooner_head delay (row_at t.stop_beats s.stops) Stop in
     let low4 = stays-low delay low3 (row_at t.stop_beats s.stops) Stop in
-    let with_warp : Ahead → Ahead = λ a. offered row_ahead Found a t.warp_beats s.warps Warp in
-    let with_stop : Ahead → Ahead = λ a. with_warp (offered row_ahead Found a t.stop_beats s.stops Stop) in
-    let with_delay : Ahead → Ahead = λ a. with_stop (offered row_ahead Found a t.delay_beats s.delays Delay) in
-    let with_tempo : Ahead → Ahead = λ a. with_delay (offered row_ahead Found a t.tempo_beats s.tempos Tempo) in
+    let with_warp : Option Next → Option Next = λ a. offered row_ahead Some a t.warp_beats s.warps Warp in
+    let with_stop : Option Next → Option Next = λ a. with_warp (offered row_ahead Some a t.stop_beats s.stops Stop) in
+    let with_delay : Option Next → Option Next = λ a. with_stop (offered row_ahead Some a t.delay_beats s.delays Delay) in
+    let with_tempo : Option Next → Option Next = λ a. with_delay (offered row_ahead Some a t.tempo_beats s.tempos Tempo) in
     entry_more stop low4 t.warp_beats s.warps Warp
     ∙ ap with_warp (entry_more delay low3 t.stop_beats s.stops Stop)
     ∙ ap with_stop (entry_more tempo low2 t.delay_beats s.delays Delay)
@@ -122,13 +119,13 @@ none_before r e = rw e (either (lt_z r farthest))
     either false = refl
 
 module _ (h : Heads) (r : ℤ) (fits : lt_z farthest r ≡ false) where
-  by-least : (n : Next) → Found_or_none n → due_of r (found_at n) ≡ pick (goes_before r n) (Passes n) Asked
+  by-least : (n : Next) → Found_or_none n → due_of r (found_at n) ≡ pick (goes_before r n) (Some n) None
   by-least n (inl near) = rw near
   by-least n (inr none) = rw (none, none_before r fits)
 
-  pub due_by_least : (b : Bool) → goes_before r (least_head h) ≡ b → due_of r (ahead_of h) ≡ pick b (Passes (least_head h)) Asked
+  pub due_by_least : (b : Bool) → goes_before r (least_head h) ≡ b → due_of r (ahead_of h) ≡ pick b (Some (least_head h)) None
   unfolding ahead_of
-  due_by_least b e = by-least (least_head h) (found_or_none h) ∙ ap (λ (x : Bool). pick x (Passes (least_head h)) Asked) e
+  due_by_least b e = by-least (least_head h) (found_or_none h) ∙ ap (λ (x : Bool). pick x (Some (least_head h)) None) e
 
 -- ---- a tempo before all others
 module _ (h : Heads) where
@@ -160,12 +157,12 @@ module _ (h : Heads) where
         ∙ ap (λ (n : Next). sooner_head n h.warp Warp) (stays h.stop Stop stop)
         ∙ stays h.warp Warp warp
 
-    pub tempo-found : ahead_of h ≡ Found tempo_of
+    pub tempo-found : ahead_of h ≡ Some tempo_of
     unfolding ahead_of
     tempo-found = rw (tempo-least, far)
 
   -- the asked beat may be on its row
-  pub tempo-due : ahead_of h ≡ Found tempo_of → (r : ℤ) → lt_z r h.tempo ≡ false → due_of r (ahead_of h) ≡ Passes tempo_of
+  pub tempo-due : ahead_of h ≡ Some tempo_of → (r : ℤ) → lt_z r h.tempo ≡ false → due_of r (ahead_of h) ≡ Some tempo_of
   tempo-due e r up_to_lem = rw (e, first_up_to r tempo_of refl up_to_lem)
 
 -- ---- the heads after an event

@@ -21,3 +21,4 @@ pub mod LaterBeats
 pub mod PlacesWithin
 pub mod OneTempo
 pub mod OverByATime
+pub mod PickedOrNone

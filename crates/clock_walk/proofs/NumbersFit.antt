@@ -1,5 +1,6 @@
 -- The time and the warp's end of a state that a walk comes to are numbers of binary64, if they were where it began. Assumes nothing.
-use Rattle.std.proofs.Common.{ℕ, zero, suc, Bool, true, false, T, length, ℤ}
+use Rattle.clock_walk.specs.declared.Next.{Next}
+use Rattle.std.proofs.Common.{ℕ, zero, suc, Bool, true, false, T, length, ℤ, Option, Some, None}
 use lib.Ieee.{Float, binary64, lt, fits}
 use lib.Ieee.Fits.{add-fits}
 use Rattle.picks.specs.Pick.{pick}
@@ -11,8 +12,6 @@ use Rattle.clock_walk.specs.EndMark.{end_mark}
 use Rattle.chart.specs.declared.State.{State}
 use Rattle.clock_walk.specs.declared.Event.{Event}
 use Rattle.clock_walk.specs.declared.Event.TheVariants.{WarpEnd, Tempo, Delay, Stop, Warp}
-use Rattle.clock_walk.specs.declared.Ahead.{Ahead}
-use Rattle.clock_walk.specs.declared.Ahead.TheVariants.{Found, NotFound}
 
 abbrev pub NumbersFit : State → Type 0
 NumbersFit s = T (fits binary64 s.time) × T (fits binary64 s.end)
@@ -35,10 +34,10 @@ module _ (early : Float) (t : Timing) where
   arrived-fits s at time Stop h f = (add-fits binary64 _ _, h.1)
   arrived-fits s at time Warp h f = (f, larger-fits s.end _ h.1 (add-fits binary64 _ _))
 
-  found-fits : (s : State) (a : Ahead) → NumbersFit s → NumbersFit (past_found early t s a)
+  found-fits : (s : State) (a : Option Next) → NumbersFit s → NumbersFit (past_found early t s a)
   unfolding event_passed time_at
-  found-fits s (Found n) h = arrived-fits s n.row _ n.kind h (add-fits binary64 _ _)
-  found-fits s NotFound h = h
+  found-fits s (Some n) h = arrived-fits s n.row _ n.kind h (add-fits binary64 _ _)
+  found-fits s None h = h
 
   after-fits : (n : ℕ) (s : State) → NumbersFit s → NumbersFit (state_after n early t s)
   unfolding state_after

@@ -1,5 +1,5 @@
 -- Where nothing but tempos is due by a row, a walk to it passes the next tempo, and ends there if the tempo after it is later. Assumes nothing.
-use Rattle.std.proofs.Common.{◌≡◌, ℕ, ◌+◌, ◌≤◌, Bool, true, false, eqb, ltb, List, length, get_or, ℤ, pos, negsuc, sym, refl, ap, ◌∙◌, arith, ltb-false, lt-ltb}
+use Rattle.std.proofs.Common.{◌≡◌, ℕ, ◌+◌, ◌≤◌, Bool, true, false, eqb, ltb, List, length, get_or, ℤ, pos, negsuc, sym, refl, ap, ◌∙◌, arith, ltb-false, lt-ltb, Some}
 use lib.Signed.{lt_z}
 use lib.Ieee.{Float, nan, binary64}
 use Rattle.ieee.specs.Constants.{plus_zero}
@@ -16,7 +16,6 @@ use Rattle.clock_walk.specs.Walk.{is_due, walk_on, walk}
 use Rattle.chart.specs.declared.State.{State}
 use Rattle.clock_walk.specs.declared.Soon.{Soon}
 use Rattle.clock_walk.specs.declared.Event.TheVariants.{Tempo}
-use Rattle.clock_walk.specs.declared.Ahead.TheVariants.{Found}
 use Rattle.clock_walk.proofs.ClockTest.{first_up_to, walk-on, walk_end}
 use Rattle.clock_walk.proofs.HeadsAhead.{ahead_by_heads, tempo-found}
 use Rattle.clock_walk.proofs.QuietRows.{none_before, quiet-end}
@@ -58,7 +57,7 @@ module _ (t : Timing) (r : ℤ) (s : State) where
       ∙ rw (no-early e)
 
   module _ (o : Others t r s) (due-by : lt_z r (row_at t.tempo_beats s.tempos) ≡ false) where
-    first-ahead : ahead t s ≡ Found (record { row = row_at t.tempo_beats s.tempos; kind = Tempo })
+    first-ahead : ahead t s ≡ Some (record { row = row_at t.tempo_beats s.tempos; kind = Tempo })
     unfolding heads_of
     first-ahead =
         sym (ahead_by_heads t s)

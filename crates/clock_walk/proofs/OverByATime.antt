@@ -1,6 +1,6 @@
 -- The walk to a time is one whose test is that what is ahead is over; it stops before what has not come, or in a pause, and goes round the lists once at most.
 -- Assumes nothing.
-use Rattle.std.proofs.Common.{◌≡◌, ℕ, ◌+◌, ◌*◌, ◌^◌, ◌<◌, ◌≤◌, Bool, true, false, not, length, sym, refl, ap, ◌∙◌, arith}
+use Rattle.std.proofs.Common.{◌≡◌, ℕ, ◌+◌, ◌*◌, ◌^◌, ◌<◌, ◌≤◌, Bool, true, false, not, length, sym, refl, ap, ◌∙◌, arith, Option, Some, None}
 use lib.Ieee.{Float, lt}
 use Rattle.picks.specs.Pick.{pick}
 use Rattle.chart.specs.Timing.{Timing}
@@ -10,8 +10,6 @@ use Rattle.clock_walk.specs.Course.{is_found, events_left}
 use Rattle.clock_walk.specs.ByTime.{has_come, is_delay_or_stop, still_runs, over_by, is_found_over, is_ahead_over, passed_by, pause_of, pausing, stopped_by, walk_by}
 use Rattle.chart.specs.declared.State.{State}
 use Rattle.clock_walk.specs.declared.Next.{Next}
-use Rattle.clock_walk.specs.declared.Ahead.{Ahead}
-use Rattle.clock_walk.specs.declared.Ahead.TheVariants.{Found, NotFound}
 use Rattle.clock_walk.specs.declared.Pausing.{Pausing}
 use Rattle.clock_walk.specs.declared.Pausing.TheVariants.{NoPause}
 use Rattle.rows.proofs.RowOrder.{no}
@@ -19,19 +17,19 @@ use Rattle.clock_walk.proofs.EventByEvent.{count_fits}
 use Rattle.clock_walk.proofs.AllWalks.{SaysAhead, Going, pass-end, spent-on, stops_at}
 
 module _ (elapsed early : Float) (t : Timing) where
-  over-found : (s : State) (a : Ahead) → is_found_over elapsed early t s a ≡ true → is_found a ≡ true
-  over-found s (Found n) e = refl
-  over-found s NotFound e = no e
+  over-found : (s : State) (a : Option Next) → is_found_over elapsed early t s a ≡ true → is_found a ≡ true
+  over-found s (Some n) e = refl
+  over-found s None e = no e
 
   pub says_over : SaysAhead t (is_ahead_over elapsed early t)
   says_over s e = over-found s (ahead t s) e
 
   -- ---- what is ahead by the time: nothing, what has not come, a pause that still runs, what is over
   module _ (s : State) where
-    pub nothing-ahead : ahead t s ≡ NotFound → (is_ahead_over elapsed early t s ≡ false) × (NoPause ≡ pausing elapsed early t s)
+    pub nothing-ahead : ahead t s ≡ None → (is_ahead_over elapsed early t s ≡ false) × (NoPause ≡ pausing elapsed early t s)
     nothing-ahead is = (rw is refl, rw is refl)
 
-    module _ (n : Next) (is : ahead t s ≡ Found n) where
+    module _ (n : Next) (is : ahead t s ≡ Some n) where
       abbrev comes_at : Float
       comes_at = time_at early t.tempo_values s n.row
 
@@ -69,7 +67,7 @@ module _ (elapsed early : Float) (t : Timing) where
       pausing-kind false runs o = no (sym o)
 
   pub stopped_in_a_pause : (start : State) (n : Next) → let s = (passed_by elapsed early t start).state in
-      ahead t s ≡ Found n → has_come elapsed early t s n ≡ true → is_delay_or_stop n.kind ≡ true
+      ahead t s ≡ Some n → has_come elapsed early t s n ≡ true → is_delay_or_stop n.kind ≡ true
   unfolding passed_by
   stopped_in_a_pause start n is h =
       by_tests _ n true h refl (rw is at (stops_at early t (is_ahead_over elapsed early t) says_over start 0))

@@ -1,5 +1,6 @@
 -- A walk passes the events at the front of the one course that go before the asked beat, and no others, whatever the asked row. Assumes nothing.
-use Rattle.std.proofs.Common.{◌≡◌, ℕ, zero, suc, ◌+◌, ◌≤◌, Bool, true, false, [], ℤ, refl, ap, ◌∙◌, arith}
+use Rattle.clock_walk.specs.declared.Next.{Next}
+use Rattle.std.proofs.Common.{◌≡◌, ℕ, zero, suc, ◌+◌, ◌≤◌, Bool, true, false, [], ℤ, refl, ap, ◌∙◌, arith, Option, Some, None}
 use lib.Ieee.{Float}
 use Rattle.picks.specs.Pick.{pick}
 use Rattle.chart.specs.Timing.{Timing}
@@ -8,24 +9,21 @@ use Rattle.clock_walk.specs.Passing.{early_tempo, time_at}
 use Rattle.clock_walk.specs.Course.{onward, events_left, Stopped, pass_while, state_after, found_before, events_within, course, leading_before}
 use Rattle.clock_walk.specs.Walk.{is_passes, is_due, ended, walk_on, walk}
 use Rattle.chart.specs.declared.State.{State}
-use Rattle.clock_walk.specs.declared.Ahead.{Ahead}
-use Rattle.clock_walk.specs.declared.Ahead.TheVariants.{Found, NotFound}
-use Rattle.clock_walk.specs.declared.Due.TheVariants.{Passes, Asked}
 use Rattle.rows.proofs.RowOrder.{no}
 use Rattle.clock_walk.proofs.EventByEvent.{left-falls}
 use Rattle.clock_walk.proofs.AllWalks.{pass_on, pass-end}
 use Rattle.clock_walk.proofs.ClockTest.{says_due}
 
 -- so many of a list lead as there are events due one after another
-lead-by : (r : ℤ) (a : Ahead) (list : _) (b : Bool) → is_passes (due_of r a) ≡ b → leading_before r (found_before a list) ≡ pick b (suc (leading_before r list)) 0
+lead-by : (r : ℤ) (a : Option Next) (list : _) (b : Bool) → is_passes (due_of r a) ≡ b → leading_before r (found_before a list) ≡ pick b (suc (leading_before r list)) 0
 unfolding leading_before
-lead-by r (Found n) list b e = go (goes_before r n) b e
+lead-by r (Some n) list b e = go (goes_before r n) b e
   where
-    go : (x b : Bool) → is_passes (pick x (Passes n) Asked) ≡ b → pick x (suc (leading_before r list)) 0 ≡ pick b (suc (leading_before r list)) 0
+    go : (x b : Bool) → is_passes (pick x (Some n) None) ≡ b → pick x (suc (leading_before r list)) 0 ≡ pick b (suc (leading_before r list)) 0
     go true b e = ap (λ (y : Bool). pick y (suc (leading_before r list)) 0) e
     go false b e = ap (λ (y : Bool). pick y (suc (leading_before r list)) 0) e
-lead-by r NotFound list true e = no e
-lead-by r NotFound list false e = refl
+lead-by r None list true e = no e
+lead-by r None list false e = refl
 
 none-lead : (r : ℤ) → 0 ≡ leading_before r []
 unfolding leading_before

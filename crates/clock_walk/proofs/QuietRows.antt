@@ -1,5 +1,6 @@
 -- By a row before every next entry and before the warp's end nothing is due, and a walk to it passes nothing. Assumes nothing.
-use Rattle.std.proofs.Common.{◌≡◌, ℕ, ◌<◌, true, false, List, length, get_or, ℤ, lt-ltb}
+use Rattle.clock_walk.specs.declared.Next.{Next}
+use Rattle.std.proofs.Common.{◌≡◌, ℕ, ◌<◌, true, false, List, length, get_or, ℤ, lt-ltb, Option}
 use lib.Signed.{lt_z}
 use lib.Ieee.{Float, nan, binary64}
 use Rattle.rows.specs.Rows.{row}
@@ -9,7 +10,6 @@ use Rattle.clock_walk.specs.Passing.{early_tempo, time_at}
 use Rattle.clock_walk.specs.Quiet.{row_at, end_row}
 use Rattle.clock_walk.specs.Walk.{is_due, walk}
 use Rattle.chart.specs.declared.State.{State}
-use Rattle.clock_walk.specs.declared.Ahead.{Ahead}
 use Rattle.clock_walk.proofs.EachCandidate.{of_ahead}
 use Rattle.clock_walk.proofs.ClockTest.{none-due, walk_end}
 
@@ -27,7 +27,7 @@ module _ (r : ℤ) where
       → is_due t r s ≡ false
   none_before t s all end tempo delay stop warp =
       none-due r t s
-      (of_ahead (λ (a : Ahead). lt_z r (row_ahead a) ≡ true) t s all (at-end s end) (at_entry t.tempo_beats s.tempos tempo)
+      (of_ahead (λ (a : Option Next). lt_z r (row_ahead a) ≡ true) t s all (at-end s end) (at_entry t.tempo_beats s.tempos tempo)
       (at_entry t.delay_beats s.delays delay) (at_entry t.stop_beats s.stops stop) (at_entry t.warp_beats s.warps warp))
 
 pub quiet-end : (t : Timing) (r : ℤ) (s : State) → is_due t r s ≡ false

@@ -1,5 +1,6 @@
 -- What every event keeps, every walk of the clock keeps; and every event leaves the places within their lists. Assumes nothing.
-use Rattle.std.proofs.Common.{◌≡◌, ℕ, ◌+◌, ◌≤◌, true, length, ℤ, arith}
+use Rattle.clock_walk.specs.declared.Next.{Next}
+use Rattle.std.proofs.Common.{◌≡◌, ℕ, ◌+◌, ◌≤◌, true, length, ℤ, arith, Option, Some, None}
 use lib.Ieee.{Float}
 use Rattle.chart.specs.Timing.{Timing}
 use Rattle.clock_walk.specs.Events.{ahead}
@@ -9,8 +10,6 @@ use Rattle.clock_walk.specs.Walk.{is_due, walk_on}
 use Rattle.chart.specs.declared.State.{State}
 use Rattle.clock_walk.specs.declared.Event.{Event}
 use Rattle.clock_walk.specs.declared.Event.TheVariants.{WarpEnd, Tempo, Delay, Stop, Warp}
-use Rattle.clock_walk.specs.declared.Ahead.{Ahead}
-use Rattle.clock_walk.specs.declared.Ahead.TheVariants.{Found, NotFound}
 use Rattle.clock_walk.proofs.EachCandidate.{Placed, PlacedFound, placed-ahead}
 use Rattle.clock_walk.proofs.AllWalks.{pass-keeps}
 
@@ -33,10 +32,10 @@ arrives t s at time number Delay p w = record { tempos = w.tempos; stops = w.sto
 arrives t s at time number Stop p w = record { tempos = w.tempos; stops = omega arith; delays = w.delays; warps = w.warps }
 arrives t s at time number Warp p w = record { tempos = w.tempos; stops = w.stops; delays = w.delays; warps = omega arith }
 
-found_within : (early : Float) (t : Timing) (s : State) (a : Ahead) → PlacedFound t s a → PlacesWithin t s → PlacesWithin t (past_found early t s a)
+found_within : (early : Float) (t : Timing) (s : State) (a : Option Next) → PlacedFound t s a → PlacesWithin t s → PlacesWithin t (past_found early t s a)
 unfolding event_passed
-found_within early t s (Found n) p w = arrives t s n.row _ _ n.kind p w
-found_within early t s NotFound p w = w
+found_within early t s (Some n) p w = arrives t s n.row _ _ n.kind p w
+found_within early t s None p w = w
 
 pub places-onward : (early : Float) (t : Timing) (s : State) → PlacesWithin t s → PlacesWithin t (onward early t s)
 places-onward early t s w = found_within early t s (ahead t s) (placed-ahead t s) w

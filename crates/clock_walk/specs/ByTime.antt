@@ -1,5 +1,5 @@
 -- The walk to a time: no beat is asked, and events are passed as long as they are over by then. Definitions only.
-use Rattle.std.specs.Prelude.{Bool, true, false, not, Float}
+use Rattle.std.specs.Prelude.{Bool, true, false, not, Float, Option, Some, None}
 use Rattle.std.specs.Float.{binary64}
 use Rattle.std.specs.Float.Ieee.{add, lt}
 use Rattle.picks.specs.Pick.{pick}
@@ -11,8 +11,6 @@ use Rattle.chart.specs.declared.State.{State}
 use Rattle.clock_walk.specs.declared.Next.{Next}
 use Rattle.clock_walk.specs.declared.Event.{Event}
 use Rattle.clock_walk.specs.declared.Event.TheVariants.{WarpEnd, Tempo, Delay, Stop, Warp}
-use Rattle.clock_walk.specs.declared.Ahead.{Ahead}
-use Rattle.clock_walk.specs.declared.Ahead.TheVariants.{Found, NotFound}
 use Rattle.clock_walk.specs.declared.Pausing.{Pausing}
 use Rattle.clock_walk.specs.declared.Pausing.TheVariants.{InDelay, InFreeze, NoPause}
 use Rattle.clock_walk.specs.declared.ByTime.{ByTime}
@@ -42,9 +40,9 @@ over_by elapsed early t s n =
     (still_runs elapsed (time_at early t.tempo_values s n.row) (brings t.stop_values t.delay_values t.warp_beats t.warp_lengths s n.kind) n.kind))
     false
 
-abbrev pub is_found_over : (elapsed early : Float) → Timing → State → Ahead → Bool
-is_found_over elapsed early t s (Found n) = over_by elapsed early t s n
-is_found_over elapsed early t s NotFound = false
+abbrev pub is_found_over : (elapsed early : Float) → Timing → State → Option Next → Bool
+is_found_over elapsed early t s (Some n) = over_by elapsed early t s n
+is_found_over elapsed early t s None = false
 
 -- what is ahead is over
 abbrev pub is_ahead_over : (elapsed early : Float) → Timing → State → Bool
@@ -64,9 +62,9 @@ pause_of Delay = InDelay
 pause_of Stop = InFreeze
 pause_of Warp = NoPause
 
-abbrev pub pause_found : (elapsed early : Float) → Timing → State → Ahead → Pausing
-pause_found elapsed early t s (Found n) = pick (has_come elapsed early t s n) (pause_of n.kind) NoPause
-pause_found elapsed early t s NotFound = NoPause
+abbrev pub pause_found : (elapsed early : Float) → Timing → State → Option Next → Pausing
+pause_found elapsed early t s (Some n) = pick (has_come elapsed early t s n) (pause_of n.kind) NoPause
+pause_found elapsed early t s None = NoPause
 
 -- What a walk stopped in: what has come and is not over, and that is a delay or a stop (`stopped_in_a_pause`).
 abbrev pub pausing : (elapsed early : Float) → Timing → State → Pausing

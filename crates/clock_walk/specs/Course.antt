@@ -1,26 +1,24 @@
 -- The course of a timing: its events in the one order in which every walk passes them. Definitions only.
-use Rattle.std.specs.Prelude.{ℕ, zero, suc, ◌+◌, ◌-◌, ◌*◌, Bool, true, false, List, [], ◌∷◌, length, ℤ, Float}
+use Rattle.std.specs.Prelude.{ℕ, zero, suc, ◌+◌, ◌-◌, ◌*◌, Bool, true, false, List, [], ◌∷◌, length, ℤ, Float, Option, Some, None}
 use Rattle.picks.specs.Pick.{pick}
 use Rattle.chart.specs.Timing.{Timing}
 use Rattle.clock_walk.specs.Events.{ahead, goes_before}
 use Rattle.clock_walk.specs.Passing.{passing}
 use Rattle.chart.specs.declared.State.{State}
 use Rattle.clock_walk.specs.declared.Next.{Next}
-use Rattle.clock_walk.specs.declared.Ahead.{Ahead}
-use Rattle.clock_walk.specs.declared.Ahead.TheVariants.{Found, NotFound}
 
-abbrev pub is_found : Ahead → Bool
-is_found (Found n) = true
-is_found NotFound = false
+abbrev pub is_found : Option Next → Bool
+is_found (Some n) = true
+is_found None = false
 
 -- something is ahead
 abbrev pub is_ahead : Timing → State → Bool
 is_ahead t s = is_found (ahead t s)
 
 -- the state after what was found; the state as it is where nothing was
-abbrev pub past_found : Float → Timing → State → Ahead → State
-past_found early t s (Found n) = passing early t s n
-past_found early t s NotFound = s
+abbrev pub past_found : Float → Timing → State → Option Next → State
+past_found early t s (Some n) = passing early t s n
+past_found early t s None = s
 
 -- the state after what is ahead
 abbrev pub onward : Float → Timing → State → State
@@ -63,9 +61,9 @@ unfoldable pub state_after : ℕ → Float → Timing → State → State
 state_after zero early t s = s
 state_after (suc n) early t s = state_after n early t (onward early t s)
 
-abbrev pub found_before : Ahead → List Next → List Next
-found_before (Found n) list = n ∷ list
-found_before NotFound list = []
+abbrev pub found_before : Option Next → List Next → List Next
+found_before (Some n) list = n ∷ list
+found_before None list = []
 
 -- the events from a state on, so many at most
 unfoldable pub events_within : ℕ → Float → Timing → State → List Next

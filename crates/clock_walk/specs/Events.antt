@@ -1,5 +1,5 @@
 -- What is ahead of a state, and what a walk to an asked beat meets next. Definitions only.
-use Rattle.std.specs.Prelude.{ℕ, Bool, true, false, List, length, ℤ, pos, int_lt, nat_lt, slice_index_or, Float}
+use Rattle.std.specs.Prelude.{ℕ, Bool, true, false, List, length, ℤ, pos, int_lt, nat_lt, slice_index_or, Float, Option, Some, None}
 use Rattle.std.specs.Float.{nan, binary64}
 use Rattle.picks.specs.Pick.{pick}
 use Rattle.chart.specs.Timing.{Timing}
@@ -8,10 +8,6 @@ use Rattle.chart.specs.declared.State.{State}
 use Rattle.clock_walk.specs.declared.Next.{Next}
 use Rattle.clock_walk.specs.declared.Event.{Event}
 use Rattle.clock_walk.specs.declared.Event.TheVariants.{WarpEnd, Tempo, Delay, Stop, Warp}
-use Rattle.clock_walk.specs.declared.Ahead.{Ahead}
-use Rattle.clock_walk.specs.declared.Ahead.TheVariants.{Found, NotFound}
-use Rattle.clock_walk.specs.declared.Due.{Due}
-use Rattle.clock_walk.specs.declared.Due.TheVariants.{Passes, Asked}
 
 -- ---- a search by rows, over candidates of any kind
 
@@ -34,17 +30,17 @@ end_offered row_of made best warping end = pick warping (sooner row_of best (mad
 
 -- ---- what is ahead
 
-abbrev pub row_ahead : Ahead → ℤ
-row_ahead (Found n) = n.row
-row_ahead NotFound = farthest
+abbrev pub row_ahead : Option Next → ℤ
+row_ahead (Some n) = n.row
+row_ahead None = farthest
 
 -- The least row is ahead. On one row the warp's end comes first, then the tempo, the delay, the stop, the warp.
-unfoldable pub ahead : Timing → State → Ahead
+unfoldable pub ahead : Timing → State → Option Next
 ahead t s =
-    let entry = offered row_ahead Found in
+    let entry = offered row_ahead Some in
     entry
     (entry
-    (entry (entry (end_offered row_ahead Found NotFound s.warping s.end) t.tempo_beats s.tempos Tempo) t.delay_beats s.delays Delay)
+    (entry (entry (end_offered row_ahead Some None s.warping s.end) t.tempo_beats s.tempos Tempo) t.delay_beats s.delays Delay)
     t.stop_beats s.stops Stop)
     t.warp_beats s.warps Warp
 
@@ -62,9 +58,9 @@ goes_first Warp = false
 unfoldable pub goes_before : ℤ → Next → Bool
 goes_before asked n = pick (int_lt n.row asked) true (pick (int_lt asked n.row) false (goes_first n.kind))
 
-abbrev pub due_of : ℤ → Ahead → Due
-due_of asked (Found n) = pick (goes_before asked n) (Passes n) Asked
-due_of asked NotFound = Asked
+abbrev pub due_of : ℤ → Option Next → Option Next
+due_of asked (Some n) = pick (goes_before asked n) (Some n) None
+due_of asked None = None
 
-abbrev pub due : Timing → ℤ → State → Due
+abbrev pub due : Timing → ℤ → State → Option Next
 due t asked s = due_of asked (ahead t s)

@@ -1,5 +1,5 @@
 -- The rows of what is ahead of a state, kept between the events of a walk, and what is ahead by them. Definitions only.
-use Rattle.std.specs.Prelude.{List, ℤ, int_lt, Float}
+use Rattle.std.specs.Prelude.{List, ℤ, int_lt, Float, Option, Some, None}
 use Rattle.std.specs.Float.{binary64}
 use Rattle.picks.specs.Pick.{pick}
 use Rattle.rows.specs.Rows.{row}
@@ -10,8 +10,6 @@ use Rattle.clock_walk.specs.declared.Next.{Next}
 use Rattle.clock_walk.specs.declared.Heads.{Heads}
 use Rattle.clock_walk.specs.declared.Event.{Event}
 use Rattle.clock_walk.specs.declared.Event.TheVariants.{WarpEnd, Tempo, Delay, Stop, Warp}
-use Rattle.clock_walk.specs.declared.Ahead.{Ahead}
-use Rattle.clock_walk.specs.declared.Ahead.TheVariants.{Found, NotFound}
 
 -- the row of the warp's end and of the next entry of each list
 unfoldable pub heads_of : (tempo_beats stop_beats delay_beats warp_beats : List Float) → State → Heads
@@ -49,8 +47,8 @@ unfoldable pub least_head : Heads → Next
 least_head h =
     sooner_head (sooner_head (sooner_head (sooner_head (sooner_head no_head h.end WarpEnd) h.tempo Tempo) h.delay Delay) h.stop Stop) h.warp Warp
 
-abbrev pub found_at : Next → Ahead
-found_at n = pick (int_lt n.row farthest) (Found n) NotFound
+abbrev pub found_at : Next → Option Next
+found_at n = pick (int_lt n.row farthest) (Some n) None
 
-unfoldable pub ahead_of : Heads → Ahead
+unfoldable pub ahead_of : Heads → Option Next
 ahead_of h = found_at (least_head h)

@@ -1,12 +1,10 @@
 -- The rule of the next event as it is written down: the least row among six candidates, of which the asked beat is one. Definitions only.
-use Rattle.std.specs.Prelude.{Bool, true, false, ℤ}
+use Rattle.std.specs.Prelude.{Bool, true, false, ℤ, Option, Some, None}
 use Rattle.chart.specs.Timing.{Timing}
 use Rattle.clock_walk.specs.Events.{farthest, sooner, offered, end_offered}
 use Rattle.chart.specs.declared.State.{State}
 use Rattle.clock_walk.specs.declared.Next.{Next}
 use Rattle.clock_walk.specs.declared.Event.TheVariants.{Tempo, Delay, Stop, Warp}
-use Rattle.clock_walk.specs.declared.Due.{Due}
-use Rattle.clock_walk.specs.declared.Due.TheVariants.{Passes, Asked}
 
 pub data Candidate : Type 0 where
   event : Next → Candidate
@@ -36,6 +34,6 @@ is_nothing (asked_beat asked) = false
 is_nothing nothing = true
 
 -- what is due, as a candidate
-abbrev pub candidate_of : ℤ → Due → Candidate
-candidate_of asked (Passes n) = event n
-candidate_of asked Asked = asked_beat asked
+abbrev pub candidate_of : ℤ → Option Next → Candidate
+candidate_of asked (Some n) = event n
+candidate_of asked None = asked_beat asked

@@ -1,17 +1,16 @@
 -- The walk to an asked row: events are passed, one after another, until the asked beat is due. Definitions only.
-use Rattle.std.specs.Prelude.{ℕ, Bool, true, false, ℤ, Float}
+use Rattle.clock_walk.specs.declared.Next.{Next}
+use Rattle.std.specs.Prelude.{ℕ, Bool, true, false, ℤ, Float, Option, Some, None}
 use Rattle.chart.specs.Timing.{Timing}
 use Rattle.clock_walk.specs.Events.{due}
 use Rattle.clock_walk.specs.Passing.{early_tempo, time_at}
 use Rattle.clock_walk.specs.Course.{Stopped, pass_while}
 use Rattle.chart.specs.declared.State.{State}
 use Rattle.clock_walk.specs.declared.Walked.{Walked}
-use Rattle.clock_walk.specs.declared.Due.{Due}
-use Rattle.clock_walk.specs.declared.Due.TheVariants.{Passes, Asked}
 
-abbrev pub is_passes : Due → Bool
-is_passes (Passes n) = true
-is_passes Asked = false
+abbrev pub is_passes : Option Next → Bool
+is_passes (Some n) = true
+is_passes None = false
 
 -- an event is due before the asked beat
 abbrev pub is_due : Timing → ℤ → State → Bool

@@ -1,7 +1,7 @@
 // The walk through the events of a timing, up to an asked row.
 #![tactic(auto)]
 
-ghost use Rattle.std.specs.Prelude.{◌≡◌, ◌^◌, ◌<◌, true, false, length, slice_index_or};
+ghost use Rattle.std.specs.Prelude.{Some, ◌≡◌, ◌^◌, ◌<◌, true, false, length, slice_index_or};
 ghost use Rattle.std.specs.Float.{nan};
 ghost use Rattle.std.specs.Float.Ieee.{lt};
 ghost use Rattle.ieee.specs.Constants.{sixty};
@@ -14,8 +14,6 @@ ghost use Rattle.clock_walk.specs.inside.CanMove.{CanMove};
 ghost use Rattle.clock_walk.specs.Quiet.{row_at, end_row, not_before, is_later, is_next_later, only_tempos};
 ghost use Rattle.clock_walk.specs.Soon.{quiet_at, tempo_passed, row_after, soon_of};
 ghost use Rattle.clock_walk.specs.declared.Event.TheVariants.{Tempo};
-ghost use Rattle.clock_walk.specs.declared.Ahead.TheVariants.{Found};
-ghost use Rattle.clock_walk.specs.declared.Due.TheVariants.{Passes};
 ghost use Rattle.clock_walk.specs.Walk.{walk};
 ghost use Rattle.clock_walk.specs.EndMark.{greater_row, end_mark};
 ghost use Rattle.clock_walk.specs.ByTime.{still_runs, pause_of, walk_by};
@@ -37,20 +35,6 @@ pub enum Event {
 pub struct Next {
     pub row: i32,
     pub kind: Event,
-}
-
-// What is ahead of a state where no beat is asked.
-#[derive(Clone, Copy)]
-pub enum Ahead {
-    Found(Next),
-    NotFound,
-}
-
-// What a walk to an asked beat meets next: an event that goes before the beat, or the beat.
-#[derive(Clone, Copy)]
-pub enum Due {
-    Passes(Next),
-    Asked,
 }
 
 // ---- what is ahead
@@ -201,14 +185,11 @@ fn least_head(heads: Heads) -> Next
 }
 
 // What is ahead where no beat is asked.
-pub fn find_ahead(heads: Heads) -> Ahead
+pub fn find_ahead(heads: Heads) -> Option<Next>
     ensures { result ≡ ahead_of heads }
 {
     let next = least_head(heads);
-    if next.row < 2147483647 {
-        return Ahead::Found(next);
-    }
-    Ahead::NotFound
+    (next.row < 2147483647).then_some(next)
 }
 
 fn goes_first(kind: Event) -> bool
@@ -240,7 +221,7 @@ fn goes_before(next: Next, asked: i32) -> bool
 
 // True only where a tempo is ahead and alone on its row, as most events of many charts are: no other head is looked at twice.
 fn is_tempo_ahead(heads: Heads) -> bool
-    ensures { result ≡ true → ahead_of heads ≡ Found (record { row = heads.tempo; kind = Tempo }) }
+    ensures { result ≡ true → ahead_of heads ≡ Some (record { row = heads.tempo; kind = Tempo }) }
 {
     if heads.tempo < heads.stop {
         if heads.tempo < heads.delay {
@@ -256,7 +237,7 @@ fn is_tempo_ahead(heads: Heads) -> bool
 
 // True only where such a tempo is due.
 fn is_tempo_due(heads: Heads, asked: i32) -> bool
-    ensures { result ≡ true → due_of asked (ahead_of heads) ≡ Passes (record { row = heads.tempo; kind = Tempo }) }
+    ensures { result ≡ true → due_of asked (ahead_of heads) ≡ Some (record { row = heads.tempo; kind = Tempo }) }
 {
     if asked < heads.tempo {
         return false;
@@ -264,15 +245,12 @@ fn is_tempo_due(heads: Heads, asked: i32) -> bool
     is_tempo_ahead(heads)
 }
 
-// What is due: an event that goes before the asked beat, or the beat.
-fn find_due(heads: Heads, asked: i32) -> Due
+// What is due: an event that goes before the asked beat, or none, since the beat does.
+fn find_due(heads: Heads, asked: i32) -> Option<Next>
     ensures { result ≡ due_of asked (ahead_of heads) }
 {
     let next = least_head(heads);
-    if goes_before(next, asked) {
-        return Due::Passes(next);
-    }
-    Due::Asked
+    goes_before(next, asked).then_some(next)
 }
 
 // ---- time
@@ -657,7 +635,7 @@ pub fn walk_to(
             continue;
         }
         let found = find_due(heads, asked);
-        let Due::Passes(next) = found else {
+        let Some(next) = found else {
             let time = time_at(state, asked, early, tempo_values);
             return Walked {
                 state,
@@ -730,7 +708,7 @@ pub fn walk_all(
     let mut greatest = start.row;
     loop {
         let found = find_ahead(heads);
-        let Ahead::Found(next) = found else {
+        let Some(next) = found else {
             return Mark {
                 state,
                 row: greatest,
@@ -806,7 +784,7 @@ fn pause_of(kind: Event) -> Pausing
 
 // True only where a tempo is ahead, alone on its row, and has come by a time.
 fn is_tempo_over(state: State, heads: Heads, elapsed: f64, early: f64, tempo_values: &[f32]) -> bool
-    ensures { let next = Found (record { row = heads.tempo; kind = Tempo }) in
+    ensures { let next = Some (record { row = heads.tempo; kind = Tempo }) in
         (result ≡ true → (ahead_of heads ≡ next) × (lt elapsed (time_at early tempo_values.now state heads.tempo) ≡ false)) }
 {
     if is_tempo_ahead(heads) {
@@ -850,7 +828,7 @@ pub fn walk_by(
             continue;
         }
         let found = find_ahead(heads);
-        let Ahead::Found(next) = found else {
+        let Some(next) = found else {
             let tempo = tempo_in_force(early, tempo_values, state.tempos);
             return ByTime {
                 state,

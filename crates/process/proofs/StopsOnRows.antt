@@ -1,4 +1,6 @@
 -- Stops that are processed lie on rows: quantising their beats again changes nothing. In SM their lengths are f32s. Assumes nothing.
+use Rattle.process_sm_machine.specs.declared.Entry.{Entry}
+use Rattle.std.specs.Prelude.{Option}
 use mathlib.Core.Path.{◌≡◌, refl, sym, ap, ◌∙◌, subst}
 use mathlib.Core.Bool.{Bool, true, false, ◌&&◌}
 use mathlib.Core.List.{List, [], ◌∷◌, ◌++◌, map}
@@ -28,7 +30,6 @@ use Rattle.process_sm_machine.specs.declared.Change.TheVariants.{Tempo, Stop}
 use Rattle.process_sm_machine.specs.declared.Warp.{Warp}
 use Rattle.process_sm_machine.specs.declared.Warp.TheVariants.{Closed, Open}
 use Rattle.process_sm_machine.specs.declared.State.{State}
-use Rattle.process_sm_machine.specs.declared.Written.{Written}
 use Rattle.process_sm_machine.specs.declared.Moved.{Moved}
 use Rattle.process_sm_machine.specs.Machine.{fits, entry_at, open_chart, owed_at, keep_warp, close_by_time, pass_in_warp, pass_by, pass, tempo_outside, tempo_by, meet_tempo, stop_outside, close_by_stop, begin_again, stop_in_warp, stop_by, meet_stop, beat_at, meet, time_passed, met, finish_warp, finish_by, finish}
 use Rattle.process_sm_machine.proofs.Either.{either}
@@ -54,7 +55,7 @@ on_its_row_lem beat h =
 abbrev SmStop : Float × Float → Type 0
 SmStop e = OnItsRow e × ValueF32 e
 
-abbrev On : Written → Type 0
+abbrev On : Option Entry → Type 0
 On w = Each (beat_key binary32) SmStop (written_list w)
 
 entry-on : (beat value : Float) → Beat beat → F32 value → On (entry_at beat value)

@@ -1,4 +1,6 @@
 -- The tempos that SSC keeps and those that SM's walk writes lie on rows from beat 0 on, and each is one that the clock takes. Assumes nothing.
+use Rattle.process_sm_machine.specs.declared.Entry.{Entry}
+use Rattle.std.specs.Prelude.{Option, None}
 use Prim.Native.Nat.{ℕ, ◌*◌, ◌≤◌}
 use mathlib.Core.Path.{◌≡◌, refl, sym, ap, ◌∙◌, subst}
 use mathlib.Core.Bool.{Bool, true, false, ◌&&◌}
@@ -39,8 +41,6 @@ use Rattle.process_sm_machine.specs.declared.Opened.{Opened}
 use Rattle.process_sm_machine.specs.declared.Warp.{Warp}
 use Rattle.process_sm_machine.specs.declared.Warp.TheVariants.{Closed, Open}
 use Rattle.process_sm_machine.specs.declared.State.{State}
-use Rattle.process_sm_machine.specs.declared.Written.{Written}
-use Rattle.process_sm_machine.specs.declared.Written.TheVariants.{Nothing}
 use Rattle.process_sm_machine.specs.declared.Moved.{Moved}
 use Rattle.process_sm_machine.specs.Machine as machine
 use Rattle.process_sm_machine.specs.Machine.{entry_at, tempo_after, open_chart, owed_at, keep_warp, close_by_time, pass_in_warp, pass_by, pass, tempo_outside, tempo_by, meet_tempo, stop_outside, close_by_stop, begin_again, stop_in_warp, stop_by, meet_stop, beat_at, meet, time_passed, met, finish_warp, finish_by, finish}
@@ -136,7 +136,7 @@ ssc_grid (beat ∷ beats) (value ∷ values) b v =
 
 -- ---- SM: a tempo is written at the beat that is reached, or where a warp starts, on its row
 
-abbrev On : Written → Type 0
+abbrev On : Option Entry → Type 0
 On w = Each (beat_key binary64) OnItsRow (written_list w)
 
 entry-on : (beat value : Float) → Beat beat → On (entry_at beat value)
@@ -144,7 +144,7 @@ entry-on beat value b = (on_its_row_lem beat b.allowed, tt)
 
 after-warp : (warp : Opened) (tempo : Float) → Beat warp.start → On (tempo_after warp tempo)
 unfolding tempo_after
-after-warp warp tempo b = either On (eq tempo warp.former) Nothing (entry_at warp.start tempo) tt (entry-on warp.start tempo b)
+after-warp warp tempo b = either On (eq tempo warp.former) None (entry_at warp.start tempo) tt (entry-on warp.start tempo b)
 
 module _ (n : ℕ) where
   passing : (state : State) (beat : Float) → Within n state → On (pass state beat).tempo
@@ -225,7 +225,7 @@ module _ (tempo_beats tempo_values stop_beats stop_values : List Float) (t : raw
   on-rows =
       let states = all-states T' S' (changes-good tempo_beats tempo_values t) (in_order tempo_beats tempo_values t) (changes-good stop_beats stop_values s) (in_order stop_beats stop_values s) (changes-most tempo_beats tempo_values t) (changes-most stop_beats stop_values s) in
       each_append (beat_key binary64) OnItsRow (written_list (open_chart (opening_tempo T')).tempo) (walk_changes (changes_left T' S' (opening_places T' S')) (open_chart (opening_tempo T')).state).tempos
-      (either On (machine.fits (opening_tempo T')) (entry_at plus_zero32 (opening_tempo T')) Nothing (entry-on plus_zero32 (opening_tempo T') naught_beat) tt)
+      (either On (machine.fits (opening_tempo T')) (entry_at plus_zero32 (opening_tempo T')) None (entry-on plus_zero32 (opening_tempo T') naught_beat) tt)
       (walk-on 4096 (changes_left T' S' (opening_places T' S')) (open_chart (opening_tempo T')).state states)
     where
       naught_beat : Beat plus_zero32

@@ -1,4 +1,6 @@
 -- The warps that SM makes are on the grid: each is written where it opened, on the row of that beat. Assumes nothing.
+use Rattle.process_sm_machine.specs.declared.Entry.{Entry}
+use Rattle.std.specs.Prelude.{Option, None}
 use Prim.Native.Nat.{ℕ}
 use mathlib.Core.Path.{◌≡◌, refl, subst, ◌∙◌}
 use mathlib.Core.Bool.{Bool, true, false, ◌&&◌}
@@ -23,8 +25,6 @@ use Rattle.process_sm_machine.specs.declared.Change.TheVariants.{Tempo, Stop}
 use Rattle.process_sm_machine.specs.declared.Warp.{Warp}
 use Rattle.process_sm_machine.specs.declared.Warp.TheVariants.{Closed, Open}
 use Rattle.process_sm_machine.specs.declared.State.{State}
-use Rattle.process_sm_machine.specs.declared.Written.{Written}
-use Rattle.process_sm_machine.specs.declared.Written.TheVariants.{Nothing}
 use Rattle.process_sm_machine.specs.declared.Moved.{Moved}
 use Rattle.process_sm_machine.specs.Machine.{fits, entry_at, warp_over, open_chart, owed_at, keep_warp, close_by_time, pass_in_warp, pass_by, pass, tempo_outside, tempo_by, meet_tempo, stop_outside, close_by_stop, begin_again, stop_in_warp, stop_by, meet_stop, beat_at, meet, time_passed, met, finish_warp, finish_by, finish}
 use Rattle.process_sm_machine.proofs.Either.{either}
@@ -44,12 +44,12 @@ use Rattle.process.proofs.NoneGiven.{given-number}
 use Rattle.process.proofs.StopsOnRows.{OnItsRow, on_its_row_lem}
 
 -- ---- a warp is written at its start, on its row
-abbrev On : Written → Type 0
+abbrev On : Option Entry → Type 0
 On w = Each (beat_key binary64) OnItsRow (written_list w)
 
 over : (start end : Float) → beats.Beat start → On (warp_over start end)
 unfolding warp_over
-over start end b = either On (lt start end) (entry_at start (quantized32 (sub binary32 end start))) Nothing (on_its_row_lem start b.allowed, tt) tt
+over start end b = either On (lt start end) (entry_at start (quantized32 (sub binary32 end start))) None (on_its_row_lem start b.allowed, tt) tt
 
 module _ (n : ℕ) where
   passing : (state : State) (beat : Float) → Within n state → On (pass state beat).warp

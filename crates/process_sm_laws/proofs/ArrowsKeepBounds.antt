@@ -1,4 +1,6 @@
 -- Each arrow keeps a state within its bounds and writes stops above 0 of at most 2 ^ 30 seconds: in a warp what is owed is never above 0, so a stop leaves no more of itself. Assumes nothing.
+use Rattle.process_sm_machine.specs.declared.Entry.{Entry}
+use Rattle.std.specs.Prelude.{Option, Some, None}
 use Prim.Native.Nat.{ℕ, suc, ◌*◌, ◌^◌, ◌<◌}
 use mathlib.Core.Logic.{inl, inr}
 use mathlib.Core.Bool.{Bool, true, false, ◌&&◌}
@@ -19,8 +21,6 @@ use Rattle.process_sm_machine.specs.declared.Opened.{Opened}
 use Rattle.process_sm_machine.specs.declared.Warp.{Warp}
 use Rattle.process_sm_machine.specs.declared.Warp.TheVariants.{Closed, Open}
 use Rattle.process_sm_machine.specs.declared.State.{State}
-use Rattle.process_sm_machine.specs.declared.Written.{Written}
-use Rattle.process_sm_machine.specs.declared.Written.TheVariants.{Nothing, One}
 use Rattle.process_sm_machine.specs.declared.Moved.{Moved}
 use Rattle.process_sm_machine.proofs.Either.{either}
 use Rattle.process_sm_machine.specs.Machine.{fastest, fits, entry_at, warp_over, still, open_chart, owed_at, settled_at, keep_warp, close_by_time, pass_in_warp, pass_by, pass, tempo_outside, tempo_by, meet_tempo, stop_outside, close_by_stop, begin_again, stop_in_warp, stop_by, meet_stop, meet, warp_end_of, finish_warp, finish_by, finish}
@@ -67,9 +67,9 @@ pub record IsStop (x : Float) : Type 0 where
 abbrev pub IsLength : Float → Type 0
 IsLength x = AtMost longest x
 
-abbrev pub Said : (Float → Type 0) → Written → Type 0
-Said P Nothing = Unit {0}
-Said P (One entry) = P entry.value
+abbrev pub Said : (Float → Type 0) → Option Entry → Type 0
+Said P None = Unit {0}
+Said P (Some entry) = P entry.value
 
 pub record Kept (n : ℕ) (moved : Moved) : Type 0 where
   pub state : Within n moved.state
@@ -202,7 +202,7 @@ module _ (n : ℕ) (few : suc n < 2 ^ 24) where
     outside = go (lt length plus_zero32) refl
       where
         go : (a : Bool) → lt length plus_zero32 ≡ a
-            → Kept (suc n) (pick a (still (record { tempo = tempo; beat = beat; warp = Open (record { start = beat; former = tempo; owed = length }) })) (record { state = record { tempo = tempo; beat = beat; warp = Closed }; tempo = Nothing; stop = entry_at beat length; warp = Nothing }))
+            → Kept (suc n) (pick a (still (record { tempo = tempo; beat = beat; warp = Open (record { start = beat; former = tempo; owed = length }) })) (record { state = record { tempo = tempo; beat = beat; warp = Closed }; tempo = None; stop = entry_at beat length; warp = None }))
         go true h = record { state = record { tempo = t; beat = b; warp = record { start = b; former = t; owed = at_most_wider (omega arith) (tempo_at_most false length s); not_above = below_on length stop-finite h } }; stop = tt; warp = tt }
         go false h = record { state = record { tempo = t; beat = b; warp = tt }; stop = record { above = above_if_not_below length (tempo_at_least length s) h; small = tempo_at_most false length s }; warp = tt }
 

@@ -1,4 +1,6 @@
 -- Each arrow writes nothing before what is written already, and tempos only that are in force. Assumes nothing.
+use Rattle.process_sm_machine.specs.declared.Entry.{Entry}
+use Rattle.std.specs.Prelude.{Option, None}
 use Prim.Native.Nat.{ℕ, ◌≤◌}
 use mathlib.Core.Bool.{Bool, ◌&&◌}
 use mathlib.Core.List.{List}
@@ -16,8 +18,6 @@ use Rattle.process_sm_machine.specs.declared.Opened.{Opened}
 use Rattle.process_sm_machine.specs.declared.Warp.{Warp}
 use Rattle.process_sm_machine.specs.declared.Warp.TheVariants.{Closed, Open}
 use Rattle.process_sm_machine.specs.declared.State.{State}
-use Rattle.process_sm_machine.specs.declared.Written.{Written}
-use Rattle.process_sm_machine.specs.declared.Written.TheVariants.{Nothing}
 use Rattle.process_sm_machine.specs.declared.Moved.{Moved}
 use Rattle.process_sm_machine.proofs.Either.{either}
 use Rattle.process_sm_machine.specs.Machine.{fits, entry_at, warp_over, tempo_after, still, open_chart, owed_at, settled_at, keep_warp, close_by_time, pass_in_warp, pass_by, pass, tempo_outside, tempo_by, meet_tempo, stop_outside, close_by_stop, begin_again, stop_in_warp, stop_by, meet_stop, meet, warp_end_of, finish_warp, finish_by, finish}
@@ -74,8 +74,8 @@ module _ (f : Format) (P : Float → Type 0) where
     entry_one_of : P value → Each (beat_key f) OneOf (written_list (entry_at beat value))
     entry_one_of p = ((quantized32-allowed beat b.allowed, p), tt)
 
-    or_none : (t : Bool) → Segment (beat_key f) low high (written_list (pick t (entry_at beat value) Nothing))
-    or_none t = either (λ (w : Written). Segment (beat_key f) low high (written_list w)) t _ _ entry-between (none_between (beat_key f) low high (omega arith))
+    or_none : (t : Bool) → Segment (beat_key f) low high (written_list (pick t (entry_at beat value) None))
+    or_none t = either (λ (w : Option Entry). Segment (beat_key f) low high (written_list w)) t _ _ entry-between (none_between (beat_key f) low high (omega arith))
 
   module _ (warp : Opened) (b : Beat warp.start) (low high : ℕ) (h : low ≤ spot f warp.start) (k : spot f warp.start ≤ high) where
     warp-between : (end : Float) → Segment (beat_key f) low high (written_list (warp_over warp.start end))
@@ -85,19 +85,19 @@ module _ (f : Format) (P : Float → Type 0) where
     warp_on_row : (end : Float) → Each (beat_key f) OnRow (written_list (warp_over warp.start end))
     unfolding warp_over
     warp_on_row end =
-        either (λ (w : Written). Each (beat_key f) OnRow (written_list w)) (lt warp.start end) _ _
+        either (λ (w : Option Entry). Each (beat_key f) OnRow (written_list w)) (lt warp.start end) _ _
         (entry_on_row warp.start (quantized32 (sub binary32 end warp.start)) b low high h k) tt
 
     tempo-between : (tempo : Float) → Segment (beat_key f) low high (written_list (tempo_after warp tempo))
     unfolding tempo_after
     tempo-between tempo =
-        either (λ (w : Written). Segment (beat_key f) low high (written_list w)) (eq tempo warp.former) _ _
+        either (λ (w : Option Entry). Segment (beat_key f) low high (written_list w)) (eq tempo warp.former) _ _
         (none_between (beat_key f) low high (omega arith)) (entry-between warp.start tempo b low high h k)
 
     tempo_one_of : (tempo : Float) → P tempo → Each (beat_key f) OneOf (written_list (tempo_after warp tempo))
     unfolding tempo_after
     tempo_one_of tempo p =
-        either (λ (w : Written). Each (beat_key f) OneOf (written_list w)) (eq tempo warp.former) _ _ tt
+        either (λ (w : Option Entry). Each (beat_key f) OneOf (written_list w)) (eq tempo warp.former) _ _ tt
         (entry_one_of warp.start tempo b low high h k p)
 
   -- ---- nothing is written
@@ -125,7 +125,7 @@ module _ (f : Format) (P : Float → Type 0) where
       tempo_order = or_none plus_zero32 tempo b (spot f plus_zero32) (spot f plus_zero32) (omega arith) (omega arith) (fits tempo);
       stop_order = none_between (beat_key f) (spot f plus_zero32) (spot f plus_zero32) (omega arith);
       warp_order = none_between (beat_key f) (spot f plus_zero32) (spot f plus_zero32) (omega arith);
-      tempos_are = either (λ (w : Written). Each (beat_key f) OneOf (written_list w)) (fits tempo) _ _ (entry_one_of plus_zero32 tempo b (spot f plus_zero32) (spot f plus_zero32) (omega arith) (omega arith) p) tt;
+      tempos_are = either (λ (w : Option Entry). Each (beat_key f) OneOf (written_list w)) (fits tempo) _ _ (entry_one_of plus_zero32 tempo b (spot f plus_zero32) (spot f plus_zero32) (omega arith) (omega arith) p) tt;
       stops_are = tt;
       warps_are = tt;
     };

@@ -1,4 +1,6 @@
 -- Every state of the walk over changes that are taken is within its bounds, and so is every stop and every length of a warp that it writes. Assumes nothing.
+use Rattle.process_sm_machine.specs.declared.Entry.{Entry}
+use Rattle.std.specs.Prelude.{Option, Some, None}
 use Prim.Native.Nat.{ℕ, suc, ◌+◌, ◌*◌, ◌^◌, ◌≤◌, ◌<◌, max}
 use mathlib.Core.List.{List, [], ◌∷◌, ◌++◌}
 use mathlib.Core.Path.{◌≡◌, refl, sym, ◌∙◌, subst}
@@ -18,8 +20,6 @@ use Rattle.process_sm_machine.specs.declared.Change.{Change}
 use Rattle.process_sm_machine.specs.declared.Warp.{Warp}
 use Rattle.process_sm_machine.specs.declared.Warp.TheVariants.{Closed, Open}
 use Rattle.process_sm_machine.specs.declared.State.{State}
-use Rattle.process_sm_machine.specs.declared.Written.{Written}
-use Rattle.process_sm_machine.specs.declared.Written.TheVariants.{Nothing, One}
 use Rattle.process_sm_machine.specs.declared.Moved.{Moved}
 use Rattle.process_sm_machine.specs.Machine.{beat_at, open_chart, time_passed, met, finish}
 use Rattle.process_sm_machine.proofs.Either.{either}
@@ -43,9 +43,9 @@ pub record Fine (stops warps : List (Float × Float)) : Type 0 where
   pub stops_are : Values IsStop stops
   pub warps_are : Values IsLength warps
 
-said : (P : Float → Type 0) (w : Written) → Said P w → Values P (written_list w)
-said P Nothing h = tt
-said P (One entry) h = (h, tt)
+said : (P : Float → Type 0) (w : Option Entry) → Said P w → Values P (written_list w)
+said P None h = tt
+said P (Some entry) h = (h, tt)
 
 said-fine : {n : ℕ} (moved : Moved) → Kept n moved → Fine (written_list moved.stop) (written_list moved.warp)
 said-fine moved k = record { stops_are = said IsStop moved.stop k.stop; warps_are = said IsLength moved.warp k.warp }

@@ -20,7 +20,8 @@
 --
 -- "The warp" is written only where it goes forward, and "the tempo" at the warp's start only where it isn't the one before the warp.
 -- Every definition is a function with a case for each state and each outcome of its tests: one arrow leaves each state for each thing that comes.
-use Rattle.std.specs.Prelude.{Bool, ◌&&◌, Float}
+use Rattle.process_sm_machine.specs.declared.Entry.{Entry}
+use Rattle.std.specs.Prelude.{Bool, ◌&&◌, Float, Option, Some, None}
 use Rattle.std.specs.Float.{binary32}
 use Rattle.std.specs.Float.Ieee.{add, sub, mul, div, lt, le, eq, of_bits}
 use Rattle.ieee.specs.Constants.{plus_zero32, sixty32}
@@ -32,8 +33,6 @@ use Rattle.process_sm_machine.specs.declared.Opened.{Opened}
 use Rattle.process_sm_machine.specs.declared.Warp.{Warp}
 use Rattle.process_sm_machine.specs.declared.Warp.TheVariants.{Closed, Open}
 use Rattle.process_sm_machine.specs.declared.State.{State}
-use Rattle.process_sm_machine.specs.declared.Written.{Written}
-use Rattle.process_sm_machine.specs.declared.Written.TheVariants.{Nothing, One}
 use Rattle.process_sm_machine.specs.declared.Moved.{Moved}
 
 -- ---- numbers
@@ -52,29 +51,29 @@ fits tempo = lt plus_zero32 tempo && le tempo fastest
 
 -- ---- what an arrow writes: beats and lengths of warps on rows, values of tempos and stops as they are
 
-abbrev pub entry_at : Float → Float → Written
-entry_at beat value = One (record { beat = quantized32 beat; value = value })
+abbrev pub entry_at : Float → Float → Option Entry
+entry_at beat value = Some (record { beat = quantized32 beat; value = value })
 
 -- a warp from one beat to another, where it goes forward
-unfoldable pub warp_over : Float → Float → Written
-warp_over start end = pick (lt start end) (entry_at start (quantized32 (sub binary32 end start))) Nothing
+unfoldable pub warp_over : Float → Float → Option Entry
+warp_over start end = pick (lt start end) (entry_at start (quantized32 (sub binary32 end start))) None
 
 -- after a warp: the tempo in force, at the warp's start, where it isn't the tempo before the warp
-unfoldable pub tempo_after : Opened → Float → Written
-tempo_after warp tempo = pick (eq tempo warp.former) Nothing (entry_at warp.start tempo)
+unfoldable pub tempo_after : Opened → Float → Option Entry
+tempo_after warp tempo = pick (eq tempo warp.former) None (entry_at warp.start tempo)
 
 -- nothing is written
 abbrev pub still : State → Moved
-still state = record { state = state; tempo = Nothing; stop = Nothing; warp = Nothing }
+still state = record { state = state; tempo = None; stop = None; warp = None }
 
 -- ---- the chart opens at beat 0, in no warp, whatever its first tempo
 
 unfoldable pub open_chart : Float → Moved
 open_chart tempo = record {
   state = record { tempo = tempo; beat = plus_zero32; warp = Closed };
-  tempo = pick (fits tempo) (entry_at plus_zero32 tempo) Nothing;
-  stop = Nothing;
-  warp = Nothing;
+  tempo = pick (fits tempo) (entry_at plus_zero32 tempo) None;
+  stop = None;
+  warp = None;
 }
 
 -- ---- time passes, up to the beat of the next change
@@ -97,7 +96,7 @@ unfoldable pub close_by_time : Float → Float → Opened → Float → Moved
 close_by_time tempo beat warp owed = record {
   state = record { tempo = tempo; beat = beat; warp = Closed };
   tempo = tempo_after warp tempo;
-  stop = Nothing;
+  stop = None;
   warp = warp_over warp.start (settled_at tempo beat owed);
 }
 
@@ -120,7 +119,7 @@ pass state beat = pass_by state.warp state.tempo state.beat beat
 unfoldable pub tempo_outside : Float → Float → Float → Moved
 tempo_outside former beat tempo =
     pick (fits tempo)
-    (record { state = record { tempo = tempo; beat = beat; warp = Closed }; tempo = entry_at beat tempo; stop = Nothing; warp = Nothing })
+    (record { state = record { tempo = tempo; beat = beat; warp = Closed }; tempo = entry_at beat tempo; stop = None; warp = None })
     (still (record { tempo = tempo; beat = beat; warp = Open (record { start = beat; former = former; owed = plus_zero32 }) }))
 
 -- in a warp it only comes into force
@@ -138,7 +137,7 @@ unfoldable pub stop_outside : Float → Float → Float → Moved
 stop_outside tempo beat length =
     pick (lt length plus_zero32)
     (still (record { tempo = tempo; beat = beat; warp = Open (record { start = beat; former = tempo; owed = length }) }))
-    (record { state = record { tempo = tempo; beat = beat; warp = Closed }; tempo = Nothing; stop = entry_at beat length; warp = Nothing })
+    (record { state = record { tempo = tempo; beat = beat; warp = Closed }; tempo = None; stop = entry_at beat length; warp = None })
 
 -- the warp ends here, and what is more than was owed is a stop
 unfoldable pub close_by_stop : Float → Float → Opened → Float → Moved
@@ -153,7 +152,7 @@ close_by_stop tempo beat warp owed = record {
 unfoldable pub begin_again : Float → Float → Opened → Float → Moved
 begin_again tempo beat warp owed = record {
   state = record { tempo = tempo; beat = beat; warp = Open (record { start = beat; former = warp.former; owed = plus_zero32 }) };
-  tempo = Nothing;
+  tempo = None;
   stop = entry_at beat owed;
   warp = warp_over warp.start beat;
 }
@@ -197,7 +196,7 @@ unfoldable pub finish_warp : Float → Float → Opened → Moved
 finish_warp tempo beat warp = record {
   state = record { tempo = tempo; beat = beat; warp = Closed };
   tempo = tempo_after warp tempo;
-  stop = Nothing;
+  stop = None;
   warp = warp_over warp.start (warp_end_of tempo beat warp.owed);
 }
 

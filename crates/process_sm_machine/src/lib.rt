@@ -28,7 +28,7 @@ pub struct Opened {
     pub owed: f32,
 }
 
-// No warp is open, or one is.
+// No warp is open, or one is: the two states of the diagram, by whose names its arrows are told.
 #[derive(Clone, Copy)]
 pub enum Warp {
     Closed,
@@ -43,20 +43,13 @@ pub struct State {
     pub warp: Warp,
 }
 
-// What an arrow writes into one list.
-#[derive(Clone, Copy)]
-pub enum Written {
-    Nothing,
-    One(Entry),
-}
-
-// What an arrow leads to, and what it writes.
+// What an arrow leads to, and what it writes into each list.
 #[derive(Clone, Copy)]
 pub struct Moved {
     pub state: State,
-    pub tempo: Written,
-    pub stop: Written,
-    pub warp: Written,
+    pub tempo: Option<Entry>,
+    pub stop: Option<Entry>,
+    pub warp: Option<Entry>,
 }
 
 // Whether a tempo is above 0 and not above 9,999,999.
@@ -71,34 +64,34 @@ pub fn fits(tempo: f32) -> bool
 
 // ---- what is written
 
-fn entry_at(beat: f32, value: f32) -> Written
+fn entry_at(beat: f32, value: f32) -> Option<Entry>
     ensures { result ≡ entry_at beat value }
 {
     let on_row = rows::quantize_beat_f32(beat);
-    Written::One(Entry {
+    Some(Entry {
         beat: on_row,
         value,
     })
 }
 
 // A warp, where it goes forward.
-fn warp_over(start: f32, end: f32) -> Written
+fn warp_over(start: f32, end: f32) -> Option<Entry>
     ensures { result ≡ warp_over start end }
 {
     if end > start {
         let length = rows::quantize_beat_f32(end - start);
         return entry_at(start, length);
     }
-    Written::Nothing
+    None
 }
 
 // The tempo after a warp, where it isn't the one before it.
-fn tempo_after(warp: Opened, tempo: f32) -> Written
+fn tempo_after(warp: Opened, tempo: f32) -> Option<Entry>
     ensures { result ≡ tempo_after warp tempo }
 {
     let former = warp.former;
     if tempo == former {
-        return Written::Nothing;
+        return None;
     }
     entry_at(warp.start, tempo)
 }
@@ -109,9 +102,9 @@ fn still(state: State) -> Moved
 {
     Moved {
         state,
-        tempo: Written::Nothing,
-        stop: Written::Nothing,
-        warp: Written::Nothing,
+        tempo: None,
+        stop: None,
+        warp: None,
     }
 }
 
@@ -132,8 +125,8 @@ pub fn open_chart(tempo: f32) -> Moved
         return Moved {
             state,
             tempo: wrote_tempo,
-            stop: Written::Nothing,
-            warp: Written::Nothing,
+            stop: None,
+            warp: None,
         };
     }
     still(state)
@@ -178,7 +171,7 @@ fn close_by_time(tempo: f32, beat: f32, warp: Opened, owed: f32) -> Moved
             warp: Warp::Closed,
         },
         tempo: wrote_tempo,
-        stop: Written::Nothing,
+        stop: None,
         warp: wrote_warp,
     }
 }
@@ -227,8 +220,8 @@ fn tempo_outside(former: f32, beat: f32, tempo: f32) -> Moved
                 warp: Warp::Closed,
             },
             tempo: wrote_tempo,
-            stop: Written::Nothing,
-            warp: Written::Nothing,
+            stop: None,
+            warp: None,
         };
     }
     let opened = Opened {
@@ -281,9 +274,9 @@ fn stop_outside(tempo: f32, beat: f32, length: f32) -> Moved
             beat,
             warp: Warp::Closed,
         },
-        tempo: Written::Nothing,
+        tempo: None,
         stop: wrote_stop,
-        warp: Written::Nothing,
+        warp: None,
     }
 }
 
@@ -321,7 +314,7 @@ fn begin_again(tempo: f32, beat: f32, warp: Opened, owed: f32) -> Moved
             beat,
             warp: Warp::Open(opened),
         },
-        tempo: Written::Nothing,
+        tempo: None,
         stop: wrote_stop,
         warp: wrote_warp,
     }
@@ -401,7 +394,7 @@ fn finish_warp(tempo: f32, beat: f32, warp: Opened) -> Moved
             warp: Warp::Closed,
         },
         tempo: wrote_tempo,
-        stop: Written::Nothing,
+        stop: None,
         warp: wrote_warp,
     }
 }

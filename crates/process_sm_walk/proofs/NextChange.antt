@@ -1,5 +1,5 @@
 -- The change that comes next, and what is left after it. Assumes nothing.
-use Rattle.std.proofs.Common.{◌≡◌, ℕ, zero, suc, ◌<◌, ◌≤◌, Bool, true, false, List, [], ◌∷◌, length, get_or, drop, sym, refl, ap, ◌∙◌, add-one, arith, drop-cons}
+use Rattle.std.proofs.Common.{◌≡◌, ℕ, zero, suc, ◌<◌, ◌≤◌, Bool, true, false, List, [], ◌∷◌, length, get_or, drop, sym, refl, ap, ◌∙◌, add-one, arith, drop-cons, Some, None}
 use lib.Ieee.{Float, le, nan}
 use Rattle.order.proofs.Columns.{length-entries, entries-get_or}
 use Rattle.process_sm_machine.specs.declared.Entry.{Entry}
@@ -8,7 +8,6 @@ use Rattle.process_sm_machine.specs.declared.Change.TheVariants.{Tempo, Stop}
 use Rattle.order.specs.Entries.{entries}
 use Rattle.process_sm_walk.specs.Changes.{entry_of, pair_of, tempo_of, stop_of, merged_changes, changes_left}
 use Rattle.process_sm_walk.specs.inside.NextChange.{head_of, advanced}
-use Rattle.process_sm_walk.specs.declared.Next.TheVariants.{Here, End}
 use Rattle.process_sm_walk.specs.declared.Places.{Places}
 
 abbrev pub at : List Float → List Float → ℕ → Float × Float
@@ -51,7 +50,7 @@ pub record Taken (tempos stops : List (Float × Float)) (change : Change) : Type
   pub from : From tempos stops change
 
 taken-by : (tempo stop : Float × Float) (tempos stops : List (Float × Float)) (b : Bool) → le tempo.0 stop.0 ≡ b → (change : Change)
-    → head_of (merged_changes (tempo ∷ tempos) (stop ∷ stops)) ≡ Here change → Taken (tempo ∷ tempos) (stop ∷ stops) change
+    → head_of (merged_changes (tempo ∷ tempos) (stop ∷ stops)) ≡ Some change → Taken (tempo ∷ tempos) (stop ∷ stops) change
 taken-by tempo stop tempos stops true h change e =
     let c : change ≡ tempo_of tempo = let k = rw h at e in cc in
     rw c (record { same = rw h; from = refl })
@@ -59,7 +58,7 @@ taken-by tempo stop tempos stops false h change e =
     let c : change ≡ stop_of stop = let k = rw h at e in cc in
     rw c (record { same = rw h; from = refl })
 
-pub taken : (tempos stops : List (Float × Float)) (change : Change) → head_of (merged_changes tempos stops) ≡ Here change → Taken tempos stops change
+pub taken : (tempos stops : List (Float × Float)) (change : Change) → head_of (merged_changes tempos stops) ≡ Some change → Taken tempos stops change
 taken [] [] change e = absurd (let z : ◌≡◌ {A = ℕ} 0 1 = cc in omega arith)
 taken [] (stop ∷ stops) change e = let c : change ≡ stop_of stop = cc in rw c (record { same = refl; from = refl })
 taken (tempo ∷ tempos) [] change e = let c : change ≡ tempo_of tempo = cc in rw c (record { same = refl; from = refl })
@@ -98,13 +97,13 @@ stops-left stops i tempos (Tempo entry) places e f = rw e (kept (drop i stops))
     kept (x ∷ l) = refl
 
 -- what is left, where the next change is this one
-pub left-on : (tempos stops : List (Float × Float)) (places : Places) (change : Change) → head_of (changes_left tempos stops places) ≡ Here change
+pub left-on : (tempos stops : List (Float × Float)) (places : Places) (change : Change) → head_of (changes_left tempos stops places) ≡ Some change
     → changes_left tempos stops places ≡ change ∷ changes_left tempos stops (advanced places change)
 left-on tempos stops places change e =
     let t = taken (drop places.tempo tempos) (drop places.stop stops) change e in
     t.same ∙ rw (tempos-left tempos places.tempo (drop places.stop stops) change places refl t.from, stops-left stops places.stop (drop places.tempo tempos) change places refl t.from)
 
-pub left_end : (changes : List Change) → head_of changes ≡ End → changes ≡ []
+pub left_end : (changes : List Change) → head_of changes ≡ None → changes ≡ []
 left_end [] e = refl
 left_end (c ∷ cs) e = let z : ◌≡◌ {A = ℕ} 0 1 = cc in absurd (omega arith)
 
@@ -118,27 +117,27 @@ in_list : (tempos stops : List (Float × Float)) (places : Places) (change : Cha
 in_list tempos stops places (Tempo entry) f = drop-within tempos places.tempo (pair_of entry) (rest_of_tempos (drop places.tempo tempos) (Tempo entry)) f
 in_list tempos stops places (Stop entry) f = drop-within stops places.stop (pair_of entry) (rest_of_stops (drop places.stop stops) (Stop entry)) f
 
-pub next_in_list : (tempos stops : List (Float × Float)) (places : Places) (change : Change) → head_of (changes_left tempos stops places) ≡ Here change → InList tempos stops places change
+pub next_in_list : (tempos stops : List (Float × Float)) (places : Places) (change : Change) → head_of (changes_left tempos stops places) ≡ Some change → InList tempos stops places change
 next_in_list tempos stops places change e = in_list tempos stops places change (taken (drop places.tempo tempos) (drop places.stop stops) change e).from
 
 -- ---- the code's three tests
 
 module _ (tb tv sb sv : List Float) (places : Places) (tl : length tb ≡ length tv) (sl : length sb ≡ length sv) where
   pub next-tempo : (tempo stop : Entry) → tempo ≡ entry_of (at tb tv places.tempo) → stop ≡ entry_of (at sb sv places.stop) → places.tempo < length tb → places.stop < length sb
-      → le tempo.beat stop.beat ≡ true → Here (Tempo tempo) ≡ head_of (changes_left (entries tb tv) (entries sb sv) places)
+      → le tempo.beat stop.beat ≡ true → Some (Tempo tempo) ≡ head_of (changes_left (entries tb tv) (entries sb sv) places)
   next-tempo tempo stop t s h k b = let b' = rw (t, s) at b in rw (t, entries_from tb tv places.tempo tl h, entries_from sb sv places.stop sl k, b')
 
   pub next-stop : (tempo stop : Entry) → tempo ≡ entry_of (at tb tv places.tempo) → stop ≡ entry_of (at sb sv places.stop) → places.tempo < length tb → places.stop < length sb
-      → le tempo.beat stop.beat ≡ false → Here (Stop stop) ≡ head_of (changes_left (entries tb tv) (entries sb sv) places)
+      → le tempo.beat stop.beat ≡ false → Some (Stop stop) ≡ head_of (changes_left (entries tb tv) (entries sb sv) places)
   next-stop tempo stop t s h k b = let b' = rw (t, s) at b in rw (s, entries_from tb tv places.tempo tl h, entries_from sb sv places.stop sl k, b')
 
   pub next_last_tempo : (tempo : Entry) → tempo ≡ entry_of (at tb tv places.tempo) → places.tempo < length tb → length sb ≤ places.stop
-      → Here (Tempo tempo) ≡ head_of (changes_left (entries tb tv) (entries sb sv) places)
+      → Some (Tempo tempo) ≡ head_of (changes_left (entries tb tv) (entries sb sv) places)
   next_last_tempo tempo t h k = rw (entries_from tb tv places.tempo tl h, entries-end sb sv places.stop k, ← t)
 
   pub next_last_stop : (stop : Entry) → stop ≡ entry_of (at sb sv places.stop) → length tb ≤ places.tempo → places.stop < length sb
-      → Here (Stop stop) ≡ head_of (changes_left (entries tb tv) (entries sb sv) places)
+      → Some (Stop stop) ≡ head_of (changes_left (entries tb tv) (entries sb sv) places)
   next_last_stop stop s h k = rw (entries-end tb tv places.tempo h, entries_from sb sv places.stop sl k, ← s)
 
-  pub next-none : length tb ≤ places.tempo → length sb ≤ places.stop → End ≡ head_of (changes_left (entries tb tv) (entries sb sv) places)
+  pub next-none : length tb ≤ places.tempo → length sb ≤ places.stop → None ≡ head_of (changes_left (entries tb tv) (entries sb sv) places)
   next-none h k = rw (entries-end tb tv places.tempo h, entries-end sb sv places.stop k)

@@ -1,5 +1,5 @@
 -- No more is written than the changes met account for. Assumes nothing.
-use Rattle.std.proofs.Common.{◌≡◌, ℕ, ◌+◌, ◌≤◌, Bool, true, false, ◌&&◌, length, refl, arith}
+use Rattle.std.proofs.Common.{◌≡◌, ℕ, ◌+◌, ◌≤◌, Bool, true, false, ◌&&◌, length, refl, arith, Option, Some, None}
 use lib.Ieee.{Float, binary32, add, sub, mul, div, lt, eq}
 use Rattle.ieee.specs.Constants.{plus_zero32, sixty32}
 use Rattle.process_sm_machine.specs.declared.Entry.{Entry}
@@ -13,8 +13,6 @@ use Rattle.process_sm_machine.specs.declared.Opened.{Opened}
 use Rattle.process_sm_machine.specs.declared.Warp.{Warp}
 use Rattle.process_sm_machine.specs.declared.Warp.TheVariants.{Closed, Open}
 use Rattle.process_sm_machine.specs.declared.State.{State}
-use Rattle.process_sm_machine.specs.declared.Written.{Written}
-use Rattle.process_sm_machine.specs.declared.Written.TheVariants.{Nothing, One}
 use Rattle.process_sm_machine.specs.declared.Moved.{Moved}
 use Rattle.process_sm_walk.specs.declared.Places.{Places}
 use Rattle.process_sm_walk.specs.declared.Counts.{Counts}
@@ -23,7 +21,7 @@ use Rattle.process_sm_machine.proofs.Either.{either}
 use Rattle.process_sm_machine.specs.Machine.{fits, warp_over, tempo_after, owed_at, keep_warp, close_by_time, pass_in_warp, pass_by, pass, tempo_outside, tempo_by, meet_tempo, stop_outside, close_by_stop, begin_again, stop_in_warp, stop_by, meet_stop, beat_at, meet, warp_end_of, finish_warp, finish_by, finish, time_passed, met}
 use Rattle.process_sm_walk.proofs.PlacedInColumns.{counted-more}
 
-one_or_none : (b : Bool) (x : Entry) → length (written_list (pick b Nothing (One x))) ≡ pick b 0 1
+one_or_none : (b : Bool) (x : Entry) → length (written_list (pick b None (Some x))) ≡ pick b 0 1
 one_or_none true x = refl
 one_or_none false x = refl
 
@@ -33,7 +31,7 @@ tempo_after_length warp tempo = one_or_none (eq tempo warp.former) _
 
 warp_over_length : (start end : Float) → length (written_list (warp_over start end)) ≤ 1
 unfolding warp_over
-warp_over_length start end = either (λ (w : Written). length (written_list w) ≤ 1) (lt start end) _ _ (omega arith) (omega arith)
+warp_over_length start end = either (λ (w : Option Entry). length (written_list w) ≤ 1) (lt start end) _ _ (omega arith) (omega arith)
 
 pending-one : (warp : Opened) (tempo : Float) → pending_in (Open warp) tempo ≤ 1
 pending-one warp tempo = either (λ (n : ℕ). n ≤ 1) (eq tempo warp.former) 0 1 (omega arith) (omega arith)

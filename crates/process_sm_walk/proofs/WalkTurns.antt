@@ -1,5 +1,5 @@
 -- The walk over the changes: what the loop knows, one turn, the end. Assumes nothing.
-use Rattle.std.proofs.Common.{◌≡◌, ℕ, zero, suc, ◌+◌, ◌-◌, ◌<◌, ◌≤◌, max, true, List, [], ◌∷◌, length, drop, sym, ap, ◌∙◌, arith}
+use Rattle.std.proofs.Common.{◌≡◌, ℕ, zero, suc, ◌+◌, ◌-◌, ◌<◌, ◌≤◌, max, true, List, [], ◌∷◌, length, drop, sym, ap, ◌∙◌, arith, Some, None}
 use native.Mathlib.Nat.{le-max_left, max-le}
 use lib.Ieee.{Float, eq}
 use Rattle.process_sm_machine.specs.declared.Change.{Change}
@@ -11,7 +11,6 @@ use Rattle.process_sm_walk.specs.Chart.{Output, joined, written_by, written_at, 
 use Rattle.process_sm_walk.specs.Columns.{Columns, most_written}
 use Rattle.process_sm_walk.specs.inside.Written.{written_into, counted}
 use Rattle.process_sm_walk.specs.inside.Rooms.{Room, WrittenWithin, Reached}
-use Rattle.process_sm_walk.specs.declared.Next.TheVariants.{Here, End}
 use Rattle.process_sm_machine.specs.declared.State.{State}
 use Rattle.process_sm_machine.specs.declared.Moved.{Moved}
 use Rattle.process_sm_walk.specs.declared.Places.{Places}
@@ -78,7 +77,7 @@ module _ (tb tv sb sv : List Float) (chart : Chart tb tv sb sv) (into₀ : Colum
     (g : Going tb tv sb sv into₀ places₀ state₀ counts₀ into places state counts) where
   -- ---- one turn
 
-  module _ (change : Change) (h : head_of (changes_left (entries tb tv) (entries sb sv) places) ≡ Here change) where
+  module _ (change : Change) (h : head_of (changes_left (entries tb tv) (entries sb sv) places) ≡ Some change) where
     reached' : Reached (length tb) (length sb) (advanced places change)
     reached' = reached-next tb tv sb sv places change chart g.reached (next_in_list (entries tb tv) (entries sb sv) places change h)
 
@@ -116,7 +115,7 @@ module _ (tb tv sb sv : List Float) (chart : Chart tb tv sb sv) (into₀ : Colum
 
   -- ---- the end
 
-  module _ (h : head_of (changes_left (entries tb tv) (entries sb sv) places) ≡ End) (ending : Moved) (f : ending ≡ finish state) where
+  module _ (h : head_of (changes_left (entries tb tv) (entries sb sv) places) ≡ None) (ending : Moved) (f : ending ≡ finish state) where
     pub room-end : Room (counted counts (written_by ending)) into
     room-end =
         rw f

@@ -1,9 +1,9 @@
 -- The opening and the walk together. Assumes nothing.
-use Rattle.std.proofs.Common.{◌≡◌, ◌≤◌, max, true, List, [], ◌∷◌, length, sym, refl, ap, ◌∙◌, arith}
+use Rattle.process_sm_machine.specs.declared.Entry.{Entry}
+use Rattle.std.proofs.Common.{◌≡◌, ◌≤◌, max, true, List, [], ◌∷◌, length, sym, refl, ap, ◌∙◌, arith, Option}
 use native.Mathlib.Nat.{le-max_left, le-max_right, max-le}
 use lib.Ieee.{Float, eq, of_bits}
 use Rattle.ieee.specs.Constants.{sixty32}
-use Rattle.process_sm_machine.specs.declared.Written.{Written}
 use Rattle.process_sm_machine.specs.declared.Moved.{Moved}
 use Rattle.order.specs.Entries.{entries}
 use Rattle.process_sm_walk.specs.Changes.{changes_left}
@@ -25,7 +25,7 @@ use Rattle.process_sm_walk.proofs.Opening.{fewer-tempos, fewer-stops, last-numbe
 
 opening-one : (tempo : Float) → length (written_list (open_chart tempo).tempo) ≤ 1
 unfolding open_chart
-opening-one tempo = either (λ (w : Written). length (written_list w) ≤ 1) (fits tempo) _ _ (omega arith) (omega arith)
+opening-one tempo = either (λ (w : Option Entry). length (written_list w) ≤ 1) (fits tempo) _ _ (omega arith) (omega arith)
 
 sixty-number : eq sixty32 sixty32 ≡ true
 unfolding eq of_bits

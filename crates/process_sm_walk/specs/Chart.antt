@@ -1,5 +1,6 @@
 -- SM processing of tempos and stops that are narrowed to f32 and in order: the opening, the walk over the changes, the end. Definitions only.
-use Rattle.std.specs.Prelude.{◌≡◌, ℕ, suc, max, true, List, [], ◌∷◌, ◌++◌, length, Float}
+use Rattle.process_sm_machine.specs.declared.Entry.{Entry}
+use Rattle.std.specs.Prelude.{◌≡◌, ℕ, suc, max, true, List, [], ◌∷◌, ◌++◌, length, Float, Option, Some, None}
 use Rattle.std.specs.Float.{binary32}
 use Rattle.std.specs.Float.Ieee.{sub, eq, lt, le}
 use Rattle.ieee.specs.Constants.{plus_zero32, sixty32}
@@ -8,8 +9,6 @@ use Rattle.order.specs.Entries.{entries}
 use Rattle.process_sm_machine.specs.Machine.{open_chart, time_passed, met, finish}
 use Rattle.process_sm_machine.specs.declared.Change.{Change}
 use Rattle.process_sm_machine.specs.declared.State.{State}
-use Rattle.process_sm_machine.specs.declared.Written.{Written}
-use Rattle.process_sm_machine.specs.declared.Written.TheVariants.{Nothing, One}
 use Rattle.process_sm_machine.specs.declared.Moved.{Moved}
 use Rattle.process_sm_walk.specs.declared.Places.{Places}
 use Rattle.process_sm_walk.specs.Changes.{pair_of, changes_left}
@@ -21,9 +20,9 @@ pub record Output : Type 0 where
   pub stops : List (Float × Float)
   pub warps : List (Float × Float)
 
-abbrev pub written_list : Written → List (Float × Float)
-written_list Nothing = []
-written_list (One entry) = pair_of entry ∷ []
+abbrev pub written_list : Option Entry → List (Float × Float)
+written_list None = []
+written_list (Some entry) = pair_of entry ∷ []
 
 abbrev pub written_by : Moved → Output
 written_by moved = record { tempos = written_list moved.tempo; stops = written_list moved.stop; warps = written_list moved.warp }

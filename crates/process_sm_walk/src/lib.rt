@@ -19,14 +19,7 @@ ghost use Rattle.process_sm_walk.specs.inside.Written.{laid_from, written_into, 
 ghost use Rattle.process_sm_walk.specs.inside.Rooms.{Room, WrittenWithin, Reached};
 ghost use Rattle.process_sm_walk.specs.inside.NoWarp.{is_pause, NoWarp, rowed};
 
-use process_sm_machine::{Change, Entry, Moved, State, Warp, Written};
-
-// The change that comes next, if there is one.
-#[derive(Clone, Copy)]
-pub enum Next {
-    Here(Change),
-    End,
-}
+use process_sm_machine::{Change, Entry, Moved, State, Warp};
 
 // The places of the next tempo and the next stop.
 #[derive(Clone, Copy)]
@@ -71,7 +64,7 @@ fn next_change(
     stop_beats: &[f32],
     stop_values: &[f32],
     places: Places,
-) -> Next
+) -> Option<Change>
     requires tempo_beats_len { length tempo_beats.now ≡ length tempo_values.now }
     requires stop_beats_len { length stop_beats.now ≡ length stop_values.now }
     ensures { let tempos = entries tempo_beats.now tempo_values.now in
@@ -87,17 +80,17 @@ fn next_change(
             let tempo_beat = tempo.beat;
             let stop_beat = stop.beat;
             if tempo_beat <= stop_beat {
-                return Next::Here(Change::Tempo(tempo));
+                return Some(Change::Tempo(tempo));
             }
-            return Next::Here(Change::Stop(stop));
+            return Some(Change::Stop(stop));
         }
-        return Next::Here(Change::Tempo(tempo));
+        return Some(Change::Tempo(tempo));
     }
     if stop_at < stop_beats.len() {
         let stop = entry_at(stop_beats, stop_values, stop_at);
-        return Next::Here(Change::Stop(stop));
+        return Some(Change::Stop(stop));
     }
-    Next::End
+    None
 }
 
 fn advance(places: Places, change: Change) -> Places
@@ -118,15 +111,15 @@ fn advance(places: Places, change: Change) -> Places
 
 // ---- writing
 
-fn put(beats: &mut [f64], values: &mut [f64], at: usize, what: Written) -> usize
+fn put(beats: &mut [f64], values: &mut [f64], at: usize, what: Option<Entry>) -> usize
     requires { (at + length (written_list what) ≤ length beats.old) × (at + length (written_list what) ≤ length values.old) }
     ensures value { result ≡ at + length (written_list what) }
     ensures beats_after { beats.new ≡ laid_from at (map first (written_list what)) beats.old }
     ensures values_after { values.new ≡ laid_from at (map second (written_list what)) values.old }
 {
     match what {
-        Written::Nothing => at,
-        Written::One(entry) => {
+        None => at,
+        Some(entry) => {
             beats[at] = std::num::f32_to_f64_with_nan(entry.beat);
             values[at] = std::num::f32_to_f64_with_nan(entry.value);
             at + 1
@@ -353,7 +346,7 @@ fn walk_on(
     loop {
         let next = next_change(tempo_beats, tempo_values, stop_beats, stop_values, places);
         match next {
-            Next::End => {
+            None => {
                 let ending = process_sm_machine::finish(state);
                 return write(
                     out_tempo_beats,
@@ -366,7 +359,7 @@ fn walk_on(
                     ending,
                 );
             }
-            Next::Here(change) => {
+            Some(change) => {
                 let standing = take_change(
                     out_tempo_beats,
                     out_tempo_values,

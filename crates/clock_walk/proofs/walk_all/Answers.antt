@@ -49,15 +49,15 @@ pass_event-state-requires c =
     let a = s.args in
     let t : Timing = timing a.tempo_beats.now a.tempo_values.now a.stop_beats.now a.stop_values.now a.delay_beats.now a.delay_values.now a.warp_beats.now a.warp_lengths.now in
     let g = s.well_formed in
-    moves t c.loop-next.state c.in-Found.next (sym (is-ahead (goal.at.pass_event-state-requires c).After-find_ahead-found) ∙ c.in-Found.is) g.1.0.1 g.1.1.1.0.1 g.1.1.1.1.1.0.1 g.1.1.1.1.1.1.1.0.1
+    moves t c.loop-next.state c.in-Some.next (sym (is-ahead (goal.at.pass_event-state-requires c).After-find_ahead-found) ∙ c.in-Some.is) g.1.0.1 g.1.1.1.0.1 g.1.1.1.1.1.0.1 g.1.1.1.1.1.1.1.0.1
 
 -- the event that is found is passed
 is-passed : (c : After-pass_event-state) →
     let a = c.args in
     let t : Timing = timing a.tempo_beats.now a.tempo_values.now a.stop_beats.now a.stop_values.now a.delay_beats.now a.delay_values.now a.warp_beats.now a.warp_lengths.now in
-    c.pass_event-state.result ≡ passing c.early_tempo-early.result t c.loop-next.state c.in-Found.next
+    c.pass_event-state.result ≡ passing c.early_tempo-early.result t c.loop-next.state c.in-Some.next
 is-passed c =
-    let n = c.in-Found.next in
+    let n = c.in-Some.next in
     rw (c.pass_event-state.ensures, c.number_of-number.ensures, rw (back n.row (record { sfits = c.struct_told-in-loop-next-1.given.0.1 })) at c.time_at-time.ensures)
 
 moved : (c : After-pass_event-state) →
@@ -68,14 +68,14 @@ moved c =
     let a = c.args in
     let t : Timing = timing a.tempo_beats.now a.tempo_values.now a.stop_beats.now a.stop_values.now a.delay_beats.now a.delay_values.now a.warp_beats.now a.warp_lengths.now in
     let s = c.loop-next.state in
-    is-passed c ∙ sym (ap (past_found c.early_tempo-early.result t s) (sym (is-ahead (goal.at.After-pass_event-state c).After-find_ahead-found) ∙ c.in-Found.is))
+    is-passed c ∙ sym (ap (past_found c.early_tempo-early.result t s) (sym (is-ahead (goal.at.After-pass_event-state c).After-find_ahead-found) ∙ c.in-Some.is))
 
 pub loop-next-smaller : goal.loop-next-smaller
 loop-next-smaller c =
     let a = c.args in
     let t : Timing = timing a.tempo_beats.now a.tempo_values.now a.stop_beats.now a.stop_values.now a.delay_beats.now a.delay_values.now a.warp_beats.now a.warp_lengths.now in
     let s = c.loop-next.state in
-    let is : ahead t s ≡ _ = sym (is-ahead (goal.at.loop-next-smaller c).After-find_ahead-found) ∙ c.in-Found.is in
+    let is : ahead t s ≡ _ = sym (is-ahead (goal.at.loop-next-smaller c).After-find_ahead-found) ∙ c.in-Some.is in
     subst (λ (x : State). events_left t x < events_left t s) (sym (moved (goal.at.loop-next-smaller c).After-pass_event-state)) (left-falls c.early_tempo-early.result t s (ap is_found is))
 
 pub loop-next-preserved : goal.loop-next-preserved
@@ -84,8 +84,8 @@ loop-next-preserved c =
     let t : Timing = timing a.tempo_beats.now a.tempo_values.now a.stop_beats.now a.stop_values.now a.delay_beats.now a.delay_values.now a.warp_beats.now a.warp_lengths.now in
     let l = c.loop-next in
     let early = c.early_tempo-early.result in
-    let n = c.in-Found.next in
-    let is : ahead t l.state ≡ _ = sym (is-ahead (goal.at.loop-next-preserved c).After-find_ahead-found) ∙ c.in-Found.is in
+    let n = c.in-Some.next in
+    let is : ahead t l.state ≡ _ = sym (is-ahead (goal.at.loop-next-preserved c).After-find_ahead-found) ∙ c.in-Some.is in
     let f : SFits w32 n.row = record { sfits = c.struct_told-in-loop-next-2-1.given.0.1 } in
     let g : SFits w32 c.greater_of-greatest.result = search rules in
     let most : to_z w32 (of_z w32 c.greater_of-greatest.result) ≡ greater_row (to_z w32 l.greatest-bits) n.row = back c.greater_of-greatest.result g ∙ c.greater_of-greatest.ensures ∙ ap (greater_row (to_z w32 l.greatest-bits)) (back n.row f) in (

@@ -1,5 +1,5 @@
 -- `clock_walk::walk_by` passes what is over by a time. Assumes nothing.
-use Rattle.std.proofs.Common.{◌≡◌, ◌+◌, ◌^◌, ◌<◌, true, sym, refl, ap, ◌∙◌, arith, w32, to_z, of_z}
+use Rattle.std.proofs.Common.{◌≡◌, ◌+◌, ◌^◌, ◌<◌, true, sym, refl, ap, ◌∙◌, arith, w32, to_z, of_z, Option, Some}
 use lib.Ieee.{Float}
 use Rattle.ieee.specs.Constants.{plus_zero}
 use Rattle.chart.specs.Timing.{Timing, timing}
@@ -12,8 +12,6 @@ use Rattle.clock_walk.specs.Heads.{heads_of, heads_after, ahead_of}
 use Rattle.chart.specs.declared.State.{State}
 use Rattle.clock_walk.specs.declared.Next.{Next}
 use Rattle.clock_walk.specs.declared.Event.TheVariants.{Tempo}
-use Rattle.clock_walk.specs.declared.Ahead.{Ahead}
-use Rattle.clock_walk.specs.declared.Ahead.TheVariants.{Found}
 use Rattle.rows.proofs.BackFromBits.{back}
 use Rattle.clock_walk.proofs.EventByEvent.{moves, count_fits}
 use Rattle.clock_walk.proofs.AllWalks.{Going, turn}
@@ -34,10 +32,10 @@ elapsed-of c = c.args.elapsed
 abbrev early-of : At-loop-tempo → Float
 early-of c = c.args.early
 
-ahead-here : (c : At-loop-tempo) (x : Ahead) → ahead_of c.loop-tempo.heads ≡ x → ahead (timing-of c) c.loop-tempo.state ≡ x
+ahead-here : (c : At-loop-tempo) (x : Option Next) → ahead_of c.loop-tempo.heads ≡ x → ahead (timing-of c) c.loop-tempo.state ≡ x
 ahead-here c x e = sym (ap ahead_of c.loop-tempo.invariant.1 ∙ ahead_by_heads (timing-of c) c.loop-tempo.state) ∙ e
 
-module _ (c : At-loop-tempo) (n : Next) (is : ahead (timing-of c) c.loop-tempo.state ≡ Found n) where
+module _ (c : At-loop-tempo) (n : Next) (is : ahead (timing-of c) c.loop-tempo.state ≡ Some n) where
   can-pass : CanMove c.loop-tempo.state n.kind
   can-pass = let g = c.well_formed in moves (timing-of c) c.loop-tempo.state n is g.1.1.1.0.1 g.1.1.1.1.1.0.1 g.1.1.1.1.1.1.1.0.1 g.1.1.1.1.1.1.1.1.1.0.1
 
@@ -65,7 +63,7 @@ loop-tempo-init c = (record { same = refl; few = omega arith }, c.heads_of-heads
 abbrev tempo-of : At-loop-tempo → Next
 tempo-of c = record { row = c.loop-tempo.heads.tempo; kind = Tempo }
 
-tempo-ahead : (c : Then-is_tempo_over) → let at = c in ahead (timing-of (goal.at.Then-is_tempo_over at).At-loop-tempo) at.loop-tempo.state ≡ Found (tempo-of (goal.at.Then-is_tempo_over at).At-loop-tempo)
+tempo-ahead : (c : Then-is_tempo_over) → let at = c in ahead (timing-of (goal.at.Then-is_tempo_over at).At-loop-tempo) at.loop-tempo.state ≡ Some (tempo-of (goal.at.Then-is_tempo_over at).At-loop-tempo)
 tempo-ahead c = ahead-here (goal.at.Then-is_tempo_over c).At-loop-tempo _ (c.is_tempo_over.ensures c.if-is_tempo_over.true).0
 
 tempo-over : (c : Then-is_tempo_over) → let at = c in is_ahead_over (elapsed-of (goal.at.Then-is_tempo_over at).At-loop-tempo) (early-of (goal.at.Then-is_tempo_over at).At-loop-tempo) (timing-of (goal.at.Then-is_tempo_over at).At-loop-tempo) at.loop-tempo.state ≡ true
@@ -112,13 +110,13 @@ returns-in_default c =
 -- the time of what is found
 comes-at : (c : After-time_at-time-in-loop-tempo) →
     let at = c in
-    c.time_at-time-in-loop-tempo.result ≡ time_at (early-of (goal.at.After-time_at-time-in-loop-tempo at).At-loop-tempo) (timing-of (goal.at.After-time_at-time-in-loop-tempo at).At-loop-tempo).tempo_values at.loop-tempo.state c.in-Found.next.row
+    c.time_at-time-in-loop-tempo.result ≡ time_at (early-of (goal.at.After-time_at-time-in-loop-tempo at).At-loop-tempo) (timing-of (goal.at.After-time_at-time-in-loop-tempo at).At-loop-tempo).tempo_values at.loop-tempo.state c.in-Some.next.row
 comes-at c =
-    let n = c.in-Found.next in
+    let n = c.in-Some.next in
     rw (back n.row (record { sfits = c.struct_told-in-loop-tempo-1.given.0.1 })) at c.time_at-time-in-loop-tempo.ensures
 
-is_found : (c : After-time_at-time-in-loop-tempo) → let at = c in ahead (timing-of (goal.at.After-time_at-time-in-loop-tempo at).At-loop-tempo) at.loop-tempo.state ≡ Found c.in-Found.next
-is_found c = ahead-here (goal.at.After-time_at-time-in-loop-tempo c).At-loop-tempo _ (sym c.find_ahead-found.ensures ∙ c.in-Found.is)
+is_found : (c : After-time_at-time-in-loop-tempo) → let at = c in ahead (timing-of (goal.at.After-time_at-time-in-loop-tempo at).At-loop-tempo) at.loop-tempo.state ≡ Some c.in-Some.next
+is_found c = ahead-here (goal.at.After-time_at-time-in-loop-tempo c).At-loop-tempo _ (sym c.find_ahead-found.ensures ∙ c.in-Some.is)
 
 pub returns-then-elapsed-time : goal.returns-then-elapsed-time
 returns-then-elapsed-time c =
@@ -133,7 +131,7 @@ returns-then-elapsed-time c =
 runs : (c : After-still_runs) →
     let timed = c in
     let at = timed in
-    let n = timed.in-Found.next in
+    let n = timed.in-Some.next in
     let t = timing-of (goal.at.After-still_runs at).At-loop-tempo in
     c.still_runs.result ≡ still_runs (elapsed-of (goal.at.After-still_runs at).At-loop-tempo) (time_at (early-of (goal.at.After-still_runs at).At-loop-tempo) t.tempo_values at.loop-tempo.state n.row) (brings t.stop_values t.delay_values t.warp_beats t.warp_lengths at.loop-tempo.state n.kind) n.kind
 runs c = rw (← comes-at (goal.at.After-still_runs c).After-time_at-time-in-loop-tempo, ← c.number_of-number.ensures) c.still_runs.ensures
@@ -163,7 +161,7 @@ found-over c =
 found_passed : (c : After-pass_event-state-in-loop-tempo) →
     let timed = c in
     let at = timed in
-    c.pass_event-state-in-loop-tempo.result ≡ passing (early-of (goal.at.After-pass_event-state-in-loop-tempo at).At-loop-tempo) (timing-of (goal.at.After-pass_event-state-in-loop-tempo at).At-loop-tempo) at.loop-tempo.state timed.in-Found.next
+    c.pass_event-state-in-loop-tempo.result ≡ passing (early-of (goal.at.After-pass_event-state-in-loop-tempo at).At-loop-tempo) (timing-of (goal.at.After-pass_event-state-in-loop-tempo at).At-loop-tempo) at.loop-tempo.state timed.in-Some.next
 found_passed c = rw (← comes-at (goal.at.After-pass_event-state-in-loop-tempo c).After-time_at-time-in-loop-tempo, ← c.number_of-number.ensures) c.pass_event-state-in-loop-tempo.ensures
 
 pub overflow_add-passed-in-loop-tempo : goal.overflow_add-passed-in-loop-tempo

@@ -1,5 +1,5 @@
 -- `clock_walk::walk_to` walks event by event. Assumes nothing.
-use Rattle.std.proofs.Common.{◌≡◌, ◌+◌, ◌^◌, ◌<◌, false, ℤ, sym, refl, ap, ◌∙◌, arith, w32, to_z, of_z}
+use Rattle.std.proofs.Common.{◌≡◌, ◌+◌, ◌^◌, ◌<◌, false, ℤ, sym, refl, ap, ◌∙◌, arith, w32, to_z, of_z, Option, Some, None}
 use lib.Ieee.{Float}
 use Rattle.ieee.specs.Constants.{plus_zero}
 use Rattle.chart.specs.Timing.{Timing, timing}
@@ -13,8 +13,6 @@ use Rattle.chart.specs.declared.State.{State}
 use Rattle.clock_walk.specs.declared.Next.{Next}
 use Rattle.clock_walk.specs.declared.Heads.{Heads}
 use Rattle.clock_walk.specs.declared.Event.TheVariants.{Tempo}
-use Rattle.clock_walk.specs.declared.Due.{Due}
-use Rattle.clock_walk.specs.declared.Due.TheVariants.{Passes, Asked}
 use Rattle.rows.proofs.BackFromBits.{back}
 use Rattle.clock_walk.proofs.EventByEvent.{moves, count_fits}
 use Rattle.clock_walk.proofs.AllWalks.{Going, turn, pass-end}
@@ -41,12 +39,12 @@ start_at c = c.args.start
 abbrev heads_at : At-loop-tempo → State → Heads
 heads_at c s = let t = timing_at c in heads_of t.tempo_beats t.stop_beats t.delay_beats t.warp_beats s
 
-due-here : (c : At-loop-tempo) (d : Due) → due_of (asked_at c) (ahead_of c.loop-tempo.heads) ≡ d → due (timing_at c) (asked_at c) c.loop-tempo.state ≡ d
+due-here : (c : At-loop-tempo) (d : Option Next) → due_of (asked_at c) (ahead_of c.loop-tempo.heads) ≡ d → due (timing_at c) (asked_at c) c.loop-tempo.state ≡ d
 due-here c d e =
     let r = asked_at c in
     sym (ap (λ (h : Heads). due_of r (ahead_of h)) c.loop-tempo.invariant.1 ∙ ap (due_of r) (ahead_by_heads (timing_at c) c.loop-tempo.state)) ∙ e
 
-module _ (c : At-loop-tempo) (n : Next) (is : due (timing_at c) (asked_at c) c.loop-tempo.state ≡ Passes n) where
+module _ (c : At-loop-tempo) (n : Next) (is : due (timing_at c) (asked_at c) c.loop-tempo.state ≡ Some n) where
   can-pass : CanMove c.loop-tempo.state n.kind
   can-pass =
       let t = timing_at c in
@@ -76,7 +74,7 @@ loop-tempo-init c = (record { same = refl; few = omega arith }, c.heads_of-heads
 abbrev tempo_at : At-loop-tempo → Next
 tempo_at c = record { row = c.loop-tempo.heads.tempo; kind = Tempo }
 
-tempo-due : (c : After-struct_told-1) → let l = c in due (timing_at (goal.at.After-struct_told-1 l).At-loop-tempo) (asked_at (goal.at.After-struct_told-1 l).At-loop-tempo) l.loop-tempo.state ≡ Passes (tempo_at (goal.at.After-struct_told-1 l).At-loop-tempo)
+tempo-due : (c : After-struct_told-1) → let l = c in due (timing_at (goal.at.After-struct_told-1 l).At-loop-tempo) (asked_at (goal.at.After-struct_told-1 l).At-loop-tempo) l.loop-tempo.state ≡ Some (tempo_at (goal.at.After-struct_told-1 l).At-loop-tempo)
 tempo-due c = due-here (goal.at.After-struct_told-1 c).At-loop-tempo _ (c.is_tempo_due.ensures c.if-is_tempo_due.true)
 
 pub pass_event-state-requires : goal.pass_event-state-requires
@@ -114,34 +112,34 @@ returns-in_default c =
     let t = timing_at (goal.at.returns-in_default l).At-loop-tempo in
     let r = asked_at (goal.at.returns-in_default l).At-loop-tempo in
     let early = l.early_tempo-early in
-    let none : is_due t r l.loop-tempo.state ≡ false = ap is_passes (due-here (goal.at.returns-in_default l).At-loop-tempo Asked (sym found.find_due-found.ensures ∙ c.in_default.is)) in
+    let none : is_due t r l.loop-tempo.state ≡ false = ap is_passes (due-here (goal.at.returns-in_default l).At-loop-tempo None (sym found.find_due-found.ensures ∙ c.in_default.is)) in
     rw c.time_at-time-in_default.ensures
     (ap (ended early.result t r) (sym (pass-end early.result t (is_due t r) (says_due t r) l.loop-tempo.state l.loop-tempo.passed none) ∙ l.loop-tempo.invariant.0.same)
     ∙ ap (λ (z : ℤ). walk_on early.result t z (start_at (goal.at.returns-in_default l).At-loop-tempo) 0) (back s.args.asked s.ranges.asked)
     ∙ ap (λ (x : Float). walk_on x t s.args.asked (start_at (goal.at.returns-in_default l).At-loop-tempo) 0) early.ensures)
 
-found-due : (c : After-struct_told-in-loop-tempo-1) → let l = c in due (timing_at (goal.at.After-struct_told-in-loop-tempo-1 l).At-loop-tempo) (asked_at (goal.at.After-struct_told-in-loop-tempo-1 l).At-loop-tempo) l.loop-tempo.state ≡ Passes c.in-Passes.next
-found-due c = due-here (goal.at.After-struct_told-in-loop-tempo-1 c).At-loop-tempo _ (sym c.find_due-found.ensures ∙ c.in-Passes.is)
+found-due : (c : After-struct_told-in-loop-tempo-1) → let l = c in due (timing_at (goal.at.After-struct_told-in-loop-tempo-1 l).At-loop-tempo) (asked_at (goal.at.After-struct_told-in-loop-tempo-1 l).At-loop-tempo) l.loop-tempo.state ≡ Some c.in-Some.next
+found-due c = due-here (goal.at.After-struct_told-in-loop-tempo-1 c).At-loop-tempo _ (sym c.find_due-found.ensures ∙ c.in-Some.is)
 
 pub pass_event-state-requires-in-loop-tempo : goal.pass_event-state-requires-in-loop-tempo
-pass_event-state-requires-in-loop-tempo c = let f = c in can-pass (goal.at.pass_event-state-requires-in-loop-tempo f).At-loop-tempo f.in-Passes.next (found-due (goal.at.pass_event-state-requires-in-loop-tempo f).After-struct_told-in-loop-tempo-1)
+pass_event-state-requires-in-loop-tempo c = let f = c in can-pass (goal.at.pass_event-state-requires-in-loop-tempo f).At-loop-tempo f.in-Some.next (found-due (goal.at.pass_event-state-requires-in-loop-tempo f).After-struct_told-in-loop-tempo-1)
 
-found_passed : (c : After-pass_event-state-in-loop-tempo) → let f = c in let l = f in c.pass_event-state-in-loop-tempo.result ≡ passing (early_at (goal.at.After-pass_event-state-in-loop-tempo l).At-loop-tempo) (timing_at (goal.at.After-pass_event-state-in-loop-tempo l).At-loop-tempo) l.loop-tempo.state f.in-Passes.next
+found_passed : (c : After-pass_event-state-in-loop-tempo) → let f = c in let l = f in c.pass_event-state-in-loop-tempo.result ≡ passing (early_at (goal.at.After-pass_event-state-in-loop-tempo l).At-loop-tempo) (timing_at (goal.at.After-pass_event-state-in-loop-tempo l).At-loop-tempo) l.loop-tempo.state f.in-Some.next
 found_passed c =
-    let n = c.in-Passes.next in
+    let n = c.in-Some.next in
     rw (c.pass_event-state-in-loop-tempo.ensures, c.number_of-number.ensures, rw (back n.row (record { sfits = c.struct_told-in-loop-tempo-1.given.0.1 })) at c.time_at-time-in-loop-tempo.ensures)
 
 pub overflow_add-passed-in-loop-tempo : goal.overflow_add-passed-in-loop-tempo
 overflow_add-passed-in-loop-tempo c = record { fits = counted (goal.at.overflow_add-passed-in-loop-tempo c).At-loop-tempo }
 
 pub loop-tempo-smaller : goal.loop-tempo-smaller
-loop-tempo-smaller c = let p = c in let f = c in (moved (goal.at.loop-tempo-smaller f).At-loop-tempo f.in-Passes.next (found-due (goal.at.loop-tempo-smaller f).After-struct_told-in-loop-tempo-1) p.pass_event-state-in-loop-tempo.result (found_passed (goal.at.loop-tempo-smaller p).After-pass_event-state-in-loop-tempo)).1
+loop-tempo-smaller c = let p = c in let f = c in (moved (goal.at.loop-tempo-smaller f).At-loop-tempo f.in-Some.next (found-due (goal.at.loop-tempo-smaller f).After-struct_told-in-loop-tempo-1) p.pass_event-state-in-loop-tempo.result (found_passed (goal.at.loop-tempo-smaller p).After-pass_event-state-in-loop-tempo)).1
 
 pub loop-tempo-preserved : goal.loop-tempo-preserved
 loop-tempo-preserved c =
     let p = c in
     let f = c in
     let l = f in (
-      (moved (goal.at.loop-tempo-preserved l).At-loop-tempo f.in-Passes.next (found-due (goal.at.loop-tempo-preserved f).After-struct_told-in-loop-tempo-1) p.pass_event-state-in-loop-tempo.result (found_passed (goal.at.loop-tempo-preserved p).After-pass_event-state-in-loop-tempo)).0,
-      rw c.heads_after-heads.ensures (heads-moved (goal.at.loop-tempo-preserved l).At-loop-tempo f.in-Passes.next (found-due (goal.at.loop-tempo-preserved f).After-struct_told-in-loop-tempo-1) p.pass_event-state-in-loop-tempo.result (found_passed (goal.at.loop-tempo-preserved p).After-pass_event-state-in-loop-tempo)),
+      (moved (goal.at.loop-tempo-preserved l).At-loop-tempo f.in-Some.next (found-due (goal.at.loop-tempo-preserved f).After-struct_told-in-loop-tempo-1) p.pass_event-state-in-loop-tempo.result (found_passed (goal.at.loop-tempo-preserved p).After-pass_event-state-in-loop-tempo)).0,
+      rw c.heads_after-heads.ensures (heads-moved (goal.at.loop-tempo-preserved l).At-loop-tempo f.in-Some.next (found-due (goal.at.loop-tempo-preserved f).After-struct_told-in-loop-tempo-1) p.pass_event-state-in-loop-tempo.result (found_passed (goal.at.loop-tempo-preserved p).After-pass_event-state-in-loop-tempo)),
     )

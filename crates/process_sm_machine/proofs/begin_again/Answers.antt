@@ -1,5 +1,4 @@
 use Rattle.process_sm_machine.specs.Machine.{begin_again}
-use borrow.Author.Rules.{rules}
 use Rattle.process_sm_machine.proofs.begin_again.Goals as goal
 
 pub returns : goal.returns

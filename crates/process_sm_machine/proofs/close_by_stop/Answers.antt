@@ -1,5 +1,4 @@
 use Rattle.process_sm_machine.specs.Machine.{close_by_stop}
-use borrow.Author.Rules.{rules}
 use Rattle.process_sm_machine.proofs.close_by_stop.Goals as goal
 
 pub returns : goal.returns

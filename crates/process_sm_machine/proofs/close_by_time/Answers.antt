@@ -1,5 +1,4 @@
 use Rattle.process_sm_machine.specs.Machine.{close_by_time}
-use borrow.Author.Rules.{rules}
 use Rattle.process_sm_machine.proofs.close_by_time.Goals as goal
 
 pub returns : goal.returns

@@ -1,5 +1,4 @@
 use Rattle.process_sm_machine.specs.Machine.{warp_end_of}
-use borrow.Author.Rules.{rules}
 use Rattle.process_sm_machine.proofs.end_of.Goals as goal
 
 pub returns-then-fit : goal.returns-then-fit

@@ -1,4 +1,3 @@
-use borrow.Author.Rules.{rules}
 use Rattle.process_sm_machine.proofs.entry_at.Goals as goal
 
 pub returns : goal.returns

@@ -1,5 +1,4 @@
 use Rattle.process_sm_machine.specs.Machine.{finish_warp}
-use borrow.Author.Rules.{rules}
 use Rattle.process_sm_machine.proofs.finish_warp.Goals as goal
 
 pub returns : goal.returns

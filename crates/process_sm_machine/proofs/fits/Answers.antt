@@ -1,5 +1,4 @@
 use Rattle.process_sm_machine.specs.Machine.{fits}
-use borrow.Author.Rules.{rules}
 use Rattle.process_sm_machine.proofs.fits.Goals as goal
 
 pub returns-then-tempo : goal.returns-then-tempo

@@ -1,5 +1,4 @@
 use Rattle.process_sm_machine.specs.Machine.{keep_warp}
-use borrow.Author.Rules.{rules}
 use Rattle.process_sm_machine.proofs.keep_warp.Goals as goal
 
 pub returns : goal.returns

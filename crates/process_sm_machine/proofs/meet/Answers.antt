@@ -1,4 +1,3 @@
-use borrow.Author.Rules.{rules}
 use Rattle.process_sm_machine.proofs.meet.Goals as goal
 
 pub returns-in-Tempo : goal.returns-in-Tempo

@@ -1,5 +1,4 @@
 use Rattle.process_sm_machine.specs.Machine.{open_chart}
-use borrow.Author.Rules.{rules}
 use Rattle.process_sm_machine.proofs.open_chart.Goals as goal
 
 pub returns-then-written : goal.returns-then-written

@@ -1,5 +1,4 @@
 use Rattle.process_sm_machine.specs.Machine.{owed_at}
-use borrow.Author.Rules.{rules}
 use Rattle.process_sm_machine.proofs.owed_at.Goals as goal
 
 pub returns-then-tempo : goal.returns-then-tempo

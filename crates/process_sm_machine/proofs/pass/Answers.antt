@@ -1,5 +1,4 @@
 use Rattle.process_sm_machine.specs.Machine.{pass}
-use borrow.Author.Rules.{rules}
 use Rattle.process_sm_machine.proofs.pass.Goals as goal
 
 pub returns-in-Closed : goal.returns-in-Closed

@@ -1,6 +1,5 @@
 use mathlib.Core.Path.{sym, ◌∙◌}
 use Rattle.process_sm_machine.proofs.TimeByTests.{pass-close, pass-keep, pass_unfit}
-use borrow.Author.Rules.{rules}
 use Rattle.process_sm_machine.proofs.pass_in_warp.Goals as goal
 
 pub returns-then-owed : goal.returns-then-owed

@@ -1,5 +1,4 @@
 use Rattle.process_sm_machine.specs.Machine.{stop_in_warp}
-use borrow.Author.Rules.{rules}
 use Rattle.process_sm_machine.proofs.stop_in_warp.Goals as goal
 
 pub returns-then-fit : goal.returns-then-fit

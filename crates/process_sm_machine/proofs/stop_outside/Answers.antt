@@ -1,5 +1,4 @@
 use Rattle.process_sm_machine.specs.Machine.{stop_outside}
-use borrow.Author.Rules.{rules}
 use Rattle.process_sm_machine.proofs.stop_outside.Goals as goal
 
 pub returns-then-length : goal.returns-then-length

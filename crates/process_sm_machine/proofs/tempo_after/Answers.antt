@@ -1,5 +1,4 @@
 use Rattle.process_sm_machine.specs.Machine.{tempo_after}
-use borrow.Author.Rules.{rules}
 use Rattle.process_sm_machine.proofs.tempo_after.Goals as goal
 
 pub returns-then-tempo-former : goal.returns-then-tempo-former

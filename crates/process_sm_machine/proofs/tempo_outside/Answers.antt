@@ -1,5 +1,4 @@
 use Rattle.process_sm_machine.specs.Machine.{tempo_outside}
-use borrow.Author.Rules.{rules}
 use Rattle.process_sm_machine.proofs.tempo_outside.Goals as goal
 
 pub returns-then-fit : goal.returns-then-fit

@@ -1,5 +1,4 @@
 use Rattle.process_sm_machine.specs.Machine.{warp_over}
-use borrow.Author.Rules.{rules}
 use Rattle.process_sm_machine.proofs.warp_over.Goals as goal
 
 pub returns-then-end-start : goal.returns-then-end-start

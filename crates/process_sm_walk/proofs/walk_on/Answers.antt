@@ -7,7 +7,7 @@ use Rattle.process_sm_walk.proofs.OneChange.{SameLengths, same_refl, same-writte
 use Rattle.process_sm_walk.proofs.WalkTurns.{Going, ahead, room-turn, turn, room-end, ended}
 use Rattle.process_sm_walk.proofs.WalkedByLists.{room-tempos, room-stops, by-lists}
 use Rattle.process_sm_walk.proofs.walk_on.Goals as goal
-use Rattle.process_sm_walk.proofs.walk_on.Goals.{After-advance-places, After-slice_known-in-End-6-1, At-loop-ending, Start}
+use Rattle.process_sm_walk.proofs.walk_on.Goals.{After-advance-places, After-slice_known-in-None-6-1, At-loop-ending, Start}
 
 -- the columns as they were lent
 abbrev rooms : Start → Columns
@@ -66,7 +66,7 @@ take_change-standing-requires c =
     let next = c in
     let at = c in
     let s = begun (goal.at.take_change-standing-requires at).At-loop-ending in
-    room-turn s.args.tempo_beats.now s.args.tempo_values.now s.args.stop_beats.now s.args.stop_values.now s.requires.chart (rooms s) s.requires.fact s.args.first s.args.opening s.args.so_far (standing (goal.at.take_change-standing-requires at).At-loop-ending) at.loop-ending.places at.loop-ending.state at.loop-ending.counts at.loop-ending.invariant next.in-Here.change (sym c.next_change-next.ensures ∙ next.in-Here.is)
+    room-turn s.args.tempo_beats.now s.args.tempo_values.now s.args.stop_beats.now s.args.stop_values.now s.requires.chart (rooms s) s.requires.fact s.args.first s.args.opening s.args.so_far (standing (goal.at.take_change-standing-requires at).At-loop-ending) at.loop-ending.places at.loop-ending.state at.loop-ending.counts at.loop-ending.invariant next.in-Some.change (sym c.next_change-next.ensures ∙ next.in-Some.is)
 
 pub advance-places-requires : goal.advance-places-requires
 advance-places-requires c =
@@ -90,7 +90,7 @@ turned c =
     let at = c in
     let s = begun (goal.at.After-advance-places at).At-loop-ending in
     let taken = c.take_change-standing in
-    turn s.args.tempo_beats.now s.args.tempo_values.now s.args.stop_beats.now s.args.stop_values.now s.requires.chart (rooms s) s.requires.fact s.args.first s.args.opening s.args.so_far (standing (goal.at.After-advance-places at).At-loop-ending) at.loop-ending.places at.loop-ending.state at.loop-ending.counts at.loop-ending.invariant next.in-Here.change (sym c.next_change-next.ensures ∙ next.in-Here.is)
+    turn s.args.tempo_beats.now s.args.tempo_values.now s.args.stop_beats.now s.args.stop_values.now s.requires.chart (rooms s) s.requires.fact s.args.first s.args.opening s.args.so_far (standing (goal.at.After-advance-places at).At-loop-ending) at.loop-ending.places at.loop-ending.state at.loop-ending.counts at.loop-ending.invariant next.in-Some.change (sym c.next_change-next.ensures ∙ next.in-Some.is)
     taken.result (columns taken.new.tempo_beats taken.new.tempo_values taken.new.stop_beats taken.new.stop_values taken.new.warp_beats taken.new.warp_lengths) c.advance-places.result taken.ensures.value taken.ensures.rooms_value c.advance-places.ensures
 
 pub write-requires : goal.write-requires
@@ -98,45 +98,45 @@ write-requires c =
     let finish = c.finish-ending in
     let at = c in
     let s = begun (goal.at.write-requires at).At-loop-ending in
-    room-end s.args.tempo_beats.now s.args.tempo_values.now s.args.stop_beats.now s.args.stop_values.now s.requires.chart (rooms s) s.requires.fact s.args.first s.args.opening s.args.so_far (standing (goal.at.write-requires at).At-loop-ending) at.loop-ending.places at.loop-ending.state at.loop-ending.counts at.loop-ending.invariant (sym c.next_change-next.ensures ∙ c.in-End.is) finish.result finish.ensures
+    room-end s.args.tempo_beats.now s.args.tempo_values.now s.args.stop_beats.now s.args.stop_values.now s.requires.chart (rooms s) s.requires.fact s.args.first s.args.opening s.args.so_far (standing (goal.at.write-requires at).At-loop-ending) at.loop-ending.places at.loop-ending.state at.loop-ending.counts at.loop-ending.invariant (sym c.next_change-next.ensures ∙ c.in-None.is) finish.result finish.ensures
 
-ended-lengths : (c : After-slice_known-in-End-6-1) → SameLengths (columns c.write.new.tempo_beats c.write.new.tempo_values c.write.new.stop_beats c.write.new.stop_values c.write.new.warp_beats c.write.new.warp_lengths) (rooms (begun (goal.at.After-slice_known-in-End-6-1 c).At-loop-ending))
+ended-lengths : (c : After-slice_known-in-None-6-1) → SameLengths (columns c.write.new.tempo_beats c.write.new.tempo_values c.write.new.stop_beats c.write.new.stop_values c.write.new.warp_beats c.write.new.warp_lengths) (rooms (begun (goal.at.After-slice_known-in-None-6-1 c).At-loop-ending))
 ended-lengths c =
     let write = c.write in
     let at = c in
-    same_then (columns write.new.tempo_beats write.new.tempo_values write.new.stop_beats write.new.stop_values write.new.warp_beats write.new.warp_lengths) (standing (goal.at.After-slice_known-in-End-6-1 at).At-loop-ending) (rooms (begun (goal.at.After-slice_known-in-End-6-1 at).At-loop-ending))
-    (same-written at.loop-ending.counts (written_by c.finish-ending.result) (columns write.new.tempo_beats write.new.tempo_values write.new.stop_beats write.new.stop_values write.new.warp_beats write.new.warp_lengths) (standing (goal.at.After-slice_known-in-End-6-1 at).At-loop-ending) write.ensures.rooms_value) at.loop-ending.invariant.lengths
+    same_then (columns write.new.tempo_beats write.new.tempo_values write.new.stop_beats write.new.stop_values write.new.warp_beats write.new.warp_lengths) (standing (goal.at.After-slice_known-in-None-6-1 at).At-loop-ending) (rooms (begun (goal.at.After-slice_known-in-None-6-1 at).At-loop-ending))
+    (same-written at.loop-ending.counts (written_by c.finish-ending.result) (columns write.new.tempo_beats write.new.tempo_values write.new.stop_beats write.new.stop_values write.new.warp_beats write.new.warp_lengths) (standing (goal.at.After-slice_known-in-None-6-1 at).At-loop-ending) write.ensures.rooms_value) at.loop-ending.invariant.lengths
 
-pub returns-in-End : goal.returns-in-End
-returns-in-End c =
+pub returns-in-None : goal.returns-in-None
+returns-in-None c =
     let write = c.write in
     let finish = c.finish-ending in
     let at = c in
-    let s = begun (goal.at.returns-in-End at).At-loop-ending in
-    let given = ended s.args.tempo_beats.now s.args.tempo_values.now s.args.stop_beats.now s.args.stop_values.now s.requires.chart (rooms s) s.requires.fact s.args.first s.args.opening s.args.so_far (standing (goal.at.returns-in-End at).At-loop-ending) at.loop-ending.places at.loop-ending.state at.loop-ending.counts at.loop-ending.invariant (sym c.next_change-next.ensures ∙ c.in-End.is) finish.result finish.ensures
+    let s = begun (goal.at.returns-in-None at).At-loop-ending in
+    let given = ended s.args.tempo_beats.now s.args.tempo_values.now s.args.stop_beats.now s.args.stop_values.now s.requires.chart (rooms s) s.requires.fact s.args.first s.args.opening s.args.so_far (standing (goal.at.returns-in-None at).At-loop-ending) at.loop-ending.places at.loop-ending.state at.loop-ending.counts at.loop-ending.invariant (sym c.next_change-next.ensures ∙ c.in-None.is) finish.result finish.ensures
     write.result (columns write.new.tempo_beats write.new.tempo_values write.new.stop_beats write.new.stop_values write.new.warp_beats write.new.warp_lengths) write.ensures.value write.ensures.rooms_value in
     record {
       result_value = given.0;
       rooms_value = given.1;
     }
 
-pub shape_of-out_tempo_beats-in-End : goal.shape_of-out_tempo_beats-in-End
-shape_of-out_tempo_beats-in-End c = (ended-lengths c).tempo_beats
+pub shape_of-out_tempo_beats-in-None : goal.shape_of-out_tempo_beats-in-None
+shape_of-out_tempo_beats-in-None c = (ended-lengths c).tempo_beats
 
-pub shape_of-out_tempo_values-in-End : goal.shape_of-out_tempo_values-in-End
-shape_of-out_tempo_values-in-End c = (ended-lengths c).tempo_values
+pub shape_of-out_tempo_values-in-None : goal.shape_of-out_tempo_values-in-None
+shape_of-out_tempo_values-in-None c = (ended-lengths c).tempo_values
 
-pub shape_of-out_stop_beats-in-End : goal.shape_of-out_stop_beats-in-End
-shape_of-out_stop_beats-in-End c = (ended-lengths c).stop_beats
+pub shape_of-out_stop_beats-in-None : goal.shape_of-out_stop_beats-in-None
+shape_of-out_stop_beats-in-None c = (ended-lengths c).stop_beats
 
-pub shape_of-out_stop_values-in-End : goal.shape_of-out_stop_values-in-End
-shape_of-out_stop_values-in-End c = (ended-lengths c).stop_values
+pub shape_of-out_stop_values-in-None : goal.shape_of-out_stop_values-in-None
+shape_of-out_stop_values-in-None c = (ended-lengths c).stop_values
 
-pub shape_of-out_warp_beats-in-End : goal.shape_of-out_warp_beats-in-End
-shape_of-out_warp_beats-in-End c = (ended-lengths c).warp_beats
+pub shape_of-out_warp_beats-in-None : goal.shape_of-out_warp_beats-in-None
+shape_of-out_warp_beats-in-None c = (ended-lengths c).warp_beats
 
-pub shape_of-out_warp_lengths-in-End : goal.shape_of-out_warp_lengths-in-End
-shape_of-out_warp_lengths-in-End c = (ended-lengths c).warp_lengths
+pub shape_of-out_warp_lengths-in-None : goal.shape_of-out_warp_lengths-in-None
+shape_of-out_warp_lengths-in-None c = (ended-lengths c).warp_lengths
 
 pub loop-ending-smaller : goal.loop-ending-smaller
 loop-ending-smaller c = (turned c).1
