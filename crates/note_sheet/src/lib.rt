@@ -136,20 +136,14 @@ fn rows_rise(rows: &[i32]) -> bool
 fn snap_rows(rows: &[i32], out: &mut [u8])
     ensures { out.new ≡ laid_each colour_of rows.now out.old }
 {
-    let n = columns::room_of(rows.len(), out.len());
-    for (i, &row) in rows[..n].iter().enumerate() {
-        out[i] = snap_number(snap_of_row(row));
-    }
+    columns::lay_each(rows, out, |row| snap_number(snap_of_row(row)));
 }
 
 // The beat of each row, in the same way.
 fn beats_of(rows: &[i32], out: &mut [f64])
     ensures { out.new ≡ laid_each (beat_of binary64) rows.now out.old }
 {
-    let n = columns::room_of(rows.len(), out.len());
-    for (i, &row) in rows[..n].iter().enumerate() {
-        out[i] = rows::note_row_to_beat(row);
-    }
+    columns::lay_each(rows, out, rows::note_row_to_beat);
 }
 
 // The counts of a run, added up.
