@@ -117,81 +117,112 @@ fn is_yes(yes: bool, word: u64) -> bool {
 
 // ---- columns: parts of the words read as numbers, and held against what is stored
 
-// All words as numbers of each kind that a column has.
-fn read_f64s(words: &[u64], to: &mut [f64]) {
-    for (i, number) in to.iter_mut().enumerate() {
-        *number = ieee_patterns::f64_of_bits(word_at(words, i));
+// What a column has, as a word of the cases stores it.
+trait Stored: Copy {
+    // What stood in the column before the call.
+    const UNTOUCHED: u64;
+
+    fn is(self, word: u64) -> bool;
+}
+
+// What a case can give to a call.
+trait Given: Stored {
+    fn of_word(word: u64) -> Self;
+}
+
+impl Stored for f64 {
+    const UNTOUCHED: u64 = 0x3FF8_0000_0000_0000;
+
+    fn is(self, word: u64) -> bool {
+        is_f64(self, word)
     }
 }
 
-fn read_f32s(words: &[u64], to: &mut [f32]) {
-    for (i, number) in to.iter_mut().enumerate() {
-        *number = f32_of_word(word_at(words, i));
+impl Given for f64 {
+    fn of_word(word: u64) -> f64 {
+        ieee_patterns::f64_of_bits(word)
     }
 }
 
-fn read_rows(words: &[u64], to: &mut [i32]) {
-    for (i, row) in to.iter_mut().enumerate() {
-        *row = row_of_word(word_at(words, i));
+impl Stored for f32 {
+    const UNTOUCHED: u64 = 0x3FC0_0000;
+
+    fn is(self, word: u64) -> bool {
+        ieee_patterns::bits_of_f32(self) as u64 == word
     }
 }
 
-fn read_bytes(words: &[u64], to: &mut [u8]) {
-    for (i, byte) in to.iter_mut().enumerate() {
-        *byte = (word_at(words, i) % 256) as u8;
+impl Given for f32 {
+    fn of_word(word: u64) -> f32 {
+        f32_of_word(word)
+    }
+}
+
+// A row.
+impl Stored for i32 {
+    const UNTOUCHED: u64 = 77;
+
+    fn is(self, word: u64) -> bool {
+        is_row(self, word)
+    }
+}
+
+impl Given for i32 {
+    fn of_word(word: u64) -> i32 {
+        row_of_word(word)
+    }
+}
+
+// A unit, a mark or a flag.
+impl Stored for u8 {
+    const UNTOUCHED: u64 = 77;
+
+    fn is(self, word: u64) -> bool {
+        is_byte(self, word)
+    }
+}
+
+impl Given for u8 {
+    fn of_word(word: u64) -> u8 {
+        (word % 256) as u8
+    }
+}
+
+impl Stored for u32 {
+    const UNTOUCHED: u64 = 77;
+
+    fn is(self, word: u64) -> bool {
+        is_u32(self, word)
+    }
+}
+
+// A count.
+impl Stored for usize {
+    const UNTOUCHED: u64 = 77;
+
+    fn is(self, word: u64) -> bool {
+        self as u64 == word
+    }
+}
+
+// All words as entries of a column.
+fn read_column<T: Given>(words: &[u64], to: &mut [T]) {
+    for (i, entry) in to.iter_mut().enumerate() {
+        *entry = T::of_word(word_at(words, i));
     }
 }
 
 // The column at a place; none where it would reach past the end.
-fn f64_column<'a>(numbers: &'a [f64], words: &[u64], at: usize) -> &'a [f64] {
+fn column<'a, T>(entries: &'a [T], words: &[u64], at: usize) -> &'a [T] {
     let from = further(at, 1);
     let size = size_at(words, at);
-    if from > numbers.len() {
-        return &numbers[..0];
+    if from > entries.len() {
+        return &entries[..0];
     }
-    if size > numbers.len() - from {
-        return &numbers[..0];
+    if size > entries.len() - from {
+        return &entries[..0];
     }
-    &numbers[from..from + size]
-}
-
-// The column at a place; none where it would reach past the end.
-fn f32_column<'a>(numbers: &'a [f32], words: &[u64], at: usize) -> &'a [f32] {
-    let from = further(at, 1);
-    let size = size_at(words, at);
-    if from > numbers.len() {
-        return &numbers[..0];
-    }
-    if size > numbers.len() - from {
-        return &numbers[..0];
-    }
-    &numbers[from..from + size]
-}
-
-// The column at a place; none where it would reach past the end.
-fn row_column<'a>(numbers: &'a [i32], words: &[u64], at: usize) -> &'a [i32] {
-    let from = further(at, 1);
-    let size = size_at(words, at);
-    if from > numbers.len() {
-        return &numbers[..0];
-    }
-    if size > numbers.len() - from {
-        return &numbers[..0];
-    }
-    &numbers[from..from + size]
-}
-
-// The column at a place; none where it would reach past the end.
-fn byte_column<'a>(numbers: &'a [u8], words: &[u64], at: usize) -> &'a [u8] {
-    let from = further(at, 1);
-    let size = size_at(words, at);
-    if from > numbers.len() {
-        return &numbers[..0];
-    }
-    if size > numbers.len() - from {
-        return &numbers[..0];
-    }
-    &numbers[from..from + size]
+    &entries[from..from + size]
 }
 
 // What a place has to hold: what is stored, and past that what was there before.
@@ -202,62 +233,13 @@ fn entry_or(words: &[u64], column: usize, size: usize, i: usize, untouched: u64)
     untouched
 }
 
-fn same_f64s(words: &[u64], column: usize, found: &[f64]) -> bool {
+// Whether a column is what is stored at a place.
+fn same_column<T: Stored>(words: &[u64], column: usize, found: &[T]) -> bool {
     let size = size_at(words, column);
     let mut same = true;
-    for (i, &number) in found.iter().enumerate() {
-        let stored = entry_or(words, column, size, i, 0x3FF8_0000_0000_0000);
-        same = both(same, is_f64(number, stored));
-    }
-    same
-}
-
-fn same_f32s(words: &[u64], column: usize, found: &[f32]) -> bool {
-    let size = size_at(words, column);
-    let mut same = true;
-    for (i, &number) in found.iter().enumerate() {
-        let stored = entry_or(words, column, size, i, 0x3FC0_0000);
-        same = both(same, ieee_patterns::bits_of_f32(number) as u64 == stored);
-    }
-    same
-}
-
-fn same_rows(words: &[u64], column: usize, found: &[i32]) -> bool {
-    let size = size_at(words, column);
-    let mut same = true;
-    for (i, &row) in found.iter().enumerate() {
-        let stored = entry_or(words, column, size, i, 77);
-        same = both(same, is_row(row, stored));
-    }
-    same
-}
-
-fn same_bytes(words: &[u64], column: usize, found: &[u8]) -> bool {
-    let size = size_at(words, column);
-    let mut same = true;
-    for (i, &byte) in found.iter().enumerate() {
-        let stored = entry_or(words, column, size, i, 77);
-        same = both(same, is_byte(byte, stored));
-    }
-    same
-}
-
-fn same_u32s(words: &[u64], column: usize, found: &[u32]) -> bool {
-    let size = size_at(words, column);
-    let mut same = true;
-    for (i, &number) in found.iter().enumerate() {
-        let stored = entry_or(words, column, size, i, 77);
-        same = both(same, is_u32(number, stored));
-    }
-    same
-}
-
-fn same_counts(words: &[u64], column: usize, found: &[usize]) -> bool {
-    let size = size_at(words, column);
-    let mut same = true;
-    for (i, &count) in found.iter().enumerate() {
-        let stored = entry_or(words, column, size, i, 77);
-        same = both(same, count as u64 == stored);
+    for (i, &entry) in found.iter().enumerate() {
+        let stored = entry_or(words, column, size, i, T::UNTOUCHED);
+        same = both(same, entry.is(stored));
     }
     same
 }
@@ -298,14 +280,14 @@ fn replay_pair(words: &[u64], numbers: &[f64], at: usize) -> Replayed {
     let mut out_values_room = [1.5; ROOM];
     let outcome = tidy(
         word_at(words, at),
-        f64_column(numbers, words, beats_at),
-        f64_column(numbers, words, values_at),
+        column(numbers, words, beats_at),
+        column(numbers, words, values_at),
         &mut out_beats_room,
         &mut out_values_room,
     );
     let mut same = same_outcome(words, answer_at, outcome);
-    same = both(same, same_f64s(words, out_beats_at, &out_beats_room));
-    same = both(same, same_f64s(words, out_values_at, &out_values_room));
+    same = both(same, same_column(words, out_beats_at, &out_beats_room));
+    same = both(same, same_column(words, out_values_at, &out_values_room));
     Replayed {
         same: same,
         next: further(answer_at, 2),
@@ -328,20 +310,20 @@ fn replay_speeds(words: &[u64], numbers: &[f64], bytes: &[u8], at: usize) -> Rep
     let mut out_delays_room = [1.5; ROOM];
     let mut out_units_room = [77u8; ROOM];
     let outcome = tidy_speeds::tidy_speed_segments(
-        f64_column(numbers, words, beats_at),
-        f64_column(numbers, words, ratios_at),
-        f64_column(numbers, words, delays_at),
-        byte_column(bytes, words, units_at),
+        column(numbers, words, beats_at),
+        column(numbers, words, ratios_at),
+        column(numbers, words, delays_at),
+        column(bytes, words, units_at),
         &mut out_beats_room,
         &mut out_ratios_room,
         &mut out_delays_room,
         &mut out_units_room,
     );
     let mut same = same_outcome(words, answer_at, outcome);
-    same = both(same, same_f64s(words, out_beats_at, &out_beats_room));
-    same = both(same, same_f64s(words, out_ratios_at, &out_ratios_room));
-    same = both(same, same_f64s(words, out_delays_at, &out_delays_room));
-    same = both(same, same_bytes(words, out_units_at, &out_units_room));
+    same = both(same, same_column(words, out_beats_at, &out_beats_room));
+    same = both(same, same_column(words, out_ratios_at, &out_ratios_room));
+    same = both(same, same_column(words, out_delays_at, &out_delays_room));
+    same = both(same, same_column(words, out_units_at, &out_units_room));
     Replayed {
         same: same,
         next: further(answer_at, 2),
@@ -385,10 +367,10 @@ fn replay_ssc(words: &[u64], numbers: &[f64], at: usize) -> Replayed {
     let mut out_stop_beats_room = [1.5; ROOM];
     let mut out_stop_values_room = [1.5; ROOM];
     let processed = process_ssc::process_bpms_and_stops_ssc(
-        f64_column(numbers, words, tempo_beats_at),
-        f64_column(numbers, words, tempo_values_at),
-        f64_column(numbers, words, stop_beats_at),
-        f64_column(numbers, words, stop_values_at),
+        column(numbers, words, tempo_beats_at),
+        column(numbers, words, tempo_values_at),
+        column(numbers, words, stop_beats_at),
+        column(numbers, words, stop_values_at),
         &mut out_tempo_beats_room,
         &mut out_tempo_values_room,
         &mut out_stop_beats_room,
@@ -397,19 +379,19 @@ fn replay_ssc(words: &[u64], numbers: &[f64], at: usize) -> Replayed {
     let mut same = same_processed(words, answer_at, processed);
     same = both(
         same,
-        same_f64s(words, out_tempo_beats_at, &out_tempo_beats_room),
+        same_column(words, out_tempo_beats_at, &out_tempo_beats_room),
     );
     same = both(
         same,
-        same_f64s(words, out_tempo_values_at, &out_tempo_values_room),
+        same_column(words, out_tempo_values_at, &out_tempo_values_room),
     );
     same = both(
         same,
-        same_f64s(words, out_stop_beats_at, &out_stop_beats_room),
+        same_column(words, out_stop_beats_at, &out_stop_beats_room),
     );
     same = both(
         same,
-        same_f64s(words, out_stop_values_at, &out_stop_values_room),
+        same_column(words, out_stop_values_at, &out_stop_values_room),
     );
     Replayed {
         same: same,
@@ -437,10 +419,10 @@ fn replay_sm(words: &[u64], numbers: &[f64], at: usize) -> Replayed {
     let mut out_warp_beats_room = [1.5; ROOM];
     let mut out_warp_lengths_room = [1.5; ROOM];
     let processed = process_sm::process_bpms_and_stops_sm(
-        f64_column(numbers, words, tempo_beats_at),
-        f64_column(numbers, words, tempo_values_at),
-        f64_column(numbers, words, stop_beats_at),
-        f64_column(numbers, words, stop_values_at),
+        column(numbers, words, tempo_beats_at),
+        column(numbers, words, tempo_values_at),
+        column(numbers, words, stop_beats_at),
+        column(numbers, words, stop_values_at),
         &mut out_tempo_beats_room,
         &mut out_tempo_values_room,
         &mut out_stop_beats_room,
@@ -451,27 +433,27 @@ fn replay_sm(words: &[u64], numbers: &[f64], at: usize) -> Replayed {
     let mut same = same_processed(words, answer_at, processed);
     same = both(
         same,
-        same_f64s(words, out_tempo_beats_at, &out_tempo_beats_room),
+        same_column(words, out_tempo_beats_at, &out_tempo_beats_room),
     );
     same = both(
         same,
-        same_f64s(words, out_tempo_values_at, &out_tempo_values_room),
+        same_column(words, out_tempo_values_at, &out_tempo_values_room),
     );
     same = both(
         same,
-        same_f64s(words, out_stop_beats_at, &out_stop_beats_room),
+        same_column(words, out_stop_beats_at, &out_stop_beats_room),
     );
     same = both(
         same,
-        same_f64s(words, out_stop_values_at, &out_stop_values_room),
+        same_column(words, out_stop_values_at, &out_stop_values_room),
     );
     same = both(
         same,
-        same_f64s(words, out_warp_beats_at, &out_warp_beats_room),
+        same_column(words, out_warp_beats_at, &out_warp_beats_room),
     );
     same = both(
         same,
-        same_f64s(words, out_warp_lengths_at, &out_warp_lengths_room),
+        same_column(words, out_warp_lengths_at, &out_warp_lengths_room),
     );
     Replayed {
         same: same,
@@ -494,13 +476,13 @@ fn replay_sm_stops(words: &[u64], floats: &[f32], at: usize) -> Replayed {
     let answer_at = behind(words, work_at);
     let mut work_room = [1.5f32; ROOM];
     let filled = stops_for_sm::convert_warps_and_delays_to_sm_stops(
-        f32_column(floats, words, tempo_beats_at),
-        f32_column(floats, words, tempo_values_at),
-        f32_column(floats, words, stops_at),
-        f32_column(floats, words, delay_beats_at),
-        f32_column(floats, words, delay_values_at),
-        f32_column(floats, words, warp_beats_at),
-        f32_column(floats, words, warp_lengths_at),
+        column(floats, words, tempo_beats_at),
+        column(floats, words, tempo_values_at),
+        column(floats, words, stops_at),
+        column(floats, words, delay_beats_at),
+        column(floats, words, delay_values_at),
+        column(floats, words, warp_beats_at),
+        column(floats, words, warp_lengths_at),
         &mut work_room,
     );
     let mut same = both(
@@ -511,7 +493,7 @@ fn replay_sm_stops(words: &[u64], floats: &[f32], at: usize) -> Replayed {
         same,
         is_yes(filled.own, word_at(words, further(answer_at, 2))),
     );
-    same = both(same, same_f32s(words, work_at, &work_room));
+    same = both(same, same_column(words, work_at, &work_room));
     Replayed {
         same: same,
         next: further(answer_at, 3),
@@ -530,19 +512,19 @@ fn replay_row_store(words: &[u64], floats: &[f32], at: usize) -> Replayed {
     let fake_lengths_at = behind(words, fake_beats_at);
     let stored_at = behind(words, fake_lengths_at);
     let answer_at = behind(words, stored_at);
-    let warp_beats = f32_column(floats, words, warp_beats_at);
+    let warp_beats = column(floats, words, warp_beats_at);
     let marks = [0u8; limits::MOST_ENTRIES];
     let mut stored_room = [77i32; ROOM];
     let mut marks_room = [77u8; limits::MOST_ENTRIES];
     let stored = lookup_row_store::build_segment_row_storage(
-        f32_column(floats, words, stop_beats_at),
-        f32_column(floats, words, stop_values_at),
-        f32_column(floats, words, delay_beats_at),
-        f32_column(floats, words, delay_values_at),
+        column(floats, words, stop_beats_at),
+        column(floats, words, stop_values_at),
+        column(floats, words, delay_beats_at),
+        column(floats, words, delay_values_at),
         warp_beats,
-        f32_column(floats, words, warp_lengths_at),
-        f32_column(floats, words, fake_beats_at),
-        f32_column(floats, words, fake_lengths_at),
+        column(floats, words, warp_lengths_at),
+        column(floats, words, fake_beats_at),
+        column(floats, words, fake_lengths_at),
         report_answer::front_units(&marks, warp_beats.len()),
         &mut stored_room,
         &mut marks_room,
@@ -563,7 +545,7 @@ fn replay_row_store(words: &[u64], floats: &[f32], at: usize) -> Replayed {
         same,
         stored.fakes as u64 == word_at(words, further(answer_at, 4)),
     );
-    same = both(same, same_rows(words, stored_at, &stored_room));
+    same = both(same, same_column(words, stored_at, &stored_room));
     Replayed {
         same: same,
         next: further(answer_at, 5),
@@ -597,14 +579,14 @@ fn replay_lookups(words: &[u64], floats: &[f32], at: usize) -> Replayed {
     let fake_beats_at = behind(words, warp_lengths_at);
     let fake_lengths_at = behind(words, fake_beats_at);
     let answer_at = behind(words, fake_lengths_at);
-    let stop_beats = f32_column(floats, words, stop_beats_at);
-    let stop_values = f32_column(floats, words, stop_values_at);
-    let delay_beats = f32_column(floats, words, delay_beats_at);
-    let delay_values = f32_column(floats, words, delay_values_at);
-    let warp_beats = f32_column(floats, words, warp_beats_at);
-    let warp_lengths = f32_column(floats, words, warp_lengths_at);
-    let fake_beats = f32_column(floats, words, fake_beats_at);
-    let fake_lengths = f32_column(floats, words, fake_lengths_at);
+    let stop_beats = column(floats, words, stop_beats_at);
+    let stop_values = column(floats, words, stop_values_at);
+    let delay_beats = column(floats, words, delay_beats_at);
+    let delay_values = column(floats, words, delay_values_at);
+    let warp_beats = column(floats, words, warp_beats_at);
+    let warp_lengths = column(floats, words, warp_lengths_at);
+    let fake_beats = column(floats, words, fake_beats_at);
+    let fake_lengths = column(floats, words, fake_lengths_at);
     let row = row_of_word(word_at(words, answer_at));
     let beat = ieee_patterns::f64_of_bits(word_at(words, further(answer_at, 1)));
     let number = lookup_checked::check_lookups(
@@ -743,19 +725,19 @@ fn replay_judgable_rows(words: &[u64], floats: &[f32], rows: &[i32], at: usize) 
     let answer_at = behind(words, out_at);
     let mut out_room = [77u8; ROOM];
     let outcome = lookup::judgable_rows(
-        f32_column(floats, words, stop_beats_at),
-        f32_column(floats, words, stop_values_at),
-        f32_column(floats, words, delay_beats_at),
-        f32_column(floats, words, delay_values_at),
-        f32_column(floats, words, warp_beats_at),
-        f32_column(floats, words, warp_lengths_at),
-        f32_column(floats, words, fake_beats_at),
-        f32_column(floats, words, fake_lengths_at),
-        row_column(rows, words, asked_at),
+        column(floats, words, stop_beats_at),
+        column(floats, words, stop_values_at),
+        column(floats, words, delay_beats_at),
+        column(floats, words, delay_values_at),
+        column(floats, words, warp_beats_at),
+        column(floats, words, warp_lengths_at),
+        column(floats, words, fake_beats_at),
+        column(floats, words, fake_lengths_at),
+        column(rows, words, asked_at),
         &mut out_room,
     );
     let mut same = same_outcome(words, answer_at, outcome);
-    same = both(same, same_bytes(words, out_at, &out_room));
+    same = both(same, same_column(words, out_at, &out_room));
     Replayed {
         same: same,
         next: further(answer_at, 2),
@@ -833,14 +815,14 @@ fn bench_answer(
     let mut kinds = [0u8; MOST];
     let mut numbers = [0.0f64; MOST];
     clock_bench::bench_time_for_beat(
-        f32_column(floats, words, tempo_beats_at),
-        f32_column(floats, words, tempo_values_at),
-        f32_column(floats, words, stop_beats_at),
-        f32_column(floats, words, stop_values_at),
-        f32_column(floats, words, delay_beats_at),
-        f32_column(floats, words, delay_values_at),
-        f32_column(floats, words, warp_beats_at),
-        f32_column(floats, words, warp_lengths_at),
+        column(floats, words, tempo_beats_at),
+        column(floats, words, tempo_values_at),
+        column(floats, words, stop_beats_at),
+        column(floats, words, stop_values_at),
+        column(floats, words, delay_beats_at),
+        column(floats, words, delay_values_at),
+        column(floats, words, warp_beats_at),
+        column(floats, words, warp_lengths_at),
         offset,
         global,
         beat,
@@ -875,14 +857,14 @@ fn marked_answer(
     let warp_beats_at = behind(words, delay_values_at);
     let warp_lengths_at = behind(words, warp_beats_at);
     let made = clock::make_mark(
-        f32_column(floats, words, tempo_beats_at),
-        f32_column(floats, words, tempo_values_at),
-        f32_column(floats, words, stop_beats_at),
-        f32_column(floats, words, stop_values_at),
-        f32_column(floats, words, delay_beats_at),
-        f32_column(floats, words, delay_values_at),
-        f32_column(floats, words, warp_beats_at),
-        f32_column(floats, words, warp_lengths_at),
+        column(floats, words, tempo_beats_at),
+        column(floats, words, tempo_values_at),
+        column(floats, words, stop_beats_at),
+        column(floats, words, stop_values_at),
+        column(floats, words, delay_beats_at),
+        column(floats, words, delay_values_at),
+        column(floats, words, warp_beats_at),
+        column(floats, words, warp_lengths_at),
         offset,
         global,
     );
@@ -890,14 +872,14 @@ fn marked_answer(
     let fresh = Cursor::new(offset, global);
     fresh.cursor.time_for_beat_marked(
         mark,
-        f32_column(floats, words, tempo_beats_at),
-        f32_column(floats, words, tempo_values_at),
-        f32_column(floats, words, stop_beats_at),
-        f32_column(floats, words, stop_values_at),
-        f32_column(floats, words, delay_beats_at),
-        f32_column(floats, words, delay_values_at),
-        f32_column(floats, words, warp_beats_at),
-        f32_column(floats, words, warp_lengths_at),
+        column(floats, words, tempo_beats_at),
+        column(floats, words, tempo_values_at),
+        column(floats, words, stop_beats_at),
+        column(floats, words, stop_values_at),
+        column(floats, words, delay_beats_at),
+        column(floats, words, delay_values_at),
+        column(floats, words, warp_beats_at),
+        column(floats, words, warp_lengths_at),
         offset,
         global,
         beat,
@@ -932,39 +914,39 @@ fn replay_question(words: &[u64], floats: &[f32], at: usize) -> Replayed {
     let beat = ieee_patterns::f64_of_bits(word_at(words, further(answer_at, 2)));
     let cursor = cursor_of_words(words, further(answer_at, 3));
     let number = clock_tests::check_timing(
-        f32_column(floats, words, tempo_beats_at),
-        f32_column(floats, words, tempo_values_at),
-        f32_column(floats, words, stop_beats_at),
-        f32_column(floats, words, stop_values_at),
-        f32_column(floats, words, delay_beats_at),
-        f32_column(floats, words, delay_values_at),
-        f32_column(floats, words, warp_beats_at),
-        f32_column(floats, words, warp_lengths_at),
+        column(floats, words, tempo_beats_at),
+        column(floats, words, tempo_values_at),
+        column(floats, words, stop_beats_at),
+        column(floats, words, stop_values_at),
+        column(floats, words, delay_beats_at),
+        column(floats, words, delay_values_at),
+        column(floats, words, warp_beats_at),
+        column(floats, words, warp_lengths_at),
         offset,
         global,
     );
     let answer = cursor.time_for_beat(
-        f32_column(floats, words, tempo_beats_at),
-        f32_column(floats, words, tempo_values_at),
-        f32_column(floats, words, stop_beats_at),
-        f32_column(floats, words, stop_values_at),
-        f32_column(floats, words, delay_beats_at),
-        f32_column(floats, words, delay_values_at),
-        f32_column(floats, words, warp_beats_at),
-        f32_column(floats, words, warp_lengths_at),
+        column(floats, words, tempo_beats_at),
+        column(floats, words, tempo_values_at),
+        column(floats, words, stop_beats_at),
+        column(floats, words, stop_values_at),
+        column(floats, words, delay_beats_at),
+        column(floats, words, delay_values_at),
+        column(floats, words, warp_beats_at),
+        column(floats, words, warp_lengths_at),
         offset,
         global,
         beat,
     );
     let fresh = clock::get_time_for_beat(
-        f32_column(floats, words, tempo_beats_at),
-        f32_column(floats, words, tempo_values_at),
-        f32_column(floats, words, stop_beats_at),
-        f32_column(floats, words, stop_values_at),
-        f32_column(floats, words, delay_beats_at),
-        f32_column(floats, words, delay_values_at),
-        f32_column(floats, words, warp_beats_at),
-        f32_column(floats, words, warp_lengths_at),
+        column(floats, words, tempo_beats_at),
+        column(floats, words, tempo_values_at),
+        column(floats, words, stop_beats_at),
+        column(floats, words, stop_values_at),
+        column(floats, words, delay_beats_at),
+        column(floats, words, delay_values_at),
+        column(floats, words, warp_beats_at),
+        column(floats, words, warp_lengths_at),
         offset,
         global,
         beat,
@@ -977,14 +959,14 @@ fn replay_question(words: &[u64], floats: &[f32], at: usize) -> Replayed {
     let marked = marked_answer(words, floats, tempo_beats_at, offset, global, beat);
     let same = both(same, same_marked(words, further(answer_at, 25), marked));
     let player = cursor.time_for_beat_checked(
-        f32_column(floats, words, tempo_beats_at),
-        f32_column(floats, words, tempo_values_at),
-        f32_column(floats, words, stop_beats_at),
-        f32_column(floats, words, stop_values_at),
-        f32_column(floats, words, delay_beats_at),
-        f32_column(floats, words, delay_values_at),
-        f32_column(floats, words, warp_beats_at),
-        f32_column(floats, words, warp_lengths_at),
+        column(floats, words, tempo_beats_at),
+        column(floats, words, tempo_values_at),
+        column(floats, words, stop_beats_at),
+        column(floats, words, stop_values_at),
+        column(floats, words, delay_beats_at),
+        column(floats, words, delay_values_at),
+        column(floats, words, warp_beats_at),
+        column(floats, words, warp_lengths_at),
         offset,
         global,
         beat,
@@ -1022,17 +1004,17 @@ fn replay_run(words: &[u64], floats: &[f32], numbers: &[f64], at: usize) -> Repl
     let cursor = cursor_of_words(words, further(answer_at, 2));
     let ran = clock_run::run(
         cursor,
-        f32_column(floats, words, tempo_beats_at),
-        f32_column(floats, words, tempo_values_at),
-        f32_column(floats, words, stop_beats_at),
-        f32_column(floats, words, stop_values_at),
-        f32_column(floats, words, delay_beats_at),
-        f32_column(floats, words, delay_values_at),
-        f32_column(floats, words, warp_beats_at),
-        f32_column(floats, words, warp_lengths_at),
+        column(floats, words, tempo_beats_at),
+        column(floats, words, tempo_values_at),
+        column(floats, words, stop_beats_at),
+        column(floats, words, stop_values_at),
+        column(floats, words, delay_beats_at),
+        column(floats, words, delay_values_at),
+        column(floats, words, warp_beats_at),
+        column(floats, words, warp_lengths_at),
         offset,
         global,
-        f64_column(numbers, words, beats_at),
+        column(numbers, words, beats_at),
         &mut numbers_room,
         &mut times_room,
         &mut counts_room,
@@ -1041,9 +1023,9 @@ fn replay_run(words: &[u64], floats: &[f32], numbers: &[f64], at: usize) -> Repl
         is_u32(ran.number, word_at(words, further(answer_at, 11))),
         same_cursor(words, further(answer_at, 12), ran.cursor),
     );
-    same = both(same, same_u32s(words, numbers_at, &numbers_room));
-    same = both(same, same_f64s(words, times_at, &times_room));
-    same = both(same, same_counts(words, counts_at, &counts_room));
+    same = both(same, same_column(words, numbers_at, &numbers_room));
+    same = both(same, same_column(words, times_at, &times_room));
+    same = both(same, same_column(words, counts_at, &counts_room));
     Replayed {
         same: same,
         next: further(answer_at, 21),
@@ -1075,17 +1057,17 @@ fn replay_times(words: &[u64], floats: &[f32], numbers: &[f64], at: usize) -> Re
     let mut delays_room = [77u8; ROOM];
     let mut counts_room = [77usize; ROOM];
     let number = clock_by_time::get_beat_infos_from_times(
-        f32_column(floats, words, tempo_beats_at),
-        f32_column(floats, words, tempo_values_at),
-        f32_column(floats, words, stop_beats_at),
-        f32_column(floats, words, stop_values_at),
-        f32_column(floats, words, delay_beats_at),
-        f32_column(floats, words, delay_values_at),
-        f32_column(floats, words, warp_beats_at),
-        f32_column(floats, words, warp_lengths_at),
+        column(floats, words, tempo_beats_at),
+        column(floats, words, tempo_values_at),
+        column(floats, words, stop_beats_at),
+        column(floats, words, stop_values_at),
+        column(floats, words, delay_beats_at),
+        column(floats, words, delay_values_at),
+        column(floats, words, warp_beats_at),
+        column(floats, words, warp_lengths_at),
         ieee_patterns::f64_of_bits(word_at(words, answer_at)),
         ieee_patterns::f64_of_bits(word_at(words, further(answer_at, 1))),
-        f64_column(numbers, words, times_at),
+        column(numbers, words, times_at),
         &mut numbers_room,
         &mut beats_room,
         &mut freezes_room,
@@ -1093,11 +1075,11 @@ fn replay_times(words: &[u64], floats: &[f32], numbers: &[f64], at: usize) -> Re
         &mut counts_room,
     );
     let mut same = is_u32(number, word_at(words, further(answer_at, 2)));
-    same = both(same, same_u32s(words, numbers_at, &numbers_room));
-    same = both(same, same_f64s(words, beats_at, &beats_room));
-    same = both(same, same_bytes(words, freezes_at, &freezes_room));
-    same = both(same, same_bytes(words, delays_at, &delays_room));
-    same = both(same, same_counts(words, counts_at, &counts_room));
+    same = both(same, same_column(words, numbers_at, &numbers_room));
+    same = both(same, same_column(words, beats_at, &beats_room));
+    same = both(same, same_column(words, freezes_at, &freezes_room));
+    same = both(same, same_column(words, delays_at, &delays_room));
+    same = both(same, same_column(words, counts_at, &counts_room));
     Replayed {
         same: same,
         next: further(answer_at, 3),
@@ -1125,19 +1107,19 @@ fn replay_sheet(words: &[u64], floats: &[f32], rows: &[i32], at: usize) -> Repla
     let mut judged_room = [77u8; ROOM];
     let mut snaps_room = [77u8; ROOM];
     let sheet = note_sheet::note_sheet(
-        f32_column(floats, words, tempo_beats_at),
-        f32_column(floats, words, tempo_values_at),
-        f32_column(floats, words, stop_beats_at),
-        f32_column(floats, words, stop_values_at),
-        f32_column(floats, words, delay_beats_at),
-        f32_column(floats, words, delay_values_at),
-        f32_column(floats, words, warp_beats_at),
-        f32_column(floats, words, warp_lengths_at),
+        column(floats, words, tempo_beats_at),
+        column(floats, words, tempo_values_at),
+        column(floats, words, stop_beats_at),
+        column(floats, words, stop_values_at),
+        column(floats, words, delay_beats_at),
+        column(floats, words, delay_values_at),
+        column(floats, words, warp_beats_at),
+        column(floats, words, warp_lengths_at),
         ieee_patterns::f64_of_bits(word_at(words, answer_at)),
         ieee_patterns::f64_of_bits(word_at(words, further(answer_at, 1))),
-        f32_column(floats, words, fake_beats_at),
-        f32_column(floats, words, fake_lengths_at),
-        row_column(rows, words, rows_at),
+        column(floats, words, fake_beats_at),
+        column(floats, words, fake_lengths_at),
+        column(rows, words, rows_at),
         &mut times_room,
         &mut judged_room,
         &mut snaps_room,
@@ -1151,9 +1133,9 @@ fn replay_sheet(words: &[u64], floats: &[f32], rows: &[i32], at: usize) -> Repla
         same,
         sheet.steps as u64 == word_at(words, further(answer_at, 4)),
     );
-    same = both(same, same_f64s(words, times_at, &times_room));
-    same = both(same, same_bytes(words, judged_at, &judged_room));
-    same = both(same, same_bytes(words, snaps_at, &snaps_room));
+    same = both(same, same_column(words, times_at, &times_room));
+    same = both(same, same_column(words, judged_at, &judged_room));
+    same = both(same, same_column(words, snaps_at, &snaps_room));
     Replayed {
         same: same,
         next: further(answer_at, 5),
@@ -1254,7 +1236,7 @@ fn same_one_by_one(
         built.number,
         asked,
     );
-    let prefix = same_f64s(words, prefix_at, &prefix_room);
+    let prefix = same_column(words, prefix_at, &prefix_room);
     let answer_at = behind(words, prefix_at);
     let number = is_u32(built.number, word_at(words, answer_at));
     let count = built.count == size_at(words, prefix_at);
@@ -1280,8 +1262,8 @@ fn same_at_once(
         &mut numbers_room,
         &mut positions_room,
     );
-    let numbers = same_u32s(words, numbers_at, &numbers_room);
-    let positions = same_f64s(words, positions_at, &positions_room);
+    let numbers = same_column(words, numbers_at, &numbers_room);
+    let positions = same_column(words, positions_at, &positions_room);
     let number = is_u32(shown.number, word_at(words, behind(words, prefix_at)));
     let count = shown.count == asked.len();
     both(
@@ -1298,9 +1280,9 @@ fn replay_displayed(words: &[u64], floats: &[f32], numbers: &[f64], at: usize) -
     let numbers_at = behind(words, asked_at);
     let positions_at = behind(words, numbers_at);
     let prefix_at = behind(words, positions_at);
-    let scroll_beats = f32_column(floats, words, beats_at);
-    let scroll_ratios = f32_column(floats, words, ratios_at);
-    let asked = f64_column(numbers, words, asked_at);
+    let scroll_beats = column(floats, words, beats_at);
+    let scroll_ratios = column(floats, words, ratios_at);
+    let asked = column(numbers, words, asked_at);
     let singly = same_one_by_one(
         words,
         prefix_at,
@@ -1331,14 +1313,11 @@ fn replay_row_to_beat(words: &[u64], bytes: &[u8], at: usize) -> Replayed {
     let beats_at = behind(words, data_at);
     let answer_at = behind(words, beats_at);
     let mut beats_room = [1.5f32; ROOM];
-    let outcome = notes_rows::compute_row_to_beat(
-        byte_column(bytes, words, data_at),
-        &mut beats_room,
-    );
+    let outcome = notes_rows::compute_row_to_beat(column(bytes, words, data_at), &mut beats_room);
     Replayed {
         same: both(
             same_outcome(words, answer_at, outcome),
-            same_f32s(words, beats_at, &beats_room),
+            same_column(words, beats_at, &beats_room),
         ),
         next: further(answer_at, 2),
     }
@@ -1356,13 +1335,13 @@ fn replay_tempo_text(words: &[u64], numbers: &[f64], at: usize) -> Replayed {
     let answer_at = behind(words, text_at);
     let mut page = [77u8; ROOM];
     let outcome = text_tempos::format_bpm_segments_like_itg(
-        f64_column(numbers, words, beats_at),
-        f64_column(numbers, words, tempos_at),
+        column(numbers, words, beats_at),
+        column(numbers, words, tempos_at),
         &mut page,
     );
     let same = same_outcome(words, answer_at, outcome);
     Replayed {
-        same: both(same, same_bytes(words, text_at, &page)),
+        same: both(same, same_column(words, text_at, &page)),
         next: further(answer_at, 2),
     }
 }
@@ -1375,13 +1354,13 @@ fn replay_tempo_text_f32(words: &[u64], floats: &[f32], at: usize) -> Replayed {
     let answer_at = behind(words, text_at);
     let mut page = [77u8; ROOM];
     let outcome = text_tempos::format_bpm_segments_f32_like_itg(
-        f32_column(floats, words, beats_at),
-        f32_column(floats, words, tempos_at),
+        column(floats, words, beats_at),
+        column(floats, words, tempos_at),
         &mut page,
     );
     let same = same_outcome(words, answer_at, outcome);
     Replayed {
-        same: both(same, same_bytes(words, text_at, &page)),
+        same: both(same, same_column(words, text_at, &page)),
         next: further(answer_at, 2),
     }
 }
@@ -1393,7 +1372,7 @@ fn replay_number_text(words: &[u64], at: usize) -> Replayed {
     let end = text_decimal::put_dec6(&mut page, 0, f32_of_word(word_at(words, further(at, 1))));
     let same = end == size_at(words, text_at);
     Replayed {
-        same: both(same, same_bytes(words, text_at, &page)),
+        same: both(same, same_column(words, text_at, &page)),
         next: behind(words, text_at),
     }
 }
@@ -1514,10 +1493,10 @@ fn replay(words: &[u64], read: usize) -> u64 {
     let mut floats = [0.0f32; WORDS];
     let mut rows = [0i32; WORDS];
     let mut bytes = [0u8; WORDS];
-    read_f64s(words, &mut numbers);
-    read_f32s(words, &mut floats);
-    read_rows(words, &mut rows);
-    read_bytes(words, &mut bytes);
+    read_column(words, &mut numbers);
+    read_column(words, &mut floats);
+    read_column(words, &mut rows);
+    read_column(words, &mut bytes);
     count_different(words, read, &numbers, &floats, &rows, &bytes)
 }
 
