@@ -6,7 +6,3 @@ unfoldable pub laid_each : {A B : Type 0} → (A → B) → List A → List B �
 laid_each f [] old = old
 laid_each f (x ∷ from) [] = []
 laid_each f (x ∷ from) (y ∷ old) = f x ∷ laid_each f from old
-
--- Of calls that may give an answer y for an x: each gives what a function makes of x.
-abbrev pub Computes : {A B : Type 0} → (A → B → Type 0) → (A → B) → Type 0
-Computes {A} {B} gives of = (x : A) (y : B) → gives x y → y ≡ of x

@@ -9,7 +9,7 @@ ghost use Rattle.columns.specs.Each.{laid_each};
 ghost use Rattle.columns_each.specs.OffGrid.{moved_in, moved_under, round_count};
 ghost use Rattle.columns_each.specs.inside.CountedFront.{FrontCounted};
 
-use columns::Outcome;
+use columns::{Each, Outcome};
 
 // ---- numbers
 
@@ -27,31 +27,63 @@ fn quantized_f64(beat: f64) -> f64
     quantized_f32(beat) as f64
 }
 
+// A number as an f32.
+#[derive(Clone, Copy)]
+struct Narrowed;
+
+impl Each<f64, f32> for Narrowed {
+    ghost made = { λ _ (x : Float). narrow x };
+
+    fn made(self, number: f64) -> f32 {
+        ieee::narrow_f64(number)
+    }
+}
+
 // Each number as an f32.
 pub fn narrow_column(from: &[f64], to: &mut [f32])
     ensures { to.new ≡ laid_each narrow from.now to.old }
 {
-    columns::lay_each(from, to, ieee::narrow_f64);
+    columns::lay_each(from, to, Narrowed);
 }
 
 // ---- quantising: narrowed in one loop and moved to rows in the next, since one loop of both waits on the chain from one to the other
+
+// A beat moved to its row.
+#[derive(Clone, Copy)]
+struct Quantized;
+
+impl Each<f64, f64> for Quantized {
+    ghost made = { λ _ (beat : Float). quantized beat };
+
+    fn made(self, beat: f64) -> f64 {
+        quantized_f64(beat)
+    }
+}
 
 // Each beat moved to its row, in a column of any length.
 fn quantize_each(from: &[f64], to: &mut [f64])
     ensures { to.new ≡ laid_each quantized from.now to.old }
 {
-    columns::lay_each(from, to, quantized_f64);
+    columns::lay_each(from, to, Quantized);
+}
+
+// An f32 moved to its row.
+#[derive(Clone, Copy)]
+struct Moved;
+
+impl Each<f32, f64> for Moved {
+    ghost made = { λ _ (beat : Float). quantized32 beat };
+
+    fn made(self, beat: f32) -> f64 {
+        std::num::f32_to_f64_with_nan(rows::quantize_beat_f32(beat))
+    }
 }
 
 // Each f32 moved to its row.
 pub fn move_narrowed(from: &[f32], to: &mut [f64])
     ensures { to.new ≡ laid_each (λ (beat : Float). quantized32 beat) from.now to.old }
 {
-    columns::lay_each(
-        from,
-        to,
-        |beat| std::num::f32_to_f64_with_nan(rows::quantize_beat_f32(beat)),
-    );
+    columns::lay_each(from, to, Moved);
 }
 
 // By way of a column as long as the first.

@@ -2,8 +2,10 @@
 #![tactic(auto)]
 
 ghost use Rattle.std.specs.Prelude.{◌≡◌, ℕ, get_or};
-ghost use Rattle.std.specs.Float.{nan};
 ghost use Rattle.columns.specs.Each.{laid_each};
+ghost use Rattle.columns_places.specs.Beyond.{beyond_numbers, beyond_places};
+
+use columns::Each;
 
 // An entry of a column that is read by places, and what stands for one beyond the column's end.
 pub trait Entry: Copy {
@@ -14,7 +16,7 @@ pub trait Entry: Copy {
 }
 
 impl Entry for f64 {
-    ghost beyond = { nan };
+    ghost beyond = { beyond_numbers };
 
     fn beyond() -> f64 {
         f64::NAN
@@ -23,7 +25,7 @@ impl Entry for f64 {
 
 // A unit, a mark or a fate.
 impl Entry for u8 {
-    ghost beyond = { 0 };
+    ghost beyond = { beyond_places };
 
     fn beyond() -> u8 {
         0
@@ -32,7 +34,7 @@ impl Entry for u8 {
 
 // A place.
 impl Entry for u32 {
-    ghost beyond = { 0 };
+    ghost beyond = { beyond_places };
 
     fn beyond() -> u32 {
         0
@@ -43,12 +45,30 @@ impl Entry for u32 {
 pub fn entry_at<T: Entry>(column: &[T], place: usize) -> T
     ensures { result ≡ get_or column.now place T.beyond }
 {
-    column.get(place).copied().unwrap_or(T::beyond())
+    if place < column.len() {
+        column[place]
+    } else {
+        T::beyond()
+    }
+}
+
+// The entry of a column at each place that is given.
+#[derive(Clone, Copy)]
+struct At<'a, T> {
+    column: &'a [T],
+}
+
+impl<'a, T: Entry> Each<u32, T> for At<'a, T> {
+    ghost made = { λ at (place : ℕ). get_or at.column.now place T.beyond };
+
+    fn made(self, place: u32) -> T {
+        entry_at(self.column, place as usize)
+    }
 }
 
 // The entries at many places, over the front of a room, as far as both go.
 pub fn gather<T: Entry>(from: &[T], places: &[u32], to: &mut [T])
     ensures { to.new ≡ laid_each (λ (p : ℕ). get_or from.now p T.beyond) places.now to.old }
 {
-    columns::lay_each(places, to, |place| entry_at(from, place as usize));
+    columns::lay_each(places, to, At { column: from });
 }

@@ -1,13 +1,14 @@
 // The calls of `ieee` and `rows` under C names, for native programs to link: each by itself, and for each entry of a lent column.
 #![tactic(auto)]
 
-ghost use Rattle.std.specs.Prelude.{◌≡◌, not, Float};
+ghost use Rattle.std.specs.Prelude.{◌≡◌, not, ℤ, Float};
 ghost use Rattle.std.specs.Float.{binary32, binary64};
 ghost use Rattle.ieee.specs.Rounding.{rint, hold};
 ghost use Rattle.ieee.specs.Narrowing.{narrow};
 ghost use Rattle.rows.specs.Rows.{row, beat_of, quantized, quantized32, on_grid};
 ghost use Rattle.columns.specs.Each.{laid_each};
 
+use columns::Each;
 use rows::Quantized;
 
 // The version of what is linked: 10,000 times its first number, 100 times its second, and its third.
@@ -98,6 +99,104 @@ pub extern "C" fn marrighentu_quantize_beat_f32(beat: f32) -> f32
     rows::quantize_beat_f32(beat)
 }
 
+// ---- what each of the calls below writes for an entry
+
+// `ieee::lrint_f64` of each entry.
+#[derive(Clone, Copy)]
+struct LrintF64;
+
+impl Each<f64, i32> for LrintF64 {
+    ghost made = { λ _ (x : Float). hold (rint x) };
+
+    fn made(self, x: f64) -> i32 {
+        ieee::lrint_f64(x)
+    }
+}
+
+// `ieee::lrint_f32` of each entry.
+#[derive(Clone, Copy)]
+struct LrintF32;
+
+impl Each<f32, i32> for LrintF32 {
+    ghost made = { λ _ (x : Float). hold (rint x) };
+
+    fn made(self, x: f32) -> i32 {
+        ieee::lrint_f32(x)
+    }
+}
+
+// `rows::note_row_to_beat` of each entry.
+#[derive(Clone, Copy)]
+struct NoteRowToBeat;
+
+impl Each<i32, f64> for NoteRowToBeat {
+    ghost made = { λ _ (row : ℤ). beat_of binary64 row };
+
+    fn made(self, row: i32) -> f64 {
+        rows::note_row_to_beat(row)
+    }
+}
+
+// `rows::note_row_to_beat_f32` of each entry.
+#[derive(Clone, Copy)]
+struct NoteRowToBeatF32;
+
+impl Each<i32, f32> for NoteRowToBeatF32 {
+    ghost made = { λ _ (row : ℤ). beat_of binary32 row };
+
+    fn made(self, row: i32) -> f32 {
+        rows::note_row_to_beat_f32(row)
+    }
+}
+
+// `rows::beat_to_note_row` of each entry.
+#[derive(Clone, Copy)]
+struct BeatToNoteRow;
+
+impl Each<f64, i32> for BeatToNoteRow {
+    ghost made = { λ _ (beat : Float). row binary64 beat };
+
+    fn made(self, beat: f64) -> i32 {
+        rows::beat_to_note_row(beat)
+    }
+}
+
+// `rows::beat_to_note_row_f32` of each entry.
+#[derive(Clone, Copy)]
+struct BeatToNoteRowF32;
+
+impl Each<f32, i32> for BeatToNoteRowF32 {
+    ghost made = { λ _ (beat : Float). row binary32 beat };
+
+    fn made(self, beat: f32) -> i32 {
+        rows::beat_to_note_row_f32(beat)
+    }
+}
+
+// `rows::quantize_beat` of each entry.
+#[derive(Clone, Copy)]
+struct QuantizeBeat;
+
+impl Each<f64, f64> for QuantizeBeat {
+    ghost made = { λ _ (beat : Float). quantized beat };
+
+    fn made(self, beat: f64) -> f64 {
+        rows::quantize_beat(beat)
+    }
+}
+
+// `rows::quantize_beat_f32` of each entry.
+#[derive(Clone, Copy)]
+struct QuantizeBeatF32;
+
+impl Each<f32, f32> for QuantizeBeatF32 {
+    ghost made = { λ _ (beat : Float). quantized32 beat };
+
+    fn made(self, beat: f32) -> f32 {
+        rows::quantize_beat_f32(beat)
+    }
+}
+
 // Each call below writes what the call above answers for entry i of its first list into entry i of its second, for every i that both have, and nothing else.
 
 // The nearest whole number of each f64.
@@ -105,7 +204,7 @@ pub extern "C" fn marrighentu_quantize_beat_f32(beat: f32) -> f32
 pub extern "C" fn marrighentu_each_lrint_f64(from: &[f64], to: &mut [i32])
     ensures { to.new ≡ laid_each (λ (x : Float). hold (rint x)) from.now to.old }
 {
-    columns::lay_each(from, to, ieee::lrint_f64);
+    columns::lay_each(from, to, LrintF64);
 }
 
 // The nearest whole number of each f32.
@@ -113,7 +212,7 @@ pub extern "C" fn marrighentu_each_lrint_f64(from: &[f64], to: &mut [i32])
 pub extern "C" fn marrighentu_each_lrint_f32(from: &[f32], to: &mut [i32])
     ensures { to.new ≡ laid_each (λ (x : Float). hold (rint x)) from.now to.old }
 {
-    columns::lay_each(from, to, ieee::lrint_f32);
+    columns::lay_each(from, to, LrintF32);
 }
 
 // The nearest f32 of each f64.
@@ -129,7 +228,7 @@ pub extern "C" fn marrighentu_each_narrow_f64(from: &[f64], to: &mut [f32])
 pub extern "C" fn marrighentu_each_note_row_to_beat(rows: &[i32], beats: &mut [f64])
     ensures { beats.new ≡ laid_each (beat_of binary64) rows.now beats.old }
 {
-    columns::lay_each(rows, beats, rows::note_row_to_beat);
+    columns::lay_each(rows, beats, NoteRowToBeat);
 }
 
 // The f32 beat of each row.
@@ -137,7 +236,7 @@ pub extern "C" fn marrighentu_each_note_row_to_beat(rows: &[i32], beats: &mut [f
 pub extern "C" fn marrighentu_each_note_row_to_beat_f32(rows: &[i32], beats: &mut [f32])
     ensures { beats.new ≡ laid_each (beat_of binary32) rows.now beats.old }
 {
-    columns::lay_each(rows, beats, rows::note_row_to_beat_f32);
+    columns::lay_each(rows, beats, NoteRowToBeatF32);
 }
 
 // The row of each beat.
@@ -145,7 +244,7 @@ pub extern "C" fn marrighentu_each_note_row_to_beat_f32(rows: &[i32], beats: &mu
 pub extern "C" fn marrighentu_each_beat_to_note_row(beats: &[f64], rows: &mut [i32])
     ensures { rows.new ≡ laid_each (row binary64) beats.now rows.old }
 {
-    columns::lay_each(beats, rows, rows::beat_to_note_row);
+    columns::lay_each(beats, rows, BeatToNoteRow);
 }
 
 // The row of each f32 beat.
@@ -153,7 +252,7 @@ pub extern "C" fn marrighentu_each_beat_to_note_row(beats: &[f64], rows: &mut [i
 pub extern "C" fn marrighentu_each_beat_to_note_row_f32(beats: &[f32], rows: &mut [i32])
     ensures { rows.new ≡ laid_each (row binary32) beats.now rows.old }
 {
-    columns::lay_each(beats, rows, rows::beat_to_note_row_f32);
+    columns::lay_each(beats, rows, BeatToNoteRowF32);
 }
 
 // Each beat moved to its row.
@@ -161,7 +260,7 @@ pub extern "C" fn marrighentu_each_beat_to_note_row_f32(beats: &[f32], rows: &mu
 pub extern "C" fn marrighentu_each_quantize_beat(beats: &[f64], quantised: &mut [f64])
     ensures { quantised.new ≡ laid_each quantized beats.now quantised.old }
 {
-    columns::lay_each(beats, quantised, rows::quantize_beat);
+    columns::lay_each(beats, quantised, QuantizeBeat);
 }
 
 // Each f32 beat moved to its row.
@@ -169,5 +268,5 @@ pub extern "C" fn marrighentu_each_quantize_beat(beats: &[f64], quantised: &mut 
 pub extern "C" fn marrighentu_each_quantize_beat_f32(beats: &[f32], quantised: &mut [f32])
     ensures { quantised.new ≡ laid_each quantized32 beats.now quantised.old }
 {
-    columns::lay_each(beats, quantised, rows::quantize_beat_f32);
+    columns::lay_each(beats, quantised, QuantizeBeatF32);
 }

@@ -2,7 +2,7 @@
 #![tactic(auto)]
 
 ghost use Rattle.std.specs.Prelude.{◌≡◌, false, not, T, Float, List, map};
-ghost use Rattle.ieee.specs.Columns.{each_as_it_is};
+ghost use Rattle.ieee.specs.Columns.{as_it_is, column_as_it_is, each_as_it_is};
 ghost use Rattle.std.specs.Float.Ieee.{is_nan, lt};
 ghost use Rattle.std.specs.Float.Ieee.Scale.{finite};
 ghost use Rattle.ieee.specs.Rounding.{rint, hold};
@@ -141,9 +141,9 @@ pub trait Real: Copy {
 }
 
 impl Real for f64 {
-    ghost number = { λ x. x };
+    ghost number = { as_it_is };
 
-    ghost numbers = { λ column. column };
+    ghost numbers = { column_as_it_is };
 
     ghost each = { each_as_it_is };
 
@@ -157,9 +157,9 @@ impl Real for f64 {
 }
 
 impl Real for f32 {
-    ghost number = { λ x. x };
+    ghost number = { as_it_is };
 
-    ghost numbers = { λ column. column };
+    ghost numbers = { column_as_it_is };
 
     ghost each = { each_as_it_is };
 

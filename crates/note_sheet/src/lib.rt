@@ -17,6 +17,7 @@ ghost use Rattle.note_sheet.specs.Sheet.{colour_of, rows_order_number, sheet_roo
 ghost use Rattle.note_sheet.specs.inside.Pieces.{PieceFits, PieceTimed, AllFit};
 
 use clock::Cursor;
+use columns::Each;
 
 // The sheet's number, how many rows were written, and the events passed and one for each row, added up.
 #[repr(C)]
@@ -132,18 +133,42 @@ fn rows_rise(rows: &[i32]) -> bool
     fail == 0
 }
 
+// The colour of a row by its number.
+#[derive(Clone, Copy)]
+struct Colours;
+
+impl Each<i32, u8> for Colours {
+    ghost made = { λ _ (row : ℤ). colour_of row };
+
+    fn made(self, row: i32) -> u8 {
+        snap_number(snap_of_row(row))
+    }
+}
+
 // The colour of each row by its number, over the front of a column, as far as both go.
 fn snap_rows(rows: &[i32], out: &mut [u8])
     ensures { out.new ≡ laid_each colour_of rows.now out.old }
 {
-    columns::lay_each(rows, out, |row| snap_number(snap_of_row(row)));
+    columns::lay_each(rows, out, Colours);
+}
+
+// The beat of a row.
+#[derive(Clone, Copy)]
+struct Beats;
+
+impl Each<i32, f64> for Beats {
+    ghost made = { λ _ (row : ℤ). beat_of binary64 row };
+
+    fn made(self, row: i32) -> f64 {
+        rows::note_row_to_beat(row)
+    }
 }
 
 // The beat of each row, in the same way.
 fn beats_of(rows: &[i32], out: &mut [f64])
     ensures { out.new ≡ laid_each (beat_of binary64) rows.now out.old }
 {
-    columns::lay_each(rows, out, rows::note_row_to_beat);
+    columns::lay_each(rows, out, Beats);
 }
 
 // The counts of a run, added up.
