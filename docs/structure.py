@@ -202,13 +202,15 @@ def files_of(folder):
 
 
 def calls(listed):
-    """The public calls of each crate, each with the crates that call it."""
+    """The public calls of each crate, each with the crates that call it or hand it on by its path."""
     code = {name: "\n".join(re.sub(r"//.*", "", path.read_text()) for path in (root / "crates" / name / "src").glob("*.rt")) for name in listed}
     found = {}
     for name, text in code.items():
         found[name] = {}
         for method in re.findall(r'^( *)pub (?:extern "C" )?fn (\w+)', text, re.M):
-            pattern = rf"\b{name}::{method[1]}\(" if not method[0] else rf"(?:\.|::){method[1]}\("
+            # a path that goes on is a module's, but for type parameters
+            path = rf"::{method[1]}\b(?!::\w)"
+            pattern = rf"\b{name}{path}" if not method[0] else rf"\.{method[1]}(?:::<|\()|{path}"
             users = [other for other, one in code.items() if other != name and re.search(pattern, one) and (not method[0] or name in listed[other])]
             found[name][method[1]] = users
     return found
