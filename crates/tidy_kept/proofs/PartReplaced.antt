@@ -1,4 +1,4 @@
--- A part of the first entries of a column replaced: a place opened, a gap closed, and the two together. Assumes nothing.
+-- A part of the first entries of a column replaced: a loop that opens a place, one that closes a gap, and the two together. Assumes nothing.
 use mathlib.Core.Path.{◌≡◌, refl, ap, sym, ◌∙◌}
 use mathlib.Core.Bool.{Bool, true, false}
 use borrow.Author.Tests.{lt-ltb, le-leb}
@@ -6,9 +6,8 @@ use mathlib.Core.List.{List, [], ◌∷◌, ◌++◌, append_assoc}
 use Prim.Native.Nat.{ℕ, suc, ◌+◌, ◌-◌, ◌≤◌, ◌<◌}
 use native.Mathlib.Omega.{arith}
 use native.Mathlib.Numerals.{add-one}
-use lib.ListN.{length, take, drop, set, get_or, length-take, length-append, length-drop, drop_of_length-le, take-append-drop}
-use lib.Seq.{set_split, take-take, take-set-lt, take-suc-set, drop-set-lt, paste, take-append-le, get_or-take, get_or-drop, drop-cons, drop_at, length-take-le, append_snoc}
-use Rattle.std.proofs.lemmas.List.{drop-take}
+use lib.ListN.{length, take, drop, set, get_or, length-set, length-take, length-append, length-drop, drop_of_length-le, take-append-drop}
+use lib.Seq.{set_split, take-take, take-set-le, take-set-lt, take-suc-set, drop-set-lt, get_or-take, get_or-drop, drop-cons, drop_at, length-take-le, append_snoc}
 use Rattle.order.specs.Order.{laid}
 use Rattle.order.proofs.LaidOverFront.{Laying, laying-more, laying-all}
 use Rattle.tidy_kept.specs.Changing.{spliced, spliced_in}
@@ -20,6 +19,12 @@ module _ {A : Type 0} where
   abbrev pub shut : List A → ℕ → ℕ → ℕ → List A
   shut old n low high = take low (take n old) ++ drop high (take n old)
 
+  -- ---- a place opened: those above i have moved on, those up to i have not
+  pub record Opening (old : List A) (n : ℕ) (out : List A) (i : ℕ) : Type 0 where
+    pub size : length out ≡ length old
+    pub front : take i out ≡ take i old
+    pub back : drop (suc i) out ≡ drop i (take n old) ++ drop (suc n) old
+
   -- ---- a gap closed: what stands from i on goes to the places from `to` on
   pub record Closing (old : List A) (n low high : ℕ) (out : List A) (to i : ℕ) : Type 0 where
     pub gap : to ≤ i
@@ -27,28 +32,40 @@ module _ {A : Type 0} where
     pub laying : Laying (shut old n low high) old out (drop i (take n old)) to
 
   module _ (none : A) (old : List A) (n : ℕ) (room : n < length old) where
+    pub opening-none : Opening old n old n
+    opening-none =
+        let few : length (take n old) ≤ n = simp length-take (omega arith) in
+        record { size = refl; front = refl; back = ap (λ (l : List A). l ++ drop (suc n) old) (sym (drop_of_length-le (take n old) few)) }
+
+    drop-set : (xs : List A) (i : ℕ) (x : A) → i < length xs → drop i (set xs i x) ≡ x ∷ drop (suc i) xs
+    drop-set xs i x h = ap (drop i) (set_split xs i x h) ∙ drop_at (take i xs) (x ∷ drop (suc i) xs) i (length-take-le i xs (omega arith))
+
+    opening-step : (out : List A) (j : ℕ) → suc j ≤ n → Opening old n out (suc j) → Opening old n (set out (suc j) (get_or out j none)) j
+    opening-step out j h m =
+        let in_out : suc j < length out = omega (arith, m.size) in
+        let same : get_or out j none ≡ get_or (take n old) j none =
+        sym (get_or-take (suc j) out j none (omega arith)) ∙ ap (λ (l : List A). get_or l j none) m.front ∙ get_or-take (suc j) old j none (omega arith)
+        ∙ sym (get_or-take n old j none (omega arith)) in
+        let in_old : j < length (take n old) = simp length-take (omega arith) in
+        record {
+          size = length-set out (suc j) (get_or out j none) ∙ m.size;
+          front = take-set-le j out (suc j) (get_or out j none) (omega arith) ∙ sym (take-take j (suc j) out (omega arith)) ∙ ap (take j) m.front ∙ take-take j (suc j) old (omega arith);
+          back = drop-set out (suc j) (get_or out j none) in_out ∙ rw (m.back, same, drop-cons (take n old) j none in_old);
+        }
+
+    pub opening-more : (out : List A) (i j : ℕ) → i ≡ suc j → i ≤ n → Opening old n out i → Opening old n (set out i (get_or out j none)) j
+    opening-more out i j e h m = rw e (opening-step out j (omega arith) (rw e at m))
+
     length_part : (at : ℕ) (x : A) → at ≤ n → length (take at (take n old) ++ (x ∷ drop at (take n old))) ≡ suc n
     length_part at x h =
         let whole : length (take n old) ≡ n = length-take-le n old (omega arith) in
         length-append (take at (take n old)) (x ∷ drop at (take n old)) ∙ omega (arith, whole, length-take-le at (take n old) (omega arith), length-drop at (take n old))
 
-    part_moved : (at : ℕ) → at ≤ n → drop at (take n old) ≡ take (n - at) (drop at old)
-    part_moved at h = let split : at + (n - at) ≡ n = omega arith in ap (λ (k : ℕ). drop at (take k old)) (sym split) ∙ drop-take at (n - at) old
-
-    -- those from a place on moved one place on, and x written there
-    pub opened-by : (at : ℕ) (x : A) → at ≤ n → set (paste old (at + 1) (drop at old) (n - at)) at x ≡ opened old n at x
+    pub opening-all : (out : List A) (i at : ℕ) (x : A) → i ≤ n → i ≡ at → Opening old n out i → set out i x ≡ opened old n at x
     unfolding laid
-    opened-by at x h =
-        let front : List A = take (at + 1) old in
-        let part : List A = take (n - at) (drop at old) in
-        let rest : List A = drop (suc n) old in
-        let moved : paste old (at + 1) (drop at old) (n - at) ≡ front ++ (part ++ rest) =
-        let past : at + 1 + (n - at) ≡ suc n = omega arith in rw past (append_assoc front part rest) in
-        let long : length front ≡ suc at = length-take-le (at + 1) old (omega arith) ∙ omega arith in
-        let inside : at < length (front ++ (part ++ rest)) = simp length-append (omega (arith, long)) in
-        let before : take at (front ++ (part ++ rest)) ≡ take at old = take-append-le at front (part ++ rest) (omega (arith, long)) ∙ take-take at (at + 1) old (omega arith) in
-        rw moved (set_split (front ++ (part ++ rest)) at x inside
-        ∙ rw (before, drop_at front (part ++ rest) (suc at) long, length_part at x h, take-take at n old h, part_moved at h) (sym (append_assoc (take at old) (x ∷ part) rest)))
+    opening-all out i at x h e m =
+        set_split out i x (omega (arith, m.size))
+        ∙ rw (m.front, m.back, e, length_part at x (omega arith), ← take-take at n old (omega arith)) (sym (append_assoc (take at (take n old)) (x ∷ drop at (take n old)) (drop (suc n) old)))
 
     -- ---- closing
     module _ (low high : ℕ) (fits : low ≤ high) (within : high ≤ n) where
@@ -82,14 +99,6 @@ module _ {A : Type 0} where
         where
           past : drop i (take n old) ≡ []
           past = let few : length (take n old) ≤ i = simp length-take (omega arith) in drop_of_length-le (take n old) few
-
-      pub shut-by : paste old low (drop high old) (n - high) ≡ laid (shut old n low high) old
-      unfolding laid
-      shut-by =
-          let whole : length (take n old) ≡ n = length-take-le n old (omega arith) in
-          let long : length (shut old n low high) ≡ low + (n - high) =
-          length-append (take low (take n old)) (drop high (take n old)) ∙ omega (arith, whole, length-take-le low (take n old) (omega arith), length-drop high (take n old)) in
-          rw (long, take-take low n old (omega arith), part_moved high within)
 
       -- where there is no gap nothing is to be done
       pub no_gap : low ≡ high → old ≡ laid (shut old n low high) old

@@ -10,7 +10,9 @@ fn open_place(column: &mut [f64], n: usize, at: usize, x: f64)
     requires { (at ≤ n) × (n < length column.old) }
     ensures { column.new ≡ laid (take at (take n column.old) ++ (x ∷ drop at (take n column.old))) column.old }
 {
-    column.copy_within(at..n, at + 1);
+    for i in (at..n).rev() {
+        column[i + 1] = column[i];
+    }
     column[at] = x;
 }
 
@@ -20,7 +22,9 @@ fn close_gap(column: &mut [f64], n: usize, low: usize, high: usize)
     ensures { column.new ≡ laid (take low (take n column.old) ++ drop high (take n column.old)) column.old }
 {
     if low < high {
-        column.copy_within(high..n, low);
+        for i in high..n {
+            column[low + (i - high)] = column[i];
+        }
     }
 }
 
@@ -53,7 +57,9 @@ fn open_unit(column: &mut [u8], n: usize, at: usize, x: u8)
     requires { (at ≤ n) × (n < length column.old) }
     ensures { column.new ≡ laid (take at (take n column.old) ++ (x ∷ drop at (take n column.old))) column.old }
 {
-    column.copy_within(at..n, at + 1);
+    for i in (at..n).rev() {
+        column[i + 1] = column[i];
+    }
     column[at] = x;
 }
 
@@ -63,7 +69,9 @@ fn close_units(column: &mut [u8], n: usize, low: usize, high: usize)
     ensures { column.new ≡ laid (take low (take n column.old) ++ drop high (take n column.old)) column.old }
 {
     if low < high {
-        column.copy_within(high..n, low);
+        for i in high..n {
+            column[low + (i - high)] = column[i];
+        }
     }
 }
 
