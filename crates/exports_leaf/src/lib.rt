@@ -108,8 +108,8 @@ struct LrintF64;
 impl Each<f64, i32> for LrintF64 {
     ghost made = { λ _ (x : Float). hold (rint x) };
 
-    fn made(self, x: f64) -> i32 {
-        ieee::lrint_f64(x)
+    fn made(self, entry: f64) -> i32 {
+        ieee::lrint_f64(entry)
     }
 }
 
@@ -120,8 +120,8 @@ struct LrintF32;
 impl Each<f32, i32> for LrintF32 {
     ghost made = { λ _ (x : Float). hold (rint x) };
 
-    fn made(self, x: f32) -> i32 {
-        ieee::lrint_f32(x)
+    fn made(self, entry: f32) -> i32 {
+        ieee::lrint_f32(entry)
     }
 }
 
@@ -132,8 +132,8 @@ struct NoteRowToBeat;
 impl Each<i32, f64> for NoteRowToBeat {
     ghost made = { λ _ (row : ℤ). beat_of binary64 row };
 
-    fn made(self, row: i32) -> f64 {
-        rows::note_row_to_beat(row)
+    fn made(self, entry: i32) -> f64 {
+        rows::note_row_to_beat(entry)
     }
 }
 
@@ -144,8 +144,8 @@ struct NoteRowToBeatF32;
 impl Each<i32, f32> for NoteRowToBeatF32 {
     ghost made = { λ _ (row : ℤ). beat_of binary32 row };
 
-    fn made(self, row: i32) -> f32 {
-        rows::note_row_to_beat_f32(row)
+    fn made(self, entry: i32) -> f32 {
+        rows::note_row_to_beat_f32(entry)
     }
 }
 
@@ -156,8 +156,8 @@ struct BeatToNoteRow;
 impl Each<f64, i32> for BeatToNoteRow {
     ghost made = { λ _ (beat : Float). row binary64 beat };
 
-    fn made(self, beat: f64) -> i32 {
-        rows::beat_to_note_row(beat)
+    fn made(self, entry: f64) -> i32 {
+        rows::beat_to_note_row(entry)
     }
 }
 
@@ -168,8 +168,8 @@ struct BeatToNoteRowF32;
 impl Each<f32, i32> for BeatToNoteRowF32 {
     ghost made = { λ _ (beat : Float). row binary32 beat };
 
-    fn made(self, beat: f32) -> i32 {
-        rows::beat_to_note_row_f32(beat)
+    fn made(self, entry: f32) -> i32 {
+        rows::beat_to_note_row_f32(entry)
     }
 }
 
@@ -180,8 +180,8 @@ struct QuantizeBeat;
 impl Each<f64, f64> for QuantizeBeat {
     ghost made = { λ _ (beat : Float). quantized beat };
 
-    fn made(self, beat: f64) -> f64 {
-        rows::quantize_beat(beat)
+    fn made(self, entry: f64) -> f64 {
+        rows::quantize_beat(entry)
     }
 }
 
@@ -192,8 +192,8 @@ struct QuantizeBeatF32;
 impl Each<f32, f32> for QuantizeBeatF32 {
     ghost made = { λ _ (beat : Float). quantized32 beat };
 
-    fn made(self, beat: f32) -> f32 {
-        rows::quantize_beat_f32(beat)
+    fn made(self, entry: f32) -> f32 {
+        rows::quantize_beat_f32(entry)
     }
 }
 
