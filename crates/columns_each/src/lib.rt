@@ -50,9 +50,9 @@ pub fn narrow_column(from: &[f64], to: &mut [f32])
 
 // A beat moved to its row.
 #[derive(Clone, Copy)]
-struct Quantized;
+struct QuantizedBeat;
 
-impl Each<f64, f64> for Quantized {
+impl Each<f64, f64> for QuantizedBeat {
     ghost made = { λ _ (beat : Float). quantized beat };
 
     fn made(self, beat: f64) -> f64 {
@@ -64,14 +64,14 @@ impl Each<f64, f64> for Quantized {
 fn quantize_each(from: &[f64], to: &mut [f64])
     ensures { to.new ≡ laid_each quantized from.now to.old }
 {
-    columns::lay_each(from, to, Quantized);
+    columns::lay_each(from, to, QuantizedBeat);
 }
 
 // An f32 moved to its row.
 #[derive(Clone, Copy)]
-struct Moved;
+struct MovedToRow;
 
-impl Each<f32, f64> for Moved {
+impl Each<f32, f64> for MovedToRow {
     ghost made = { λ _ (beat : Float). quantized32 beat };
 
     fn made(self, beat: f32) -> f64 {
@@ -83,7 +83,7 @@ impl Each<f32, f64> for Moved {
 pub fn move_narrowed(from: &[f32], to: &mut [f64])
     ensures { to.new ≡ laid_each (λ (beat : Float). quantized32 beat) from.now to.old }
 {
-    columns::lay_each(from, to, Moved);
+    columns::lay_each(from, to, MovedToRow);
 }
 
 // By way of a column as long as the first.
